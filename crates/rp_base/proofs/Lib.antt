@@ -1,0 +1,4 @@
+pub mod FirstWords
+pub mod Hierarchy
+pub mod Texts
+pub mod Words

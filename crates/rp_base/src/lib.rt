@@ -1,0 +1,34 @@
+//! The ground of `rpy`: texts, values, names, kinds of exceptions, and the traits of the outside.
+#![tactic(auto)]
+
+mod files;
+mod identifiers;
+mod kind;
+mod memory;
+mod memory_files;
+mod memory_sink;
+mod meter;
+mod names;
+mod native;
+mod operator;
+#[cfg(test)]
+mod outside_tests;
+mod sink;
+#[cfg(test)]
+mod tests;
+mod text;
+mod value;
+
+pub use files::{Failed, Files, NoFile};
+pub use identifiers::{identifier, is_keyword};
+pub use kind::{Kind, is_kind};
+pub use memory::Memory;
+pub use memory_files::{MemFiles, SureFiles};
+pub use memory_sink::{MemSink, SureSink};
+pub use meter::Meter;
+pub use names::Names;
+pub use native::NativeId;
+pub use operator::{BinOp, CmpOp, UnOp};
+pub use sink::Sink;
+pub use text::{Printed, Text};
+pub use value::{ClassTag, Line, Name, Oid, Op, OpEnd, Raised, Rock, Side, Status, Value};

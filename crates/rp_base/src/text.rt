@@ -1,0 +1,174 @@
+ghost use Rattle.std.specs.Prelude.{◌≡◌, ◌↔◌, ◌++◌, [], chars, IfOk, IsTrue, OnOk, OnErr};
+ghost use Rattle.rp_base.specs.Same.{same_text};
+
+use crate::memory::Memory;
+use std::alloc::Global;
+use std::cmp::Ordering;
+use std::hash::{Hash, Hasher};
+use std::marker::Model;
+use std::rc::RcStr;
+
+/// A shared text, seen as the list of its characters. Texts are compared by their UTF-8 bytes,
+/// which is the order of their characters.
+#[derive(Drop)]
+pub struct Text {
+    shared: RcStr,
+}
+
+impl Model for Text {
+    ghost use Rattle.std.specs.Prelude.{ℕ, List, chars};
+    ghost use Rattle.std.specs.Rc.{rc_str_bytes};
+
+    ghost Value = { List ℕ };
+
+    ghost view = { λ t. chars (rc_str_bytes t.shared) };
+}
+
+impl Text {
+    /// A text with these characters. It is refused only for want of memory.
+    pub fn new(alloc: Global, text: &str) -> Result<Text, Memory>
+        ensures { IfOk result (λ t. t ≡ chars text.now) }
+    {
+        Ok(Text {
+            shared: RcStr::from_str(alloc, text)?,
+        })
+    }
+
+    /// The characters.
+    pub fn as_str(&self) -> &str
+        ensures { chars result.now ≡ self.now }
+    {
+        self.shared.as_str()
+    }
+
+    /// Whether these are its characters.
+    pub fn is(&self, word: &str) -> bool
+        ensures value { result ≡ same_text self.now (chars word.now) }
+        ensures same { IsTrue result ↔ (self.now ≡ chars word.now) }
+    {
+        self.as_str() == word
+    }
+
+    /// An equal text, which shares the characters and allocates nothing. It is refused only where
+    /// the count of its owners is full.
+    pub fn copy(&self) -> Result<Text, Memory>
+        ensures { IfOk result (λ t. t ≡ self.now) }
+    {
+        Ok(Text {
+            shared: self.shared.clone()?,
+        })
+    }
+}
+
+impl PartialEq for Text {
+    ghost use Rattle.std.specs.Prelude.{encode_utf8_all};
+    ghost use Rattle.std.specs.Cmp.{on_per, partial_equiv_from_equiv};
+    ghost use Rattle.std.specs.Cmp.Lexicographic.{nat_list_eq_equiv};
+    ghost use Rattle.rp_base.specs.Same.{same_text};
+
+    ghost eq = { same_text };
+
+    ghost laws = { on_per encode_utf8_all (partial_equiv_from_equiv nat_list_eq_equiv) };
+
+    fn eq(&self, other: &Text) -> bool {
+        self.shared == other.shared
+    }
+}
+
+impl Eq for Text {
+    ghost use Rattle.std.specs.Prelude.{encode_utf8_all};
+    ghost use Rattle.std.specs.Cmp.{on_equiv};
+    ghost use Rattle.std.specs.Cmp.Lexicographic.{nat_list_eq_equiv};
+
+    ghost laws = { on_equiv encode_utf8_all nat_list_eq_equiv };
+}
+
+impl PartialOrd for Text {
+    ghost use Rattle.std.specs.Prelude.{encode_utf8_all, Some};
+    ghost use Rattle.std.specs.Ordering.{nat_cmp};
+    ghost use Rattle.std.specs.Cmp.{on_po};
+    ghost use Rattle.std.specs.Cmp.Lexicographic.{slice_cmp, texts_po};
+
+    ghost partial_cmp = { λ x y. Some (slice_cmp nat_cmp (encode_utf8_all x) (encode_utf8_all y)) };
+
+    ghost laws = { on_po encode_utf8_all texts_po };
+
+    fn partial_cmp(&self, other: &Text) -> Option<Ordering> {
+        Some(self.cmp(other))
+    }
+}
+
+impl Ord for Text {
+    ghost use Rattle.std.specs.Prelude.{encode_utf8_all, refl};
+    ghost use Rattle.std.specs.Ordering.{nat_cmp};
+    ghost use Rattle.std.specs.Cmp.{on_total};
+    ghost use Rattle.std.specs.Cmp.Lexicographic.{slice_cmp, nat_list_cmp_total, texts_ties};
+
+    ghost cmp = { λ x y. slice_cmp nat_cmp (encode_utf8_all x) (encode_utf8_all y) };
+
+    ghost total = { on_total encode_utf8_all nat_list_cmp_total };
+
+    ghost matches_partial_cmp = { λ x y. refl };
+
+    ghost matches_eq = { λ x y. texts_ties (encode_utf8_all x) (encode_utf8_all y) };
+
+    fn cmp(&self, other: &Text) -> Ordering {
+        self.shared.cmp(&other.shared)
+    }
+}
+
+impl Hash for Text {
+    ghost use Rattle.std.specs.Prelude.{encode_utf8_all};
+    ghost use Rattle.std.specs.Hash as fed;
+    ghost use Rattle.std.specs.Cmp.Rules.{hashing};
+    ghost use Rattle.std.proofs.Common.{rules};
+
+    ghost hash_input = { λ x. fed.str (encode_utf8_all x) };
+
+    ghost respects_eq = { Prim.search (hashing, rules) };
+
+    fn hash<H: Hasher>(&self, state: &mut H) {
+        self.shared.hash(state);
+    }
+}
+
+/// A growing text, seen as the list of its characters.
+#[derive(Drop)]
+pub struct Printed {
+    text: String,
+}
+
+impl Model for Printed {
+    ghost use Rattle.std.specs.Prelude.{ℕ, List, chars, string_bytes};
+
+    ghost Value = { List ℕ };
+
+    ghost view = { λ t. chars (string_bytes t.text) };
+}
+
+impl Printed {
+    /// The empty text, which takes no memory yet.
+    pub fn new(alloc: Global) -> Printed
+        ensures { result ≡ [] }
+    {
+        Printed {
+            text: String::new(alloc),
+        }
+    }
+
+    /// Appends the characters. It is refused only for want of memory, and then the text is as before.
+    pub fn add(&mut self, text: &str) -> Result<(), Memory>
+        ensures added { OnOk result (self.new ≡ self.old ++ chars text.now) }
+        ensures same { OnErr result (self.new ≡ self.old) }
+    {
+        self.text.push_str(text)?;
+        Ok(())
+    }
+
+    /// All characters so far.
+    pub fn as_str(&self) -> &str
+        ensures { chars result.now ≡ self.now }
+    {
+        self.text.as_str()
+    }
+}

@@ -1,0 +1,33 @@
+-- Texts whose characters are their bytes.
+use Rattle.std.proofs.Common.{◌≡◌, ℕ, Bool, true, false, eqb, List, [], ◌∷◌, ◌++◌, length, chars, codes, encode_utf8_all, IsUtf8, ap, sym, ◌∙◌, refl}
+use Rattle.std.proofs.lemmas.Bool.{and_parts, ltb-true, eqb-true, eqb-false}
+use Rattle.std.proofs.lemmas.Str.{chars-IsAscii, chars-nil, encodes-chars}
+use Rattle.std.proofs.lemmas.Str.Ascii.{IsAscii-nil, IsAscii-cons}
+use Rattle.std.specs.Char.{is_ascii}
+use Rattle.std.specs.List.{list_all}
+use Rattle.std.specs.Str.{IsAscii}
+use Rattle.rp_run.specs.Output.{detail}
+
+IsAscii-from_tests : (bs : List ℕ) → list_all is_ascii bs ≡ true → IsAscii bs
+IsAscii-from_tests [] h = IsAscii-nil
+IsAscii-from_tests (b ∷ bs) h =
+    let parts = and_parts (is_ascii b) (list_all is_ascii bs) h in
+    IsAscii-cons b bs (ltb-true b 128 parts.0) (IsAscii-from_tests bs parts.1)
+
+-- the characters of an ASCII text are its bytes
+pub chars-ascii : (bs : List ℕ) → list_all is_ascii bs ≡ true → chars bs ≡ bs
+chars-ascii bs h = chars-IsAscii bs (IsAscii-from_tests bs h)
+
+-- a text that has no characters has no bytes
+pub bytes_without_chars : (bs : List ℕ) → IsUtf8 bs → chars bs ≡ [] → bs ≡ []
+bytes_without_chars bs utf8 e = sym (encodes-chars bs utf8) ∙ ap encode_utf8_all e
+
+-- the detail of an exception with a text
+pub detail-some : (bs told : List ℕ) → IsUtf8 bs → chars bs ≡ told → eqb (length bs) 0 ≡ false → detail told ≡ codes ": " ++ told
+detail-some bs [] utf8 e some = absurd (eqb-false (length bs) 0 some (ap length (bytes_without_chars bs utf8 e)))
+detail-some bs (c ∷ cs) utf8 e some = refl
+
+-- the detail of an exception without one
+pub detail-none : (bs told : List ℕ) → chars bs ≡ told → eqb (length bs) 0 ≡ true → detail told ≡ []
+detail-none [] told e none = ap detail (sym e ∙ chars-nil)
+detail-none (b ∷ bs) told e none = absurd (let e : length (b ∷ bs) ≡ 0 = eqb-true (length (b ∷ bs)) 0 none in cc)

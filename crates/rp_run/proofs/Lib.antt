@@ -1,0 +1,4 @@
+mod Ascii
+mod Pieces
+mod Sayings
+pub mod Taken

@@ -1,0 +1,6 @@
+pub mod Command
+pub mod Contents
+pub mod Headline
+pub mod Output
+pub mod Steps
+pub mod Told

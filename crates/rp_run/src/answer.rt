@@ -1,0 +1,159 @@
+ghost use Rattle.std.specs.Prelude.{◌≡◌, ◌++◌, true, codes, chars, IfOk, OnOk};
+ghost use Rattle.std.specs.Char.{is_ascii};
+ghost use Rattle.std.specs.Fmt.{decimal};
+ghost use Rattle.std.specs.List.{list_all};
+ghost use Rattle.rp_base.specs.Kind.{kind_name};
+ghost use Rattle.rp_run.specs.Command.{usage};
+ghost use Rattle.rp_run.specs.Output.{detail, end_line, end_status};
+
+use rp_base::{Memory, Printed, Raised, Status, Text, Value};
+use std::alloc::Global;
+
+/// What the program says where its words give no command.
+pub const USAGE: &str =
+    "usage: rpy run DECL WHO:SCRIPT... [--steps N] [--cells N] [--turns LIST] [--trail]
+       rpy check SCRIPT
+       rpy show SCRIPT
+       rpy may DECL WHO PERMISSION
+       rpy large N
+       rpy audit DECL TRAIL
+       rpy at DECL PLACES WHO PERMISSION OBJECT
+       rpy reach DECL PLACES WHO PERMISSION
+       rpy console DECL INPUT WHO...
+";
+
+/// What the program says, and the status with which it then ends.
+#[derive(Drop)]
+pub struct Answer {
+    pub text: Printed,
+    pub status: Status,
+}
+
+impl Answer {
+    /// The answer to words that give no command. It is refused only for want of memory.
+    pub fn usage(alloc: Global) -> Result<Answer, Memory>
+        ensures { IfOk result (λ a. (a.text ≡ usage) × (a.status.0 ≡ 2)) }
+    {
+        Answer::fixed(alloc, USAGE, 2)
+    }
+
+    /// The answer that says an ASCII text. It is refused only for want of memory.
+    pub fn fixed(alloc: Global, said: &str, status: u8) -> Result<Answer, Memory>
+        requires ascii { list_all is_ascii said.now ≡ true }
+        ensures { IfOk result (λ a. (a.text ≡ said.now) × (a.status.0 ≡ status)) }
+    {
+        let mut text = Printed::new(alloc);
+        add_ascii(&mut text, said)?;
+        Ok(Answer {
+            text,
+            status: Status(status),
+        })
+    }
+
+    /// The answer of one line, a label and a subject. It is refused only for want of memory.
+    pub fn labelled(
+        alloc: Global,
+        label: &str,
+        subject: &Text,
+        status: u8,
+    ) -> Result<Answer, Memory>
+        requires ascii { list_all is_ascii label.now ≡ true }
+        ensures { IfOk result (λ a.
+            (a.text ≡ label.now ++ subject.now ++ codes "\n") × (a.status.0 ≡ status)) }
+    {
+        let mut text = Printed::new(alloc);
+        add_ascii(&mut text, label)?;
+        text.add(subject.as_str())?;
+        add_ascii(&mut text, "\n")?;
+        Ok(Answer {
+            text,
+            status: Status(status),
+        })
+    }
+
+    /// The block of a session: its number and principal, what it printed, and how it ended. It is
+    /// refused only for want of memory.
+    pub fn session(
+        alloc: Global,
+        number: u32,
+        who: &Text,
+        printed: &str,
+        end: &Result<Value, Raised>,
+    ) -> Result<Answer, Memory>
+        ensures text { IfOk result (λ a. a.text ≡
+            codes "session " ++ decimal number ++ codes " " ++ who.now ++ codes "\n"
+            ++ chars printed.now ++ end_line end.now) }
+        ensures status { IfOk result (λ a. a.status.0 ≡ end_status end.now) }
+    {
+        let mut text = Printed::new(alloc);
+        add_ascii(&mut text, "session ")?;
+        add_number(alloc, &mut text, number)?;
+        add_ascii(&mut text, " ")?;
+        text.add(who.as_str())?;
+        add_ascii(&mut text, "\n")?;
+        text.add(printed)?;
+        add_end(&mut text, end)?;
+        Ok(Answer {
+            text,
+            status: end_status(end),
+        })
+    }
+}
+
+/// 0 where a session ended well, 1 where an exception ended it.
+fn end_status(end: &Result<Value, Raised>) -> Status
+    ensures { result.0 ≡ end_status end.now }
+{
+    match end {
+        Ok(_) => Status(0),
+        Err(_) => Status(1),
+    }
+}
+
+/// Appends the line that says how a session ended.
+fn add_end(text: &mut Printed, end: &Result<Value, Raised>) -> Result<(), Memory>
+    ensures { OnOk result (text.new ≡ text.old ++ end_line end.now) }
+{
+    match end {
+        Ok(_) => add_ascii(text, "end ok\n"),
+        Err(raised) => add_raised(text, raised),
+    }
+}
+
+/// Appends the line of an exception that ended a session.
+fn add_raised(text: &mut Printed, raised: &Raised) -> Result<(), Memory>
+    ensures { OnOk result (text.new ≡ text.old
+        ++ (codes "end " ++ kind_name raised.now.kind ++ detail raised.now.text ++ codes "\n")) }
+{
+    add_ascii(text, "end ")?;
+    add_ascii(text, raised.kind.as_str())?;
+    add_detail(text, &raised.text)?;
+    add_ascii(text, "\n")
+}
+
+/// Appends the text of an exception behind a colon, where it has one.
+fn add_detail(text: &mut Printed, told: &Text) -> Result<(), Memory>
+    ensures { OnOk result (text.new ≡ text.old ++ detail told.now) }
+{
+    if told.as_str().is_empty() {
+        return Ok(());
+    }
+    add_ascii(text, ": ")?;
+    text.add(told.as_str())
+}
+
+/// Appends a number in decimal.
+fn add_number(alloc: Global, text: &mut Printed, number: u32) -> Result<(), Memory>
+    ensures { OnOk result (text.new ≡ text.old ++ decimal number) }
+{
+    let digits = format!(in alloc; "{number}")?;
+    text.add(digits.as_str())
+}
+
+/// Appends an ASCII text, whose characters are its bytes.
+fn add_ascii(text: &mut Printed, piece: &str) -> Result<(), Memory>
+    requires { list_all is_ascii piece.now ≡ true }
+    ensures { OnOk result (text.new ≡ text.old ++ piece.now) }
+{
+    text.add(piece)
+}

@@ -1,0 +1,15 @@
+//! The program: words and files in, text and a status out.
+#![tactic(auto)]
+
+mod answer;
+mod command;
+mod playing;
+mod program;
+mod reading;
+mod stop;
+#[cfg(test)]
+mod tests;
+mod writing;
+
+pub use answer::USAGE;
+pub use program::run;

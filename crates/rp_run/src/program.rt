@@ -1,0 +1,83 @@
+ghost use Rattle.std.specs.Prelude.{◌≡◌, ◌≢◌, ◌⊎◌, ◌<◌, ◌↔◌, map, string_bytes, IfOk, IfSome, MatchOption, None, OnOk, IsErrOf};
+ghost use Rattle.rp_run.specs.Command.{command_of, usage};
+ghost use Rattle.rp_run.specs.Headline.{IsAnswer, IsStatus, Writes, TellsWhole, TellsFront, BeginsNamed, FailsAtNamed};
+ghost use Rattle.rp_run.specs.Told.{Told};
+
+use crate::answer::Answer;
+use crate::command::Command;
+use crate::playing::answer_command;
+use crate::stop::Stop;
+use crate::writing::write_text;
+use rp_base::{Failed, Files, Sink, Status};
+use std::alloc::Global;
+
+/// Runs the command that the words give, and answers the status of the program.
+///
+/// Whatever the words and the files say, what is written and the status are those of the direct meaning
+/// of the source script, where each operation through a lent reference is first decided by the declared
+/// policy for the script's principal, and logged. All text goes to `out`, and only after the last step.
+///
+/// | status | means |
+/// |---|---|
+/// | 0 | the session ended well |
+/// | 1 | the session ended by an exception |
+/// | 2 | the words give no command |
+/// | 3 | the declarations, or the principal, are refused |
+/// | 4 | the script is refused |
+/// | 6 | a read failed; nothing is written |
+/// | 7 | a write failed; a front of the text is written |
+/// | 8 | want of memory; nothing is written |
+/// | 9 | a file has more than 4,194,304 bytes |
+pub fn run<F: Files, K: Sink>(alloc: Global, words: &[String], files: &mut F, out: &mut K) -> Status
+    requires unread { F.begun files.old ≡ 0 }
+    requires sound_files { F.faults files.old ≡ 0 }
+    requires sound_out { K.faults out.old ≡ 0 }
+
+    // The headline: where nothing failed, the meaning of words and files is what was written.
+    ensures told { IsAnswer result.0 → IfSome (F.contents files.old)
+        (λ contents. TellsWhole (map string_bytes words.now) result.0 contents (K.written out.old) (K.written out.new)) }
+    ensures front { result.0 ≡ 7 → IfSome (F.contents files.old)
+        (λ contents. TellsFront (map string_bytes words.now) contents (K.written out.old) (K.written out.new)) }
+    ensures nothing { (result.0 ≡ 6) ⊎ (result.0 ≡ 8) → K.written out.new ≡ K.written out.old }
+
+    // Each status has its cause, also where files or sink do not tell their bytes.
+    ensures status { IsStatus result.0 }
+    ensures no_command { command_of (map string_bytes words.now) ≡ None → (result.0 ≡ 2) ⊎ ((result.0 ≡ 7) ⊎ (result.0 ≡ 8)) }
+    ensures usage { result.0 ≡ 2 → (command_of (map string_bytes words.now) ≡ None) × Writes usage (K.written out.old) (K.written out.new) }
+    ensures read_failed { (result.0 ≡ 6) ↔ (0 < F.faults files.new) }
+    ensures read_cause { result.0 ≡ 6 → FailsAtNamed (command_of (map string_bytes words.now)) (F.contents files.old) (F.begun files.new) (F.last_path files.new) }
+    ensures write_failed { (result.0 ≡ 7) ↔ (0 < K.faults out.new) }
+
+    // No other file is begun.
+    ensures begun { BeginsNamed (command_of (map string_bytes words.now)) (F.begun files.new) (F.last_path files.new) }
+{
+    match answer(alloc, words, files) {
+        Ok(answer) => match write_text(out, &answer.text) {
+            Ok(()) => answer.status,
+            Err(Failed) => Status(7),
+        },
+        Err(Stop::Failed) => Status(6),
+        Err(Stop::Memory) => Status(8),
+    }
+}
+
+/// What the program says to its words.
+fn answer<F: Files>(alloc: Global, words: &[String], files: &mut F) -> Result<Answer, Stop>
+    requires unread { F.begun files.old ≡ 0 }
+    requires sound { F.faults files.old ≡ 0 }
+
+    ensures told { IfOk result (λ a. IfSome (F.contents files.old) (λ of. Told (map string_bytes words.now) of a.text a.status.0)) }
+    ensures status { IfOk result (λ a. IsStatus a.status.0 × IsAnswer a.status.0) }
+    ensures usage { IfOk result (λ a. MatchOption (command_of (map string_bytes words.now)) ((a.text ≡ usage) × (a.status.0 ≡ 2)) (λ _. a.status.0 ≢ 2)) }
+
+    ensures begun { BeginsNamed (command_of (map string_bytes words.now)) (F.begun files.new) (F.last_path files.new) }
+    ensures sound { OnOk result (F.faults files.new ≡ 0) }
+    ensures failed { IsErrOf result Stop.Failed → 0 < F.faults files.new }
+    ensures cause { IsErrOf result Stop.Failed → FailsAtNamed (command_of (map string_bytes words.now)) (F.contents files.old) (F.begun files.new) (F.last_path files.new) }
+    ensures memory { IsErrOf result Stop.Memory → F.faults files.new ≡ 0 }
+{
+    match Command::read(alloc, words)? {
+        None => Ok(Answer::usage(alloc)?),
+        Some(command) => answer_command(alloc, &command, files),
+    }
+}

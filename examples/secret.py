@@ -1,0 +1,2 @@
+print(root.size)
+print(root.secret)
