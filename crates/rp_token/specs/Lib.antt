@@ -1,0 +1,9 @@
+pub mod Characters
+pub mod Form
+pub mod Lexer
+pub mod Literal
+pub mod Number
+pub mod Reading
+pub mod Run
+pub mod Tokens
+pub mod View

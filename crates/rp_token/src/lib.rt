@@ -1,0 +1,42 @@
+//! The tokens of a script: any text to its tokens, or its first fault with the line.
+#![tactic(auto)]
+
+ghost use Rattle.std.specs.Prelude.{All, IfOk, chars};
+ghost use Rattle.rp_token.specs.Lexer.{Gives, IsGrown};
+ghost use Rattle.rp_token.specs.View.{IsHeld};
+ghost use Rattle.rp_token.specs.Tokens.{tokens_of};
+
+mod fault;
+mod lexer;
+mod literal;
+mod number;
+mod spelling;
+mod stack;
+#[cfg(test)]
+mod tests;
+mod text;
+mod token;
+mod word;
+
+pub use fault::TokenFault;
+use lexer::Lexer;
+use rp_base::Names;
+use std::alloc::Global;
+pub use token::{Token, TokenKind};
+
+/// The tokens of a text. Its words are interned among the names, which stay where they are and grow,
+/// whatever is answered; so each name in a token is held.
+///
+/// # Errors
+/// The first fault of the text from the left, with its line from 1, or `Memory` where a growth was refused.
+pub fn tokens(alloc: Global, text: &str, names: &mut Names) -> Result<Vec<Token>, TokenFault>
+    ensures tokens { Gives names.new (tokens_of (chars text.now)) result }
+    ensures names { IsGrown names.old names.new }
+    ensures held { IfOk result (λ found. All (IsHeld names.new) found.items) }
+{
+    let mut lexer = Lexer::new(alloc, text);
+    'steps: while !lexer.is_at_end() {
+        lexer.step(names)?;
+    }
+    lexer.finish()
+}
