@@ -1,11 +1,10 @@
 -- What a call answered, passed on.
-use Rattle.std.proofs.Common.{◌≡◌, ℕ, List, ◌++◌, Result, Ok, Err, IfOk, OnOk, ap, sym, ◌∙◌}
-use Rattle.std.specs.Str.Pattern.{StripsPrefix, FindsTextPrefix}
+use Rattle.std.proofs.Common.{Result, Ok, Err, IfOk, IfErr}
 
-pub IfOk-both : {T E R : Type 0} (r : Result T E) {P Q : T → Type 0} → IfOk r P → OnOk r R → ((x : T) → P x → R → Q x) → IfOk r Q
-IfOk-both (Ok x) p fact gives = gives x p fact
-IfOk-both (Err e) p fact gives = p
+pub on_ok : {T E : Type 0} (r : Result T E) (P Q : T → Type 0) → ((x : T) → P x → Q x) → IfOk r P → IfOk r Q
+on_ok (Ok x) P Q go p = go x p
+on_ok (Err e) P Q go p = tt
 
--- the clause of `strip_prefix` at a text
-pub prefix-stripped : (p s x : List ℕ) → StripsPrefix (FindsTextPrefix p) s x → s ≡ p ++ x
-prefix-stripped p s x h = h.1.1 ∙ ap (λ rest. p ++ rest) (sym h.2)
+pub on_err : {T E : Type 0} (r : Result T E) (P Q : E → Type 0) → ((e : E) → P e → Q e) → IfErr r P → IfErr r Q
+on_err (Ok x) P Q go p = tt
+on_err (Err e) P Q go p = go e p

@@ -7,9 +7,9 @@ use Rattle.std.proofs.lemmas.Bool.Decides.{same_from_decides}
 use Rattle.std.proofs.lemmas.Slice.Eq.{bytes_eq-Decides}
 use Rattle.std.proofs.lemmas.Str.{encodes_same}
 use Rattle.rp_base.specs.Same.{same_text}
-use Rattle.rp_decl.specs.Word.{is_among}
+use Rattle.rp_first.specs.Word.{is_among}
 
-same_text-Decides : (x y : List ℕ) → Decides (same_text x y) (x ≡ y)
+pub same_text-Decides : (x y : List ℕ) → Decides (same_text x y) (x ≡ y)
 same_text-Decides x y =
     let d = bytes_eq-Decides (encode_utf8_all x) (encode_utf8_all y) in
     (λ e. encodes_same x y (d.0 e), λ e. d.1 (ap encode_utf8_all e))

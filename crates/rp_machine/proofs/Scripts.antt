@@ -8,7 +8,7 @@ use Rattle.rp_base.specs.declared.value.OpEnd.{OpEnd}
 use Rattle.rp_base.specs.declared.value.OpEnd.TheVariants as ended
 use Rattle.rp_base.specs.declared.value.Raised.{Raised}
 use Rattle.rp_base.specs.declared.value.Value.{Value}
-use Rattle.rp_decl.specs.Records.{Declarations}
+use Rattle.rp_first.specs.Records.{Declarations}
 use Rattle.rp_machine.specs.declared.tree.Stmt.{Stmt}
 use Rattle.rp_machine.specs.Meaning.{State, Outcome, none, on_value, exec, run_script}
 use Rattle.rp_machine.specs.Rewrites.{bare, is_guarded}

@@ -5,9 +5,9 @@ use Rattle.std.specs.Option.{option_map_or}
 use Rattle.rp_base.specs.declared.kind.Kind.TheVariants.{Unauthorized, ForbiddenAttribute}
 use Rattle.rp_base.specs.declared.value.Raised.{Raised}
 use Rattle.rp_base.specs.Same.{same_text}
-use Rattle.rp_decl.specs.Document.{public}
-use Rattle.rp_decl.specs.Records.{Declarations}
-use Rattle.rp_decl.specs.Word.{is_among}
+use Rattle.rp_first.specs.Document.{public}
+use Rattle.rp_first.specs.Records.{Declarations}
+use Rattle.rp_first.specs.Word.{is_among}
 use Rattle.rp_machine.specs.declared.entry.Row.{Row}
 use Rattle.rp_machine.specs.declared.entry.Row.TheVariants as row
 use Rattle.rp_machine.specs.declared.entry.Verdict.{Verdict}

@@ -1,8 +1,9 @@
 pub mod Access
 pub mod Meaning
+pub mod Reading
+pub mod Refusal
 pub mod Reserved
 pub mod Rewrites
 pub mod Script
-pub mod Spelling
 pub mod Store
 pub mod World

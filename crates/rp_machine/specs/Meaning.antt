@@ -15,7 +15,7 @@ use Rattle.rp_base.specs.declared.value.Value.TheVariants as value
 use Rattle.rp_base.specs.Kind.{kind_name}
 use Rattle.rp_base.specs.Native.{native_name}
 use Rattle.rp_base.specs.Same.{same_text}
-use Rattle.rp_decl.specs.Records.{Declarations}
+use Rattle.rp_first.specs.Records.{Declarations}
 use Rattle.rp_machine.specs.declared.entry.Entry.{Entry}
 use Rattle.rp_machine.specs.declared.entry.Verdict.{Verdict}
 use Rattle.rp_machine.specs.declared.entry.Verdict.TheVariants as verdict

@@ -1,7 +1,7 @@
 -- Words that mean something of their own in a script.
 use Rattle.std.specs.Prelude.{ℕ, Bool, ◌||◌, List, [], ◌∷◌, map, codes}
 use Rattle.rp_base.specs.Kind.{kind_name}
-use Rattle.rp_decl.specs.Word.{is_among}
+use Rattle.rp_first.specs.Word.{is_among}
 use Rattle.rp_base.specs.declared.kind.Kind.TheVariants.{Exception, ArithmeticError, ZeroDivisionError, OverflowError, LookupError, IndexError, KeyError, NameError, UnboundLocalError, RuntimeError, RecursionError, ValueError, TypeError, AttributeError, AssertionError, Unauthorized, Forbidden, ForbiddenAttribute}
 
 -- the built-in functions of scripts

@@ -1,10 +1,10 @@
--- Which texts are scripts of the first form, and what their trees are.
-use Rattle.std.specs.Prelude.{◌≡◌, ℕ, pos, negsuc, ◌≤◌, ◌^◌, Bool, true, false, ◌&&◌, ◌||◌, ◌==◌, not, nat_eq, nat_lt, List, ◌++◌, length, filter, map, codes, is_none}
-use Rattle.std.specs.Str.{IsAscii}
-use Rattle.std.specs.Str.Lines.{lines}
-use Rattle.std.specs.Fmt.{signed_decimal}
+-- Which bytes are scripts of the first form, and what their trees are.
+use Rattle.std.specs.Prelude.{◌≡◌, ℕ, pos, negsuc, ◌≤◌, Bool, true, false, ◌&&◌, ◌||◌, not, nat_eq, List, [], ◌∷◌, ◌++◌, length, map, chars, codes, is_none, Ok}
+use Rattle.std.specs.Str.{IsUtf8}
 use Rattle.std.specs.List.{list_all, starts_with, ends_with}
-use Rattle.rp_decl.specs.Word.{is_declared_name, is_among}
+use Rattle.rp_first.specs.Word.{is_declared_name, is_among}
+use Rattle.rp_token.specs.Form.{Form, Item, name, number, mark, newline, end_of_text}
+use Rattle.rp_token.specs.Tokens.{tokens_of}
 use Rattle.rp_machine.specs.Reserved.{is_reserved, inspection_attributes, text_methods}
 use Rattle.rp_machine.specs.declared.tree.Expr.{Expr}
 use Rattle.rp_machine.specs.declared.tree.Expr.TheVariants.{Name, Attr, Int}
@@ -25,37 +25,46 @@ is_attribute_name word = is_script_name word && not (is_among text_methods word)
 -- an expression of these parts may be written, and carries no mark
 abbrev pub is_written : Expr → Bool
 is_written (Name x) = is_script_name x
-is_written (Attr x name guard) = (is_script_name x && is_attribute_name name) && is_none guard
-is_written (Int (pos n)) = nat_lt n (10 ^ 18)
+is_written (Attr x a guard) = (is_script_name x && is_attribute_name a) && is_none guard
+is_written (Int (pos n)) = true
 is_written (Int (negsuc n)) = false
 
--- how an expression is written
-abbrev pub spelling : Expr → List ℕ
-spelling (Name x) = x
-spelling (Attr x name guard) = x ++ codes "." ++ name
-spelling (Int n) = signed_decimal n
+-- the tokens that spell an expression; none spells a number below 0
+abbrev pub expression_forms : Expr → List Form
+expression_forms (Name x) = name x ∷ []
+expression_forms (Attr x a guard) = name x ∷ mark (codes ".") ∷ name a ∷ []
+expression_forms (Int (pos n)) = number n ∷ []
+expression_forms (Int (negsuc n)) = []
 
+-- a statement of such parts
 abbrev pub is_written_statement : Stmt → Bool
 is_written_statement (Assign x e) = is_script_name x && is_written e
 is_written_statement (Print e) = is_written e
 
--- the line that a statement is written on
-abbrev pub line_of : Stmt → List ℕ
-line_of (Assign x e) = x ++ codes " = " ++ spelling e
-line_of (Print e) = codes "print(" ++ spelling e ++ codes ")"
+-- the tokens that spell a statement: `x = E` or `print(E)`, and the end of its logical line
+abbrev pub statement_forms : Stmt → List Form
+statement_forms (Assign x e) = name x ∷ mark (codes "=") ∷ expression_forms e ++ newline ∷ []
+statement_forms (Print e) = name (codes "print") ∷ mark (codes "(") ∷ expression_forms e ++ mark (codes ")") ∷ newline ∷ []
 
--- the most lines of a script
+-- the tokens that spell a tree
+abbrev pub forms_of : List Stmt → List Form
+forms_of [] = end_of_text ∷ []
+forms_of (s ∷ ss) = statement_forms s ++ forms_of ss
+
+-- the most statements of a script
 abbrev pub longest_script : ℕ
 longest_script = 1000
 
--- the lines that have something on them
-abbrev pub filled_lines : List ℕ → List (List ℕ)
-filled_lines bytes = filter (λ line. not (length line == 0)) (lines bytes)
-
--- The bytes are a script, and the statements are its tree: each is written on a line of its own, and the other
--- lines are empty (Python Language Reference, logical lines).
-pub record IsScript (bytes : List ℕ) (tree : List Stmt) : Type 0 where
-  pub ascii : IsAscii bytes
-  pub short : length (lines bytes) ≤ longest_script
+-- the tokens spell the tree, whose parts may be written
+pub record Spells (forms : List Form) (tree : List Stmt) : Type 0 where
   pub written : list_all is_written_statement tree ≡ true
-  pub spelled : filled_lines bytes ≡ map line_of tree
+  pub short : length tree ≤ longest_script
+  pub spelled : forms ≡ forms_of tree
+
+-- The bytes are a script, and the statements are its tree: the tokens of its text spell the tree, in whatever spacing
+-- (Python Language Reference, lexical analysis).
+pub record IsScript (bytes : List ℕ) (tree : List Stmt) : Type 0 where
+  pub text : IsUtf8 bytes
+  pub items : List Item
+  pub tokens : tokens_of (chars bytes) ≡ Ok items
+  pub spells : Spells (map (λ item. item.form) items) tree

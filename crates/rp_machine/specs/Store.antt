@@ -7,9 +7,9 @@ use Rattle.rp_base.specs.declared.value.Rock.{Rock}
 use Rattle.rp_base.specs.declared.value.Rock.TheVariants as rock
 use Rattle.rp_base.specs.declared.value.Value.{Value}
 use Rattle.rp_base.specs.declared.value.Value.TheVariants as value
-use Rattle.rp_decl.specs.declared.records.Field.{Field}
-use Rattle.rp_decl.specs.declared.records.Field.TheVariants as field
-use Rattle.rp_decl.specs.Records.{Declarations, Object as Declared}
+use Rattle.rp_first.specs.declared.records.Field.{Field}
+use Rattle.rp_first.specs.declared.records.Field.TheVariants as field
+use Rattle.rp_first.specs.Records.{Declarations, Object as Declared}
 use Rattle.rp_machine.specs.declared.object.Object.{Object}
 
 -- an object of the store: the side that owns it, its class and its fields

@@ -4,7 +4,7 @@ use Rattle.rp_base.specs.declared.value.OpEnd.{OpEnd}
 use Rattle.rp_base.specs.declared.value.OpEnd.TheVariants as ended
 use Rattle.rp_base.specs.declared.value.Value.{Value}
 use Rattle.rp_base.specs.declared.value.Value.TheVariants as value
-use Rattle.rp_decl.specs.Records.{Declarations}
+use Rattle.rp_first.specs.Records.{Declarations}
 use Rattle.rp_machine.specs.declared.entry.Entry.{Entry}
 use Rattle.rp_machine.specs.declared.entry.Row.{Row}
 use Rattle.rp_machine.specs.declared.entry.Verdict.TheVariants.{Allowed}

@@ -3,15 +3,15 @@ ghost use Rattle.std.specs.Option.{option_copied};
 ghost use Rattle.std.specs.List.{list_any};
 ghost use Rattle.std.specs.Map.{lookup};
 ghost use Rattle.rp_base.specs.Same.{same_text};
-ghost use Rattle.rp_decl.specs.Document.{public};
-ghost use Rattle.rp_decl.specs.Records.{class_view, principal_view};
-ghost use Rattle.rp_decl.specs.Word.{is_among};
+ghost use Rattle.rp_first.specs.Document.{public};
+ghost use Rattle.rp_first.specs.Records.{class_view, principal_view};
+ghost use Rattle.rp_first.specs.Word.{is_among};
 ghost use Rattle.rp_machine.specs.Access.{available_by_default, granted, has_permission, is_principal, reading_rows, refusal_of, row_of, verdict_for, verdict_of};
 
 use crate::entry::{Row, Verdict};
 use crate::lookup::value_at;
 use rp_base::{Kind, Memory, Raised, Text};
-use rp_decl::{ClassDecl, Decl, PrincipalDecl};
+use rp_first::{ClassDecl, Decl, PrincipalDecl};
 
 /// The permission that everybody has.
 const PUBLIC: &str = "zope.Public";

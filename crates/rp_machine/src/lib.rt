@@ -7,6 +7,7 @@ mod lookup;
 #[cfg(test)]
 mod machine_tests;
 mod object;
+mod refusal;
 mod rewrite;
 mod script;
 mod script_name;
@@ -20,7 +21,8 @@ mod world;
 
 pub use entry::{Entry, Row, Verdict};
 pub use object::Object;
-pub use script::{Compiled, ScriptFault, compile_script};
+pub use refusal::{Refusal, refusal_text};
+pub use script::{Compiled, compile_script};
 pub use session::Session;
 pub use tree::{Expr, Guard, Stmt};
 pub use world::World;

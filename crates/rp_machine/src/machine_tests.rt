@@ -2,8 +2,8 @@ ghost use Rattle.std.specs.Prelude.{◌<◌};
 
 use crate::show::line_of;
 use crate::{Entry, Row, Session, Verdict, World, compile_script};
-use rp_base::{Kind, NativeId, OpEnd, Rock, Text, Value};
-use rp_decl::declarations;
+use rp_base::{Kind, Names, NativeId, OpEnd, Rock, Text, Value};
+use rp_first::declarations;
 use std::alloc::{AllocError, Global};
 use std::test::Fail;
 
@@ -90,7 +90,8 @@ fn ended(
 ) -> Result<String, Fail>
     requires { 0 < number }
 {
-    let script = compile_script(alloc, script.as_bytes())?;
+    let mut names = Names::new(alloc)?;
+    let script = compile_script(alloc, script.as_bytes(), &mut names)?;
     let mut session = Session::new(alloc, world, number, Text::new(alloc, who)?)?;
     let end = session.finish(world, &script);
     let end = described_end(alloc, &end)?;

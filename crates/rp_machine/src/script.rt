@@ -1,42 +1,17 @@
-ghost use Rattle.std.specs.Prelude.{◌≡◌, IfOk, IsErrOf, List, map};
-ghost use Rattle.rp_machine.specs.Script.{IsScript};
+ghost use Rattle.std.specs.Prelude.{◌≡◌, ◌≢◌, IfErr, IfOk, List, map};
+ghost use Rattle.rp_token.specs.Lexer.{IsGrown};
+ghost use Rattle.rp_machine.specs.Refusal.{IsRefused};
 ghost use Rattle.rp_machine.specs.Rewrites.{Rewrites, bare};
+ghost use Rattle.rp_machine.specs.Script.{IsScript};
 ghost use Rattle.rp_machine.specs.declared.tree.Stmt.{Stmt};
 
+use crate::refusal::Refusal;
 use crate::rewrite::transform;
 use crate::source::read_script;
 use crate::tree::Stmt;
-use rp_base::Memory;
-use std::alloc::{AllocFailed, Global};
+use rp_base::Names;
+use std::alloc::Global;
 use std::marker::Model;
-
-/// Why a script is not compiled.
-#[derive(Clone, Copy, Debug, PartialEq, Eq)]
-pub enum ScriptFault {
-    /// The script has a form that is not built yet.
-    NotYet,
-    Memory,
-}
-
-impl From<Memory> for ScriptFault {
-    ghost use Rattle.rp_machine.specs.declared.script.ScriptFault.TheVariants as fault;
-
-    ghost from_gives = { λ _ given. given ≡ fault.Memory };
-
-    fn from(_: Memory) -> Self {
-        ScriptFault::Memory
-    }
-}
-
-impl<T: Drop> From<AllocFailed<T>> for ScriptFault {
-    ghost use Rattle.rp_machine.specs.declared.script.ScriptFault.TheVariants as fault;
-
-    ghost from_gives = { λ _ given. given ≡ fault.Memory };
-
-    fn from(_: AllocFailed<T>) -> Self {
-        ScriptFault::Memory
-    }
-}
 
 /// A script that may run: its statements, with a guard at each read of an attribute.
 #[derive(Drop)]
@@ -71,17 +46,20 @@ impl Compiled {
     }
 }
 
-/// The compiled script of the bytes.
+/// The compiled script of the bytes. Its words are interned among the names, which stay where they are and
+/// grow, whatever is answered.
 ///
 /// # Errors
-/// `NotYet` where the bytes are no script of the first form, `Memory` where a growth was refused.
-pub fn compile_script(alloc: Global, bytes: &[u8]) -> Result<Compiled, ScriptFault>
+/// The first check that the bytes do not pass, in the order of `Refusal`, or `Memory` where a growth was
+/// refused.
+pub fn compile_script(alloc: Global, bytes: &[u8], names: &mut Names) -> Result<Compiled, Refusal>
     ensures rewritten { IfOk result (λ c. (source : List Stmt) × (IsScript bytes.now source × Rewrites source c)) }
     // A script has one tree.
     ensures one { IfOk result (λ c. (source : List Stmt) → IsScript bytes.now source → map bare c ≡ source) }
-    ensures not_yet { IsErrOf result ScriptFault.NotYet → (source : List Stmt) → ¬ IsScript bytes.now source }
+    ensures refused { IfErr result (λ refusal. refusal ≢ Refusal.Memory → IsRefused bytes.now refusal) }
+    ensures names { IsGrown names.old names.new }
 {
-    let source = read_script(alloc, bytes)?;
+    let source = read_script(alloc, bytes, names)?;
     Ok(Compiled {
         statements: transform(source),
     })

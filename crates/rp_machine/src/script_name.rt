@@ -1,9 +1,9 @@
 ghost use Rattle.std.specs.Prelude.{◌≡◌, map};
-ghost use Rattle.rp_decl.specs.Word.{is_among};
+ghost use Rattle.rp_first.specs.Word.{is_among};
 ghost use Rattle.rp_machine.specs.Reserved.{is_reserved};
 ghost use Rattle.rp_machine.specs.Script.{is_script_name, is_attribute_name};
 
-use rp_decl::is_declared_name;
+use rp_first::is_declared_name;
 
 const BUILT_IN_FUNCTIONS: [&str; 18] = [
     "len",

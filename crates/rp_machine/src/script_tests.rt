@@ -1,5 +1,7 @@
-use crate::{Expr, ScriptFault, Stmt, compile_script};
-use std::alloc::AllocError;
+use crate::{Expr, Refusal, Stmt, compile_script, refusal_text};
+use rp_base::{Line, Names};
+use rp_token::TokenFault;
+use std::alloc::{AllocError, Global};
 use std::test::Fail;
 
 /// The statements in words, each ended by a semicolon.
@@ -38,6 +40,19 @@ fn describe(expression: &Expr, words: &mut String) -> Result<(), AllocError> {
     }
 }
 
+/// The statements of a script in words.
+fn tree_of(rt: &HostRuntime, text: &str) -> Result<String, Fail> {
+    let mut names = Names::new(rt.alloc())?;
+    let script = compile_script(rt.alloc(), text.as_bytes(), &mut names)?;
+    Ok(described(rt, script.statements())?)
+}
+
+/// Why bytes are no script.
+fn refusal_of(alloc: Global, bytes: &[u8]) -> Result<Option<Refusal>, Fail> {
+    let mut names = Names::new(alloc)?;
+    Ok(compile_script(alloc, bytes, &mut names).err())
+}
+
 #[test]
 fn scripts_have_their_trees(rt: HostRuntime) -> Result<(), Fail> {
     for (text, tree) in [
@@ -57,6 +72,14 @@ fn scripts_have_their_trees(rt: HostRuntime) -> Result<(), Fail> {
             "total = 123456789012345678",
             "let total be number 123456789012345678;",
         ),
+        (
+            "x = 9223372036854775807",
+            "let x be number 9223372036854775807;",
+        ),
+        (
+            "x = 1_000\ny = 0x1f",
+            "let x be number 1000;let y be number 31;",
+        ),
         ("printing = prints", "let printing be prints;"),
         ("x_1 = A9.b_", "let x_1 be b_ of A9, Some(GetAttr);"),
         ("iff = nonee", "let iff be nonee;"),
@@ -66,31 +89,54 @@ fn scripts_have_their_trees(rt: HostRuntime) -> Result<(), Fail> {
         ),
         ("join = 10", "let join be number 10;"),
     ] {
-        let script = compile_script(rt.alloc(), text.as_bytes())?;
-        let found = described(&rt, script.statements())?;
-        assert_eq!(rt; found.as_str(), tree, "{text:?}");
+        assert_eq!(rt; tree_of(&rt, text)?.as_str(), tree, "{text:?}");
     }
     Ok(())
 }
 
 #[test]
-fn other_texts_are_refused(rt: HostRuntime) {
+fn spacing_comments_and_line_ends_are_free(rt: HostRuntime) -> Result<(), Fail> {
+    for (text, tree) in [
+        ("x=1", "let x be number 1;"),
+        ("x  =\t1 \t", "let x be number 1;"),
+        ("x = 1 # one", "let x be number 1;"),
+        ("# nothing", ""),
+        (" ", ""),
+        (
+            "\t\n  # an indented comment\nx = 1\n    \n",
+            "let x be number 1;",
+        ),
+        (
+            "print ( root . title )",
+            "print title of root, Some(GetAttr);",
+        ),
+        (
+            "print(\n    root # why\n  .\r\n\ttitle\n)\n",
+            "print title of root, Some(GetAttr);",
+        ),
+        ("x = \\\n  1", "let x be number 1;"),
+        ("x = \\\r\n1\ry = 2", "let x be number 1;let y be number 2;"),
+        ("print(x)\r\r\n", "print x;"),
+        ("\u{feff}x = 1", "let x be number 1;"),
+        ("\u{ff58} = y\nprint(x)", "let x be y;print x;"),
+        ("\u{ff50}rint(x.\u{ff46})", "print f of x, Some(GetAttr);"),
+    ] {
+        assert_eq!(rt; tree_of(&rt, text)?.as_str(), tree, "{text:?}");
+    }
+    Ok(())
+}
+
+#[test]
+fn other_forms_are_not_built_yet(rt: HostRuntime) -> Result<(), Fail> {
     for text in [
-        "x=1",
-        "x  = 1",
-        "x =  1",
         "x = ",
-        "x =",
         " x = 1",
-        "\tx = 1",
-        "x = 1 ",
-        "x = 1\t",
-        "x = 1 # one",
-        "# nothing",
-        " ",
+        "x = 1\n  y = 2",
         "x",
         "1",
         "x = 1;y = 2",
+        "x = 1 y = 2",
+        "print(x) print(y)",
         "a = b = c",
         "x += 1",
         "= 1",
@@ -99,36 +145,30 @@ fn other_texts_are_refused(rt: HostRuntime) {
         "x = y.",
         "x = .y",
         "x = x.y.z",
-        "x = 1.5",
-        "x = 1.x",
         "x = -1",
-        "x = +1",
-        "x = 01",
-        "x = 00",
-        "x = 1_000",
-        "x = 0x1",
-        "x = 1234567890123456789",
         "x = \"s\"",
         "x = 's'",
         "x = (y)",
-        "x = y + z",
-        "print (x)",
-        "print(x) ",
-        " print(x)",
+        "x = 1 + 2",
         "print()",
-        "print(x",
         "print(x))",
         "print((x))",
-        "print( x)",
-        "print(x )",
         "print(x, y)",
         "print(x.y.z)",
         "print x",
         "Print(x)",
         "print(print(x))",
-        "print(x)\rprint(y)",
-        "print(x)\r\r\n",
-        "print(x)\r",
+        "if True: pass",
+    ] {
+        let refusal = refusal_of(rt.alloc(), text.as_bytes())?;
+        assert_eq!(rt; refusal, Some(Refusal::NotYet), "{text:?}");
+    }
+    Ok(())
+}
+
+#[test]
+fn other_names_are_not_built_yet(rt: HostRuntime) -> Result<(), Fail> {
+    for text in [
         "_x = 1",
         "_ = 1",
         "x__roles__ = 1",
@@ -155,53 +195,133 @@ fn other_texts_are_refused(rt: HostRuntime) {
         "builtins = 1",
         "breakpoint = 1",
         "caf\u{e9} = 1",
-        "x = \u{ff11}",
-        "x = 1\u{2028}",
-        "\u{feff}x = 1",
-        "x = 1\0",
-        "\0",
-        "x = 1\u{c}",
-        "x = 1\ny = 02\nz = 3",
     ] {
-        let fault = compile_script(rt.alloc(), text.as_bytes()).err();
-        assert_eq!(rt; fault, Some(ScriptFault::NotYet), "{text:?}");
+        let refusal = refusal_of(rt.alloc(), text.as_bytes())?;
+        assert_eq!(rt; refusal, Some(Refusal::NotYet), "{text:?}");
     }
-    let fault = compile_script(rt.alloc(), b"x = \xff").err();
-    assert_eq!(rt; fault, Some(ScriptFault::NotYet), "no UTF-8");
+    Ok(())
 }
 
-/// The fault of a script of so many times the first text, and then the last.
-fn fault_of(
-    rt: &HostRuntime,
+#[test]
+fn texts_without_tokens_have_a_fault(rt: HostRuntime) -> Result<(), Fail> {
+    for (text, fault) in [
+        ("\tx = 1", TokenFault::Tab(Line(1))),
+        ("x = 1\n\ty = 2", TokenFault::Tab(Line(2))),
+        ("if True:\n    x = 1\n  y = 2", TokenFault::Dedent(Line(3))),
+        ("x = 1 ? 2", TokenFault::BadChar(Line(1))),
+        ("x = 1\u{c}", TokenFault::BadChar(Line(1))),
+        ("x = 1\n\0", TokenFault::BadChar(Line(2))),
+        ("x = \u{ff11}", TokenFault::BadChar(Line(1))),
+        ("x = (1,", TokenFault::Unclosed(Line(1))),
+        ("print(x", TokenFault::Unclosed(Line(1))),
+        ("x = 1.5", TokenFault::BadNumber(Line(1))),
+        ("x = 9223372036854775808", TokenFault::BadNumber(Line(1))),
+        ("x = 1\ny = 02\nz = 3", TokenFault::BadNumber(Line(2))),
+        ("x = 'a\\q'", TokenFault::BadEscape(Line(1))),
+    ] {
+        let refusal = refusal_of(rt.alloc(), text.as_bytes())?;
+        assert_eq!(rt; refusal, Some(Refusal::Token(fault)), "{text:?}");
+    }
+    Ok(())
+}
+
+#[test]
+fn bytes_are_utf_8(rt: HostRuntime) -> Result<(), Fail> {
+    for (bytes, length) in [
+        (b"\xff".as_slice(), 0),
+        (b"x\xff", 1),
+        (b"x = 1 # \xe2\x82\xac\xed\xa0\x80", 11),
+        (b"x = \xe2\x82", 4),
+        (b"x = 1 ? 2\xc0\x80", 9),
+    ] {
+        let refusal = refusal_of(rt.alloc(), bytes)?;
+        assert_eq!(rt; refusal, Some(Refusal::NotUtf8(length)), "{bytes:?}");
+    }
+    Ok(())
+}
+
+/// The refusal of a script of so many times the first text, and then the last.
+fn refusal_of_many(
+    alloc: Global,
     first: &str,
     count: usize,
     last: &str,
-) -> Result<Option<ScriptFault>, Fail> {
-    let mut text = String::new(rt.alloc());
+) -> Result<Option<Refusal>, Fail> {
+    let mut text = String::new(alloc);
     for _ in 0..count {
         text.push_str(first)?;
     }
     text.push_str(last)?;
-    Ok(compile_script(rt.alloc(), text.as_bytes()).err())
+    refusal_of(alloc, text.as_bytes())
 }
 
 #[test]
-fn scripts_have_1000_lines_and_names_255_bytes_at_most(rt: HostRuntime) -> Result<(), Fail> {
-    for (first, count, last, fault) in [
+fn scripts_have_limits(rt: HostRuntime) -> Result<(), Fail> {
+    for (first, count, last, refusal) in [
         ("x = 1\n", 1000, "", None),
         ("x = 1\n", 999, "x = 2", None),
-        ("x = 1\n", 1001, "", Some(ScriptFault::NotYet)),
-        ("x = 1\n", 1000, "x = 2", Some(ScriptFault::NotYet)),
-        ("\n", 1000, "", None),
-        ("\n", 1001, "", Some(ScriptFault::NotYet)),
+        ("x = 1\n", 1001, "", Some(Refusal::NotYet)),
+        ("x = 1\n", 1000, "x = 2", Some(Refusal::NotYet)),
+        ("\n", 1200, "x = 1", None),
         ("n", 255, " = 1", None),
-        ("n", 256, " = 1", Some(ScriptFault::NotYet)),
+        (
+            "n",
+            256,
+            " = 1",
+            Some(Refusal::Token(TokenFault::BadChar(Line(1)))),
+        ),
+        (
+            "(",
+            200,
+            "",
+            Some(Refusal::Token(TokenFault::Unclosed(Line(1)))),
+        ),
+        (
+            "(",
+            201,
+            "",
+            Some(Refusal::Token(TokenFault::Deep(Line(1)))),
+        ),
     ] {
         assert_eq!(rt;
-            fault_of(&rt, first, count, last)?,
-            fault,
+            refusal_of_many(rt.alloc(), first, count, last)?,
+            refusal,
             "{count} times {first:?}"
         );
+    }
+    Ok(())
+}
+
+#[test]
+fn names_grow_by_new_words_alone(rt: HostRuntime) -> Result<(), Fail> {
+    let mut names = Names::new(rt.alloc())?;
+    for (text, count) in [("x = y", 61), ("y = \u{ff58}", 61), ("z = 1 ?", 62)] {
+        let _ = compile_script(rt.alloc(), text.as_bytes(), &mut names);
+        assert_eq!(rt; names.len(), count, "{text:?}");
+    }
+    Ok(())
+}
+
+fn told(alloc: Global, refusal: Refusal) -> Result<String, Fail> {
+    let line = refusal_text(alloc, "s\u{f6}: ", &refusal)?;
+    Ok(String::from_str(alloc, line.as_str())?)
+}
+
+#[test]
+fn refusals_are_told_in_a_line(rt: HostRuntime) -> Result<(), Fail> {
+    for (refusal, line) in [
+        (Refusal::NotUtf8(0), "s\u{f6}: byte 0: not UTF-8\n"),
+        (
+            Refusal::Token(TokenFault::Tab(Line(12))),
+            "s\u{f6}: line 12: tab in indentation\n",
+        ),
+        (
+            Refusal::Token(TokenFault::Deep(Line(4_194_304))),
+            "s\u{f6}: line 4194304: brackets too deep\n",
+        ),
+        (Refusal::NotYet, "s\u{f6}: not yet\n"),
+    ] {
+        assert_eq!(rt; told(rt.alloc(), refusal)?.as_str(), line);
     }
     Ok(())
 }

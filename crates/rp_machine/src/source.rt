@@ -1,177 +1,332 @@
-ghost use Rattle.std.specs.Prelude.{◌≡◌, ◌≤◌, ◌↔◌, ◌++◌, true, false, length, codes, None, IsSome, IfSome, IfNone, IfOk, OnOk, IsErrOf, List, ℕ, ℤ};
-ghost use Rattle.std.specs.Char.{is_ascii_digit};
-ghost use Rattle.std.specs.List.{list_all};
-ghost use Rattle.std.specs.Str.{IsAscii};
-ghost use Rattle.std.specs.Str.Lines.{lines};
-ghost use Rattle.rp_machine.specs.Script.{IsScript, is_script_name, is_attribute_name, is_written, filled_lines, longest_script};
-ghost use Rattle.rp_machine.specs.Spelling.{Spells, SpellsStatement, SpellsTree, is_numeral};
-ghost use Rattle.rp_machine.specs.declared.tree.Expr.{Expr};
+ghost use Rattle.std.specs.Prelude.{◌≡◌, ◌≢◌, ◌<◌, ◌≤◌, ℕ, true, false, List, length, codes, None, option_map, IfErr, IfOk, IfSome, OnOk};
+ghost use Rattle.rp_base.specs.Same.{same_text};
+ghost use Rattle.rp_token.specs.Lexer.{IsGrown};
+ghost use Rattle.rp_machine.specs.Reading.{AreHeld, Gives, OnNotYet, assignment_at, behind_call, behind_line, behind_name, call_at, dotted_at, expression_at, forms, is_end, kinds, name_or_attribute, statement_at, word};
+ghost use Rattle.rp_machine.specs.Refusal.{IsRefused};
+ghost use Rattle.rp_machine.specs.Script.{IsScript, Spells, is_attribute_name, is_script_name, is_written};
 ghost use Rattle.rp_machine.specs.declared.tree.Stmt.{Stmt};
 
-use crate::script::ScriptFault;
+use crate::refusal::Refusal;
 use crate::script_name::{is_attribute_name, is_script_name};
 use crate::tree::{Expr, Stmt};
-use rp_base::Text;
+use rp_base::{Name, Names, Text};
+use rp_token::{Token, TokenKind, tokens};
 use std::alloc::Global;
 
-/// The most lines of a script.
+/// The most statements of a script.
 const LONGEST_SCRIPT: usize = 1000;
-
-/// The most digits of a number.
-const LONGEST_NUMBER: usize = 18;
 
 /// The tree of a script, with no guards.
 ///
 /// # Errors
-/// `NotYet` where the bytes are no script of the first form, `Memory` where a growth was refused.
-pub(crate) fn read_script(alloc: Global, bytes: &[u8]) -> Result<Vec<Stmt>, ScriptFault>
+/// The first check that the bytes do not pass, or `Memory` where a growth was refused.
+pub(crate) fn read_script(
+    alloc: Global,
+    bytes: &[u8],
+    names: &mut Names,
+) -> Result<Vec<Stmt>, Refusal>
     ensures tree { IfOk result (λ v. IsScript bytes.now v.items) }
-    ensures not_yet { IsErrOf result ScriptFault.NotYet → (tree : List Stmt) → ¬ IsScript bytes.now tree }
+    ensures one { IfOk result (λ v. (tree : List Stmt) → IsScript bytes.now tree → tree ≡ v.items) }
+    ensures refused { IfErr result (λ refusal. refusal ≢ Refusal.Memory → IsRefused bytes.now refusal) }
+    ensures names { IsGrown names.old names.new }
 {
-    match script_text(bytes) {
-        Some(text) => read_lines(alloc, text),
-        None => Err(ScriptFault::NotYet),
+    match std::str::from_utf8(bytes) {
+        Ok(text) => read_text(alloc, text, names),
+        Err(error) => Err(Refusal::NotUtf8(error.valid_up_to())),
     }
 }
 
-/// The bytes as a text, where they are ASCII and not too many lines.
-fn script_text(bytes: &[u8]) -> Option<&str>
-    ensures same { IfSome result (λ text. text.now ≡ bytes.now) }
-    ensures fits { IsSome result ↔ (IsAscii bytes.now × (length (lines bytes.now) ≤ longest_script)) }
+/// The tree of the script that a text is.
+fn read_text(alloc: Global, text: &str, names: &mut Names) -> Result<Vec<Stmt>, Refusal>
+    ensures tree { IfOk result (λ v. IsScript text.now v.items) }
+    ensures one { IfOk result (λ v. (tree : List Stmt) → IsScript text.now tree → tree ≡ v.items) }
+    ensures refused { IfErr result (λ refusal. refusal ≢ Refusal.Memory → IsRefused text.now refusal) }
+    ensures names { IsGrown names.old names.new }
 {
-    let Ok(text) = std::str::from_utf8(bytes) else {
-        return None;
-    };
-    if text.is_ascii() && line_count(text) <= LONGEST_SCRIPT {
-        return Some(text);
-    }
-    None
+    let tokens = tokens(alloc, text, names)?;
+    statements(alloc, tokens.as_slice(), names)
 }
 
-/// How many lines a text has.
-fn line_count(text: &str) -> usize
-    ensures { result ≡ length (lines text.now) }
+/// The tree that tokens spell.
+fn statements(alloc: Global, tokens: &[Token], names: &Names) -> Result<Vec<Stmt>, Refusal>
+    requires held { AreHeld names.now (kinds tokens.now) }
+    ensures tree { IfOk result (λ v. Spells (forms names.now (kinds tokens.now)) v.items) }
+    ensures one { IfOk result (λ v. (tree : List Stmt) → Spells (forms names.now (kinds tokens.now)) tree → tree ≡ v.items) }
+    ensures refused { IfErr result (λ refusal.
+        OnNotYet refusal ((tree : List Stmt) → ¬ Spells (forms names.now (kinds tokens.now)) tree)) }
 {
-    text.lines().count()
-}
-
-/// The statements on the lines that have something on them.
-fn read_lines(alloc: Global, text: &str) -> Result<Vec<Stmt>, ScriptFault>
-    ensures tree { IfOk result (λ v. SpellsTree (filled_lines text.now) v.items) }
-    ensures not_yet { IsErrOf result ScriptFault.NotYet → (tree : List Stmt) → ¬ SpellsTree (filled_lines text.now) tree }
-{
-    let mut statements = Vec::new(alloc);
-    for line in text.lines() {
-        if !line.is_empty() {
-            statements.push(statement(alloc, line)?)?;
+    let mut found = Vec::new(alloc);
+    let mut rest = tokens;
+    'statements: while !is_end(rest) {
+        if found.len() >= LONGEST_SCRIPT {
+            return Err(Refusal::NotYet);
         }
+        let (statement, behind) = statement(alloc, rest, names)?;
+        found.push(statement)?;
+        rest = behind;
     }
-    Ok(statements)
+    Ok(found)
 }
 
-/// The statement that stands on a line.
-fn statement(alloc: Global, line: &str) -> Result<Stmt, ScriptFault>
-    ensures tree { IfOk result (SpellsStatement line.now) }
-    ensures not_yet { IsErrOf result ScriptFault.NotYet → (s : Stmt) → ¬ SpellsStatement line.now s }
+/// Whether nothing but the end of the text is left.
+fn is_end(tokens: &[Token]) -> bool
+    ensures { result ≡ is_end (kinds tokens.now) }
 {
-    match line.strip_prefix("print(") {
-        Some(rest) => print_statement(alloc, rest),
-        None => assignment(alloc, line),
+    matches!(
+        tokens,
+        [Token {
+            kind: TokenKind::End,
+            ..
+        }]
+    )
+}
+
+/// The statement at the front of some tokens, up to the end of its line, and what stands behind it.
+fn statement<'t>(
+    alloc: Global,
+    tokens: &'t [Token],
+    names: &Names,
+) -> Result<(Stmt, &'t [Token]), Refusal>
+    requires held { AreHeld names.now (kinds tokens.now) }
+    ensures gives { Gives (λ r. (r.0, kinds r.1.now)) result (statement_at names.now (kinds tokens.now)) }
+    ensures held { IfOk result (λ r. AreHeld names.now (kinds r.1.now)) }
+    ensures shorter { IfOk result (λ r. length r.1.now < length tokens.now) }
+{
+    match tokens {
+        [
+            Token {
+                kind: TokenKind::Name(name),
+                ..
+            },
+            rest @ ..,
+        ] => behind_name(alloc, *name, rest, names),
+        _ => Err(Refusal::NotYet),
     }
 }
 
-/// The statement on a line of which `rest` follows `print(`.
-fn print_statement(alloc: Global, rest: &str) -> Result<Stmt, ScriptFault>
-    ensures tree { IfOk result (SpellsStatement (codes "print(" ++ rest.now)) }
-    ensures not_yet { IsErrOf result ScriptFault.NotYet → (e : Expr) → ¬ SpellsStatement (codes "print(" ++ rest.now) (Stmt.Print e) }
+/// The statement that begins with a name, which the tokens follow, and what stands behind it.
+fn behind_name<'t>(
+    alloc: Global,
+    name: Name,
+    tokens: &'t [Token],
+    names: &Names,
+) -> Result<(Stmt, &'t [Token]), Refusal>
+    requires name { name.0 < length names.now }
+    requires held { AreHeld names.now (kinds tokens.now) }
+    ensures gives { Gives (λ r. (r.0, kinds r.1.now)) result (behind_name names.now name (kinds tokens.now)) }
+    ensures held { IfOk result (λ r. AreHeld names.now (kinds r.1.now)) }
+    ensures shorter { IfOk result (λ r. length r.1.now < length tokens.now) }
 {
-    let Some(value) = rest.strip_suffix(')') else {
-        return Err(ScriptFault::NotYet);
-    };
-    Ok(Stmt::Print(expression(alloc, value)?))
-}
-
-/// The statement on a line `NAME = E`.
-fn assignment(alloc: Global, line: &str) -> Result<Stmt, ScriptFault>
-    ensures tree { IfOk result (SpellsStatement line.now) }
-    ensures not_yet { IsErrOf result ScriptFault.NotYet → (x : List ℕ) (e : Expr) → ¬ SpellsStatement line.now (Stmt.Assign x e) }
-{
-    let Some((name, rest)) = line.split_once(' ') else {
-        return Err(ScriptFault::NotYet);
-    };
-    let Some(value) = rest.strip_prefix("= ") else {
-        return Err(ScriptFault::NotYet);
-    };
-    let name = script_name(alloc, name)?;
-    Ok(Stmt::Assign(name, expression(alloc, value)?))
-}
-
-/// The expression that a text spells: a number, `NAME.NAME` or a name.
-fn expression(alloc: Global, text: &str) -> Result<Expr, ScriptFault>
-    ensures tree { IfOk result (Spells text.now) }
-    ensures not_yet { IsErrOf result ScriptFault.NotYet → (e : Expr) → ¬ Spells text.now e }
-{
-    if let Some(number) = number(text) {
-        return Ok(Expr::Int(number));
+    match tokens {
+        [
+            Token {
+                kind: TokenKind::Equal,
+                ..
+            },
+            rest @ ..,
+        ] => assignment(alloc, name, rest, names),
+        [
+            Token {
+                kind: TokenKind::LeftParen,
+                ..
+            },
+            rest @ ..,
+        ] => call(alloc, name, rest, names),
+        _ => Err(Refusal::NotYet),
     }
-    match text.split_once('.') {
-        Some((object, name)) => attribute(alloc, object, name),
-        None => Ok(Expr::Name(script_name(alloc, text)?)),
+}
+
+/// The assignment to a target of which the tokens follow `=`, and what stands behind it.
+fn assignment<'t>(
+    alloc: Global,
+    target: Name,
+    tokens: &'t [Token],
+    names: &Names,
+) -> Result<(Stmt, &'t [Token]), Refusal>
+    requires target { target.0 < length names.now }
+    requires held { AreHeld names.now (kinds tokens.now) }
+    ensures gives { Gives (λ r. (r.0, kinds r.1.now)) result (assignment_at names.now target (kinds tokens.now)) }
+    ensures held { IfOk result (λ r. AreHeld names.now (kinds r.1.now)) }
+    ensures shorter { IfOk result (λ r. length r.1.now < length tokens.now) }
+{
+    let target = script_name(alloc, target, names)?;
+    let (value, rest) = expression(alloc, tokens, names)?;
+    let rest = behind_line(rest)?;
+    Ok((Stmt::Assign(target, value), rest))
+}
+
+/// The call of `print` of which the tokens follow `(`, and what stands behind it.
+fn call<'t>(
+    alloc: Global,
+    function: Name,
+    tokens: &'t [Token],
+    names: &Names,
+) -> Result<(Stmt, &'t [Token]), Refusal>
+    requires function { function.0 < length names.now }
+    requires held { AreHeld names.now (kinds tokens.now) }
+    ensures gives { Gives (λ r. (r.0, kinds r.1.now)) result (call_at names.now function (kinds tokens.now)) }
+    ensures held { IfOk result (λ r. AreHeld names.now (kinds r.1.now)) }
+    ensures shorter { IfOk result (λ r. length r.1.now < length tokens.now) }
+{
+    if !is_print(function, names) {
+        return Err(Refusal::NotYet);
+    }
+    let (value, rest) = expression(alloc, tokens, names)?;
+    let rest = behind_call(rest)?;
+    Ok((Stmt::Print(value), rest))
+}
+
+/// Whether a name is `print`.
+fn is_print(name: Name, names: &Names) -> bool
+    requires { name.0 < length names.now }
+    ensures { result ≡ same_text (word names.now name) (codes "print") }
+{
+    names.text(name) == "print"
+}
+
+/// What stands behind the end of a line.
+fn behind_line(tokens: &[Token]) -> Result<&[Token], Refusal>
+    ensures gives { Gives (λ rest. kinds rest.now) result (behind_line (kinds tokens.now)) }
+    ensures held { (names : List (List ℕ)) → AreHeld names (kinds tokens.now) → IfOk result (λ rest. AreHeld names (kinds rest.now)) }
+    ensures shorter { IfOk result (λ rest. length rest.now < length tokens.now) }
+{
+    match tokens {
+        [
+            Token {
+                kind: TokenKind::Newline,
+                ..
+            },
+            rest @ ..,
+        ] => Ok(rest),
+        _ => Err(Refusal::NotYet),
+    }
+}
+
+/// What stands behind a closing parenthesis and the end of a line.
+fn behind_call(tokens: &[Token]) -> Result<&[Token], Refusal>
+    ensures gives { Gives (λ rest. kinds rest.now) result (behind_call (kinds tokens.now)) }
+    ensures held { (names : List (List ℕ)) → AreHeld names (kinds tokens.now) → IfOk result (λ rest. AreHeld names (kinds rest.now)) }
+    ensures shorter { IfOk result (λ rest. length rest.now < length tokens.now) }
+{
+    match tokens {
+        [
+            Token {
+                kind: TokenKind::RightParen,
+                ..
+            },
+            Token {
+                kind: TokenKind::Newline,
+                ..
+            },
+            rest @ ..,
+        ] => Ok(rest),
+        _ => Err(Refusal::NotYet),
+    }
+}
+
+/// The expression at the front of some tokens, and what stands behind it.
+fn expression<'t>(
+    alloc: Global,
+    tokens: &'t [Token],
+    names: &Names,
+) -> Result<(Expr, &'t [Token]), Refusal>
+    requires held { AreHeld names.now (kinds tokens.now) }
+    ensures gives { Gives (λ r. (r.0, kinds r.1.now)) result (expression_at names.now (kinds tokens.now)) }
+    ensures held { IfOk result (λ r. AreHeld names.now (kinds r.1.now)) }
+    ensures shorter { IfOk result (λ r. length r.1.now < length tokens.now) }
+{
+    match tokens {
+        [
+            Token {
+                kind: TokenKind::Name(name),
+                ..
+            },
+            rest @ ..,
+        ] => name_or_attribute(alloc, *name, rest, names),
+        [
+            Token {
+                kind: TokenKind::Int(value @ 0..),
+                ..
+            },
+            rest @ ..,
+        ] => Ok((Expr::Int(*value), rest)),
+        _ => Err(Refusal::NotYet),
+    }
+}
+
+/// A name, or the read of an attribute of what it names, of which the tokens follow the name.
+fn name_or_attribute<'t>(
+    alloc: Global,
+    name: Name,
+    tokens: &'t [Token],
+    names: &Names,
+) -> Result<(Expr, &'t [Token]), Refusal>
+    requires name { name.0 < length names.now }
+    requires held { AreHeld names.now (kinds tokens.now) }
+    ensures gives { Gives (λ r. (r.0, kinds r.1.now)) result
+        (name_or_attribute names.now name (kinds tokens.now) (dotted_at (kinds tokens.now))) }
+    ensures held { IfOk result (λ r. AreHeld names.now (kinds r.1.now)) }
+    ensures shorter { IfOk result (λ r. length r.1.now ≤ length tokens.now) }
+{
+    match dotted(tokens) {
+        Some((attribute, rest)) => Ok((attribute_of(alloc, name, attribute, names)?, rest)),
+        None => Ok((Expr::Name(script_name(alloc, name, names)?), tokens)),
+    }
+}
+
+/// The name of an attribute behind a dot, and what stands behind it.
+fn dotted(tokens: &[Token]) -> Option<(Name, &[Token])>
+    ensures gives { option_map (λ r. (r.0, kinds r.1.now)) result ≡ dotted_at (kinds tokens.now) }
+    ensures held { (names : List (List ℕ)) → AreHeld names (kinds tokens.now)
+        → IfSome result (λ r. (r.0.0 < length names) × AreHeld names (kinds r.1.now)) }
+    ensures shorter { IfSome result (λ r. length r.1.now ≤ length tokens.now) }
+{
+    match tokens {
+        [
+            Token {
+                kind: TokenKind::Dot,
+                ..
+            },
+            Token {
+                kind: TokenKind::Name(name),
+                ..
+            },
+            rest @ ..,
+        ] => Some((*name, rest)),
+        _ => None,
     }
 }
 
 /// The read of an attribute of the object that `object` names.
-fn attribute(alloc: Global, object: &str, name: &str) -> Result<Expr, ScriptFault>
-    ensures same { IfOk result (λ e. e ≡ Expr.Attr object.now name.now None) }
-    ensures written { OnOk result (is_written (Expr.Attr object.now name.now None) ≡ true) }
-    ensures not_yet { IsErrOf result ScriptFault.NotYet → is_written (Expr.Attr object.now name.now None) ≡ false }
+fn attribute_of(alloc: Global, object: Name, name: Name, names: &Names) -> Result<Expr, Refusal>
+    requires object { object.0 < length names.now }
+    requires name { name.0 < length names.now }
+    ensures same { IfOk result (λ e. e ≡ Expr.Attr (word names.now object) (word names.now name) None) }
+    ensures written { OnOk result (is_written (Expr.Attr (word names.now object) (word names.now name) None) ≡ true) }
+    ensures refused { IfErr result (λ r. OnNotYet r (is_written (Expr.Attr (word names.now object) (word names.now name) None) ≡ false)) }
 {
-    let object = script_name(alloc, object)?;
+    let object = script_name(alloc, object, names)?;
+    let name = names.text(name);
     if !is_attribute_name(name) {
-        return Err(ScriptFault::NotYet);
+        return Err(Refusal::NotYet);
     }
-    let name = Text::new(alloc, name)?;
     Ok(Expr::Attr {
         object,
-        name,
+        name: Text::new(alloc, name)?,
         guard: None,
     })
 }
 
-/// A word as a text, where it is a name that a script may use.
-fn script_name(alloc: Global, word: &str) -> Result<Text, ScriptFault>
-    ensures same { IfOk result (λ t. t ≡ word.now) }
-    ensures written { OnOk result (is_script_name word.now ≡ true) }
-    ensures not_yet { IsErrOf result ScriptFault.NotYet → is_script_name word.now ≡ false }
+/// The text of a name that a script may use.
+fn script_name(alloc: Global, name: Name, names: &Names) -> Result<Text, Refusal>
+    requires { name.0 < length names.now }
+    ensures same { IfOk result (λ t. t ≡ word names.now name) }
+    ensures written { OnOk result (is_script_name (word names.now name) ≡ true) }
+    ensures refused { IfErr result (λ r. OnNotYet r (is_script_name (word names.now name) ≡ false)) }
 {
+    let word = names.text(name);
     if !is_script_name(word) {
-        return Err(ScriptFault::NotYet);
+        return Err(Refusal::NotYet);
     }
     Ok(Text::new(alloc, word)?)
-}
-
-/// The number that a text spells: 0, or 1 to 18 digits with no leading zero.
-fn number(text: &str) -> Option<i64>
-    ensures tree { IfSome result (λ n. Spells text.now (Expr.Int n)) }
-    ensures none { IfNone result ((n : ℤ) → ¬ Spells text.now (Expr.Int n)) }
-{
-    if !is_numeral(text) {
-        return None;
-    }
-    text.parse().ok()
-}
-
-fn is_numeral(text: &str) -> bool
-    ensures { result ≡ is_numeral text.now }
-{
-    !text.is_empty()
-        && text.len() <= LONGEST_NUMBER
-        && has_digits_alone(text)
-        && (text.len() == 1 || !text.starts_with("0"))
-}
-
-fn has_digits_alone(text: &str) -> bool
-    ensures { result ≡ list_all is_ascii_digit text.now }
-{
-    text.bytes().all(|byte| byte.is_ascii_digit())
 }

@@ -2,7 +2,7 @@ ghost use Rattle.std.specs.Prelude.{◌≡◌, ◌≢◌, ◌<◌, ◌∷◌, �
 ghost use Rattle.std.specs.Map.{lookup};
 ghost use Rattle.std.specs.Option.{option_copied, option_map_or};
 ghost use Rattle.rp_base.specs.Same.{same_text};
-ghost use Rattle.rp_decl.specs.Records.{object_view as declared_view};
+ghost use Rattle.rp_first.specs.Records.{object_view as declared_view};
 ghost use Rattle.rp_machine.specs.Access.{is_principal};
 ghost use Rattle.rp_machine.specs.Store.{IsPlaced, IsSafe, field_view, heap_of, is_own, object_view, placed, taken, taken_reference};
 
@@ -11,7 +11,7 @@ use crate::entry::Entry;
 use crate::lookup::value_at;
 use crate::object::Object;
 use rp_base::{Memory, Oid, Rock, Side, Text, Value};
-use rp_decl::{Decl, Field, ObjectDecl};
+use rp_first::{Decl, Field, ObjectDecl};
 use std::alloc::Global;
 use std::marker::Model;
 

@@ -1,10 +1,12 @@
 -- What the steps of a run say of the contents of its files.
-use Rattle.std.proofs.Common.{◌≡◌, ◌++◌, ◌∙◌, ℕ, Bool, true, false, List, map, codes, Option, Some, None, Result, Ok, Err, IfOk, IfSome, IsErrOf, Vec, Global, ap, sym, subst}
-use Rattle.rp_decl.specs.Declares.{Declares}
-use Rattle.rp_decl.specs.Records.{Declarations}
+use Rattle.std.proofs.Common.{◌≡◌, ◌++◌, ◌∙◌, ℕ, true, false, List, map, codes, Option, Some, None, Result, Ok, Err, IfOk, IfSome, Vec, Global, ap, subst}
+use Rattle.rp_first.specs.Declares.{Declares}
+use Rattle.rp_first.specs.Records.{Declarations}
 use Rattle.rp_machine.specs.Access.{is_principal}
 use Rattle.rp_machine.specs.Rewrites.{bare, Rewrites}
+use Rattle.rp_machine.specs.Refusal.{IsRefused, refusal_line}
 use Rattle.rp_machine.specs.Script.{IsScript}
+use Rattle.rp_machine.specs.declared.refusal.Refusal.{Refusal}
 use Rattle.rp_machine.specs.declared.tree.Stmt.{Stmt}
 use Rattle.rp_run.specs.Command.{Run}
 use Rattle.rp_run.specs.Contents.{Holds}
@@ -13,7 +15,7 @@ use Rattle.rp_run.specs.declared.reading.Contents.{Contents}
 use Rattle.rp_run.specs.declared.reading.Contents.TheVariants.{Whole, TooLong}
 use Rattle.rp_run.specs.declared.stop.Stop.{Stop}
 use Rattle.rp_run.specs.Output.{session_block, end_status}
-use Rattle.rp_run.specs.Told.{IsShort, IsTooLong, IsAdmitted, ToldRun, long_script, script_not_yet, ran, unknown_principal, too_long_line, principal_line, played}
+use Rattle.rp_run.specs.Told.{IsShort, IsTooLong, IsAdmitted, ToldRun, long_script, script_refused, ran, unknown_principal, too_long_line, principal_line, played}
 
 -- the file at a path is short, and these are its bytes
 abbrev pub IsWhole : Option (List ℕ → List ℕ) → List ℕ → List ℕ → Type 0
@@ -42,12 +44,12 @@ pub tells_long_script : (run : Run) (d : Declarations) (contents : Option (List 
 tells_long_script run d None text status long said ended = tt
 tells_long_script run d (Some of) text status long said ended = λ admitted. long_script d admitted long said ended
 
-pub tells_script_not_yet : (run : Run) (d : Declarations) (contents : Option (List ℕ → List ℕ)) (bytes text : List ℕ) (status : ℕ)
-    → IsWhole contents bytes run.script → ((source : List Stmt) → ¬ IsScript bytes source) → text ≡ codes "script 1: not yet\n" → status ≡ 4
+pub tells_refused : (run : Run) (d : Declarations) (contents : Option (List ℕ → List ℕ)) (bytes text : List ℕ) (refusal : Refusal) (status : ℕ)
+    → IsWhole contents bytes run.script → IsRefused bytes refusal → text ≡ codes "script 1: " ++ refusal_line refusal → status ≡ 4
     → TellsScript run d contents text status
-tells_script_not_yet run d None bytes text status whole none said ended = tt
-tells_script_not_yet run d (Some of) bytes text status whole none said ended =
-    λ admitted. script_not_yet d admitted whole.1 (subst (λ file. (source : List Stmt) → ¬ IsScript file source) whole.0 none) said ended
+tells_refused run d None bytes text refusal status whole refused said ended = tt
+tells_refused run d (Some of) bytes text refusal status whole refused said ended =
+    λ admitted. script_refused d admitted whole.1 refusal (subst (λ file. IsRefused file refusal) whole.0 refused) said ended
 
 pub tells_session : (run : Run) (d : Declarations) (contents : Option (List ℕ → List ℕ)) (bytes text : List ℕ) (script : List Stmt) (status : ℕ)
     → IsWhole contents bytes run.script → ((source : List Stmt) × (IsScript bytes source × Rewrites source script))

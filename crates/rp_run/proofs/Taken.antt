@@ -1,5 +1,5 @@
 -- How far a file is read.
-use Rattle.std.proofs.Common.{◌≡◌, ℕ, List, [], ◌++◌, ◌≤◌, arith, length, take, drop, Option, Some, None, option_map, IfSome, Result, Ok, Err, IfOk, Vec, Global, ap, subst, sym, ◌∙◌, refl, append_assoc, append-nil, length-append}
+use Rattle.std.proofs.Common.{◌≡◌, ℕ, List, [], ◌++◌, arith, length, take, drop, Option, Some, None, option_map, IfSome, Result, Ok, Err, IfOk, Vec, Global, ap, subst, sym, ◌∙◌, refl, append_assoc, append-nil, length-append}
 use Rattle.std.proofs.lemmas.List.{take-append-drop}
 use Rattle.std.proofs.lemmas.Option.{MatchOption-at_some}
 use Rattle.rp_base.specs.Reading.{ReadsFront}

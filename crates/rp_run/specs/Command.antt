@@ -2,7 +2,7 @@
 use Rattle.std.specs.Prelude.{ℕ, Bool, ◌&&◌, ◌==◌, not, nat_eq, nat_lt, if◌then◌else◌, List, [], ◌∷◌, ◌++◌, length, chars, codes, Option, Some, None}
 use Rattle.std.specs.List.{before_first, after_first, starts_with}
 use Rattle.std.specs.Cmp.Lexicographic.{pointwise}
-use Rattle.rp_decl.specs.Word.{is_id}
+use Rattle.rp_first.specs.Word.{is_id}
 
 -- run this script, under these declarations, for this principal: two paths and an id, as characters
 pub record Run : Type 0 where

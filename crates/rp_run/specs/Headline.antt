@@ -1,6 +1,6 @@
 -- What the program promises of its files and of what it writes.
-use Rattle.std.specs.Prelude.{◌≡◌, ◌≢◌, ◌<◌, ◌≤◌, ◌⊎◌, ℕ, List, ◌++◌, length, take, encode_utf8_all, Option, Some, None, option_map, MatchOption, IfSome}
-use Rattle.rp_decl.specs.Records.{Declarations}
+use Rattle.std.specs.Prelude.{◌≡◌, ◌≢◌, ◌<◌, ◌≤◌, ◌⊎◌, ℕ, List, ◌++◌, length, take, encode_utf8_all, Option, Some, None, option_map, IfSome}
+use Rattle.rp_first.specs.Records.{Declarations}
 use Rattle.rp_run.specs.Command.{Run}
 use Rattle.rp_run.specs.Told.{Told, IsAdmitted}
 

@@ -1,10 +1,12 @@
 -- What the program says to its words and the contents of the files that they name.
-use Rattle.std.specs.Prelude.{◌≡◌, ◌<◌, ◌≤◌, ℕ, Bool, true, false, List, [], ◌++◌, length, codes, MatchOption}
-use Rattle.rp_decl.specs.Declares.{Declares, DeclaresNothingYet, IsNoDocument}
-use Rattle.rp_decl.specs.Records.{Declarations}
+use Rattle.std.specs.Prelude.{◌≡◌, ◌<◌, ◌≤◌, ℕ, true, false, List, ◌++◌, length, codes, MatchOption}
+use Rattle.rp_first.specs.Declares.{Declares, DeclaresNothingYet, IsNoDocument}
+use Rattle.rp_first.specs.Records.{Declarations}
 use Rattle.rp_machine.specs.Access.{is_principal}
 use Rattle.rp_machine.specs.Meaning.{Outcome, run_script, first_state}
+use Rattle.rp_machine.specs.Refusal.{IsRefused, refusal_line}
 use Rattle.rp_machine.specs.Script.{IsScript}
+use Rattle.rp_machine.specs.declared.refusal.Refusal.{Refusal}
 use Rattle.rp_machine.specs.declared.tree.Stmt.{Stmt}
 use Rattle.rp_run.specs.Command.{Run, command_of, usage}
 use Rattle.rp_run.specs.Output.{session_block, end_status}
@@ -43,8 +45,8 @@ pub data ToldRun (run : Run) (contents : List ℕ → List ℕ) (text : List ℕ
   unknown_principal : IsShort (contents run.declarations) → (d : Declarations) → Declares (contents run.declarations) d → is_principal d run.who ≡ false
       → text ≡ principal_line run.who → status ≡ 3 → ToldRun run contents text status
   long_script : (d : Declarations) → IsAdmitted run contents d → IsTooLong (contents run.script) → text ≡ too_long_line run.script → status ≡ 9 → ToldRun run contents text status
-  script_not_yet : (d : Declarations) → IsAdmitted run contents d → IsShort (contents run.script) → ((source : List Stmt) → ¬ IsScript (contents run.script) source)
-      → text ≡ codes "script 1: not yet\n" → status ≡ 4 → ToldRun run contents text status
+  script_refused : (d : Declarations) → IsAdmitted run contents d → IsShort (contents run.script) → (refusal : Refusal) → IsRefused (contents run.script) refusal
+      → text ≡ codes "script 1: " ++ refusal_line refusal → status ≡ 4 → ToldRun run contents text status
   ran : (d : Declarations) → IsAdmitted run contents d → IsShort (contents run.script) → (source : List Stmt) → IsScript (contents run.script) source
       → text ≡ session_block 1 run.who (played run d source) → status ≡ end_status (played run d source).answer → ToldRun run contents text status
 

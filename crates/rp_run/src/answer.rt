@@ -1,12 +1,14 @@
-ghost use Rattle.std.specs.Prelude.{◌≡◌, ◌++◌, true, codes, chars, IfOk, OnOk};
+ghost use Rattle.std.specs.Prelude.{◌≡◌, ◌≢◌, ◌++◌, true, codes, chars, IfOk, OnOk};
 ghost use Rattle.std.specs.Char.{is_ascii};
 ghost use Rattle.std.specs.Fmt.{decimal};
 ghost use Rattle.std.specs.List.{list_all};
 ghost use Rattle.rp_base.specs.Kind.{kind_name};
+ghost use Rattle.rp_machine.specs.Refusal.{refusal_line};
 ghost use Rattle.rp_run.specs.Command.{usage};
 ghost use Rattle.rp_run.specs.Output.{detail, end_line, end_status};
 
 use rp_base::{Memory, Printed, Raised, Status, Text, Value};
+use rp_machine::{Refusal, refusal_text};
 use std::alloc::Global;
 
 /// What the program says where its words give no command.
@@ -69,6 +71,21 @@ impl Answer {
             text,
             status: Status(status),
         })
+    }
+
+    /// The answer to a script that is refused, behind a prefix. It is refused only for want of memory,
+    /// which may be the script's refusal.
+    pub fn refused(alloc: Global, prefix: &str, refusal: &Refusal) -> Result<Answer, Memory>
+        ensures said { IfOk result (λ a. (a.text ≡ chars prefix.now ++ refusal_line refusal.now) × (a.status.0 ≡ 4)) }
+        ensures other { OnOk result (refusal.now ≢ Refusal.Memory) }
+    {
+        match refusal {
+            Refusal::Memory => Err(Memory),
+            _ => Ok(Answer {
+                text: refusal_text(alloc, prefix, refusal)?,
+                status: Status(4),
+            }),
+        }
     }
 
     /// The block of a session: its number and principal, what it printed, and how it ended. It is

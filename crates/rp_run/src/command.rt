@@ -2,7 +2,7 @@ ghost use Rattle.std.specs.Prelude.{◌≡◌, ◌∷◌, [], true, false, map, 
 ghost use Rattle.rp_run.specs.Command.{Run, command_of, is_option, is_pair, id_of, path_of};
 
 use rp_base::{Memory, Text};
-use rp_decl::is_id;
+use rp_first::is_id;
 use std::alloc::Global;
 use std::marker::Model;
 

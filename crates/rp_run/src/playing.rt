@@ -1,5 +1,5 @@
 ghost use Rattle.std.specs.Prelude.{◌≡◌, ◌≢◌, ◌<◌, ◌≤◌, ◌+◌, [], true, map, Some, IfOk, IfSome, OnOk, IsErrOf};
-ghost use Rattle.rp_decl.specs.Declares.{Declares};
+ghost use Rattle.rp_first.specs.Declares.{Declares};
 ghost use Rattle.rp_machine.specs.Access.{is_principal};
 ghost use Rattle.rp_machine.specs.Rewrites.{bare};
 ghost use Rattle.rp_run.specs.Headline.{BeginsNamed, FailsAtNamed};
@@ -11,9 +11,9 @@ use crate::answer::Answer;
 use crate::command::Command;
 use crate::reading::{Contents, read_file};
 use crate::stop::Stop;
-use rp_base::{Files, Memory, OpEnd};
-use rp_decl::{Decl, DeclFault, declarations};
-use rp_machine::{Compiled, ScriptFault, Session, World, compile_script};
+use rp_base::{Files, Memory, Names, OpEnd};
+use rp_first::{Decl, DeclFault, declarations};
+use rp_machine::{Compiled, Session, World, compile_script};
 use std::alloc::Global;
 
 /// The number of the session that a command runs.
@@ -104,11 +104,13 @@ fn answer_script<F: Files>(
 {
     match read_file(alloc, files, command.script().copy()?)? {
         Contents::TooLong => Ok(Answer::labelled(alloc, "too long: ", command.script(), 9)?),
-        Contents::Whole(bytes) => match compile_script(alloc, bytes.as_slice()) {
-            Ok(script) => Ok(play(alloc, command, world, &script)?),
-            Err(ScriptFault::NotYet) => Ok(Answer::fixed(alloc, "script 1: not yet\n", 4)?),
-            Err(ScriptFault::Memory) => Err(Stop::Memory),
-        },
+        Contents::Whole(bytes) => {
+            let mut names = Names::new(alloc)?;
+            match compile_script(alloc, bytes.as_slice(), &mut names) {
+                Ok(script) => Ok(play(alloc, command, world, &script)?),
+                Err(refusal) => Ok(Answer::refused(alloc, "script 1: ", &refusal)?),
+            }
+        }
     }
 }
 

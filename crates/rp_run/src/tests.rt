@@ -178,7 +178,7 @@ fn says_what_the_words_and_the_files_mean(rt: HostRuntime) -> Result<(), Fail> {
             line: "run title.toml bob:s.py",
             declarations: TITLE,
             script: b"x\xFF",
-            said: "script 1: not yet\n",
+            said: "script 1: byte 1: not UTF-8\n",
             status: 4,
         },
         Case {
@@ -205,6 +205,63 @@ fn says_what_the_words_and_the_files_mean(rt: HostRuntime) -> Result<(), Fail> {
     ];
     for case in &cases {
         expect_said(&rt, rt.alloc(), case)?;
+    }
+    Ok(())
+}
+
+/// What is said where bob's script is run, with the status behind it.
+fn said_of(alloc: Global, script: &[u8]) -> Result<String, Fail> {
+    let mut files = SureFiles::new(file_list(alloc, TITLE, script)?);
+    let mut out = MemSink::new(alloc, AMPLE, AMPLE, Vec::new(alloc))?;
+    let Status(status) = run_title(alloc, &mut files, &mut out)?;
+    let said = std::str::from_utf8(out.bytes())?;
+    Ok(format!(in alloc; "{said}{status}")?)
+}
+
+#[test]
+fn says_why_a_script_is_refused(rt: HostRuntime) -> Result<(), Fail> {
+    for (script, said) in [
+        (
+            "if True:\n    x = 1\n  y = 2",
+            "line 3: dedent to no open column",
+        ),
+        ("x = 1\n\ty = 2", "line 2: tab in indentation"),
+        ("x = (1,", "line 1: not closed"),
+        ("x = 1.5", "line 1: bad number"),
+        ("x = 9223372036854775808", "line 1: bad number"),
+        ("x = 'a\\q'", "line 1: bad escape"),
+        ("x = 1 ? 2", "line 1: bad character"),
+        ("x = 1 + 2", "not yet"),
+        ("if True: pass", "not yet"),
+    ] {
+        let alloc = rt.alloc();
+        let want = format!(in alloc; "script 1: {said}\n4")?;
+        assert_eq!(rt; said_of(alloc, script.as_bytes())?.as_str(), want.as_str());
+    }
+    Ok(())
+}
+
+#[test]
+fn says_that_brackets_are_too_deep(rt: HostRuntime) -> Result<(), Fail> {
+    let script = vec![in rt.alloc(); b'('; 201]?;
+    let said = said_of(rt.alloc(), script.as_slice())?;
+    assert_eq!(rt; said.as_str(), "script 1: line 1: brackets too deep\n4");
+    Ok(())
+}
+
+#[test]
+fn runs_a_script_in_whatever_spacing(rt: HostRuntime) -> Result<(), Fail> {
+    for script in [
+        "\u{feff}print ( root . title )",
+        "# the title\r\n\r\n\u{ff58}=root\r\nprint(x.title) # here",
+        "x = 9223372036854775807\nprint(\n  root.title\n)\n",
+    ] {
+        let said = said_of(rt.alloc(), script.as_bytes())?;
+        assert_eq!(rt;
+            said.as_str(),
+            "session 1 bob\nHome\nend ok\n0",
+            "{script:?}"
+        );
     }
     Ok(())
 }
@@ -244,8 +301,8 @@ fn reads_files_of_4_mebibytes_and_no_longer_ones(rt: HostRuntime) -> Result<(), 
         alloc,
         TITLE,
         short.as_slice(),
-        "script 1: not yet\n",
-        4,
+        "session 1 bob\nend ok\n",
+        0,
     )?;
     expect_bytes_said(&rt, alloc, TITLE, long.as_slice(), "too long: s.py\n", 9)?;
     expect_bytes_said(

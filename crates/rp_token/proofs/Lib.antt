@@ -1,8 +1,12 @@
 pub mod Columns
 pub mod Held
+pub mod Laws
+pub mod LawsItems
+pub mod LawsRules
 pub mod Literals
 pub mod Numbers
 pub mod Places
 pub mod Rules
 pub mod Steps
 pub mod Texts
+pub mod Words

@@ -161,7 +161,7 @@ in_line-backslash s e = rw e refl
 pub in_line-token : (s : State) → is_blank (first s.left) ≡ false → (first s.left == 35) ≡ false → is_line_end (first s.left) ≡ false → (first s.left == 92) ≡ false → in_line s ≡ behind_token s
 unfolding in_line
 in_line-token s e f g h =
-    (λ k. if e k then Ok (record s { left = drop 1 s.left }) else if f k then Ok (record s { left = behind_run is_comment s.left })
+    (λ k. if e k then Ok (record s { left = behind_run is_blank s.left }) else if f k then Ok (record s { left = behind_run is_comment s.left })
     else if g k then behind_line_end s else if h k then joined s else behind_token s)
 
 -- the first step of a logical line, and the others

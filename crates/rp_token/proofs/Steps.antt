@@ -24,11 +24,11 @@ pub record IsBehind (least : ℕ) (whole rest : List ℕ) : Type 0 where
   pub some : least ≤ count
   pub is : rest ≡ drop count whole
 
-behind : (least n : ℕ) (cs : List ℕ) → least ≤ n → IsBehind least cs (drop n cs)
+pub behind : (least n : ℕ) (cs : List ℕ) → least ≤ n → IsBehind least cs (drop n cs)
 behind least n cs some = record { count = n; some = some; is = refl }
 
 -- what is left of what is left
-behind-behind : (least n : ℕ) (cs rest : List ℕ) → least ≤ n → IsBehind 0 (drop n cs) rest → IsBehind least cs rest
+pub behind-behind : (least n : ℕ) (cs rest : List ℕ) → least ≤ n → IsBehind 0 (drop n cs) rest → IsBehind least cs rest
 behind-behind least n cs rest some further = record { count = n + further.count; some = omega arith; is = further.is ∙ drop-drop further.count n cs }
 
 -- the rule leaves less, where it finds no fault
@@ -93,7 +93,7 @@ or_true true = refl
 or_true false = refl
 
 -- a word begins with what may continue it
-starts-continues : (c : ℕ) → is_start c ≡ true → is_xid_continue c ≡ true
+pub starts-continues : (c : ℕ) → is_start c ≡ true → is_xid_continue c ≡ true
 starts-continues c e = by (or_cases (c == 95) (is_xid_start c) e)
   where
     by : ((c == 95) ≡ true) ⊎ (is_xid_start c ≡ true) → is_xid_continue c ≡ true
@@ -131,7 +131,7 @@ passed-leaves c cs (closed value rest more) less = record { count = suc less.cou
 passed-leaves c cs unclosed less = tt
 passed-leaves c cs (bad_escape more) less = tt
 
-literal_behind-leaves : (quotes : List ℕ) (n : ℕ) (cs : List ℕ) → ReadingLeaves cs (literal_behind quotes n cs)
+pub literal_behind-leaves : (quotes : List ℕ) (n : ℕ) (cs : List ℕ) → ReadingLeaves cs (literal_behind quotes n cs)
 literal_behind-leaves quotes n [] = tt
 literal_behind-leaves quotes (suc n) (c ∷ cs) = passed-leaves c cs _ (literal_behind-leaves quotes n cs)
 literal_behind-leaves quotes zero (c ∷ cs) =
@@ -172,7 +172,7 @@ literal-leaves s =
     reading-leaves n _ s (opening-length s.left) (literal_behind-leaves (opening s.left) 0 (drop n s.left))
 
 -- what is found passes where all pass
-find-passes : (q p : List ℕ → Bool) (xs : List (List ℕ)) (m : List ℕ) → list_all q xs ≡ true → find p xs ≡ Some m → q m ≡ true
+pub find-passes : (q p : List ℕ → Bool) (xs : List (List ℕ)) (m : List ℕ) → list_all q xs ≡ true → find p xs ≡ Some m → q m ≡ true
 find-passes q p [] m all e = cc
 find-passes q p (x ∷ xs) m all e =
     by (find-passes q p xs m (and_parts (q x) (list_all q xs) all).1) (p x) e
@@ -205,13 +205,13 @@ token-leaves s some =
 in_line-leaves : (s : State) → 0 < length s.left → Leaves 1 s.left (in_line s)
 unfolding in_line
 in_line-leaves s some =
-    Leaves-if s.left (is_blank (first s.left)) _ _ (λ _. behind 1 1 s.left (omega arith))
+    Leaves-if s.left (is_blank (first s.left)) _ _ (run-left is_blank s.left some)
     (λ _. Leaves-if s.left (first s.left == 35) _ _ (λ e. run-left is_comment s.left some (rw (eqb-true (first s.left) 35 e) refl))
     (λ _. Leaves-if s.left (is_line_end (first s.left)) _ _ (line_end-leaves s)
     (λ _. Leaves-if s.left (first s.left == 92) _ _ (λ _. joined-leaves s) (λ _. token-leaves s some))))
 
 -- before a logical line nothing is taken
-closed_to-left : (n : ℕ) (rest : List ℕ) (line : ℕ) (columns : List ℕ) (s : State) → (closed_to n rest line columns s).left ≡ s.left
+pub closed_to-left : (n : ℕ) (rest : List ℕ) (line : ℕ) (columns : List ℕ) (s : State) → (closed_to n rest line columns s).left ≡ s.left
 closed_to-left n rest line [] s = refl
 closed_to-left n rest line (c ∷ cs) s = by (closed_to-left n rest line cs (with_token dedent rest rest line s)) (nat_lt n c)
   where
@@ -248,7 +248,7 @@ pub step-left : (s t : State) → 0 < length s.left → step s ≡ Ok t → IsBe
 step-left s t some is = subst (Leaves 1 s.left) is (step-leaves s some)
 
 -- how much was passed over
-drop-difference : (n : ℕ) (cs : List ℕ) → drop (length cs - length (drop n cs)) cs ≡ drop n cs
+pub drop-difference : (n : ℕ) (cs : List ℕ) → drop (length cs - length (drop n cs)) cs ≡ drop n cs
 drop-difference zero cs = let none : length cs - length cs ≡ 0 = omega arith in rw none refl
 drop-difference (suc n) [] = refl
 drop-difference (suc n) (c ∷ cs) =
@@ -260,7 +260,7 @@ tokens_from-passed zero s cs = refl
 tokens_from-passed (suc n) s [] = refl
 tokens_from-passed (suc n) s (c ∷ cs) = tokens_from-passed n s cs
 
-drop-behind : (n c : ℕ) (cs : List ℕ) → 1 ≤ n → drop n (c ∷ cs) ≡ drop (n - 1) cs
+pub drop-behind : (n c : ℕ) (cs : List ℕ) → 1 ≤ n → drop n (c ∷ cs) ≡ drop (n - 1) cs
 drop-behind zero c cs some = absurd (omega arith)
 drop-behind (suc n) c cs some = let less : suc n - 1 ≡ n = omega arith in rw less refl
 

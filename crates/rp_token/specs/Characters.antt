@@ -1,11 +1,16 @@
 -- Characters at the front of a text.
 use Rattle.std.specs.Prelude.{ℕ, Bool, ◌||◌, ◌==◌, not, if◌then◌else◌, List, [], ◌∷◌, length, take_while, drop}
+use Rattle.std.specs.List.{list_all}
 use Rattle.unicode_ident.specs.Ident.{is_xid_continue}
 
 -- the first character, and 0 where there is none
 abbrev pub first : List ℕ → ℕ
 first [] = 0
 first (c ∷ cs) = c
+
+-- none of the words begins with the character
+abbrev pub none_begins : ℕ → List (List ℕ) → Bool
+none_begins c words = list_all (λ w. not (first w == c)) words
 
 -- a blank that separates tokens
 abbrev pub is_blank : ℕ → Bool

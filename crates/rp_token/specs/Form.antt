@@ -21,11 +21,10 @@ pub record Item : Type 0 where
   pub to : ℕ
   pub line : ℕ
 
--- the marks, longest first
+-- the marks: those with one first character stand together, longer ones before their fronts
 abbrev pub marks : List (List ℕ)
 marks =
-    codes "**=" ∷ codes "//=" ∷ codes "<<=" ∷ codes ">>=" ∷ codes "**" ∷ codes "//" ∷ codes "<<" ∷ codes ">>" ∷ codes "<="
-    ∷ codes ">=" ∷ codes "==" ∷ codes "!=" ∷ codes "+=" ∷ codes "-=" ∷ codes "*=" ∷ codes "%=" ∷ codes "&=" ∷ codes "|="
-    ∷ codes "^=" ∷ codes "+" ∷ codes "-" ∷ codes "*" ∷ codes "%" ∷ codes "&" ∷ codes "|" ∷ codes "^" ∷ codes "~" ∷ codes "<"
-    ∷ codes ">" ∷ codes "=" ∷ codes "(" ∷ codes ")" ∷ codes "[" ∷ codes "]" ∷ codes "{" ∷ codes "}" ∷ codes "," ∷ codes ":"
-    ∷ codes "." ∷ codes ";" ∷ []
+    codes "**=" ∷ codes "**" ∷ codes "*=" ∷ codes "*" ∷ codes "//=" ∷ codes "//" ∷ codes "<<=" ∷ codes "<<" ∷ codes "<=" ∷ codes "<"
+    ∷ codes ">>=" ∷ codes ">>" ∷ codes ">=" ∷ codes ">" ∷ codes "==" ∷ codes "=" ∷ codes "!=" ∷ codes "+=" ∷ codes "+" ∷ codes "-="
+    ∷ codes "-" ∷ codes "%=" ∷ codes "%" ∷ codes "&=" ∷ codes "&" ∷ codes "|=" ∷ codes "|" ∷ codes "^=" ∷ codes "^" ∷ codes "~"
+    ∷ codes "(" ∷ codes ")" ∷ codes "[" ∷ codes "]" ∷ codes "{" ∷ codes "}" ∷ codes "," ∷ codes ":" ∷ codes "." ∷ codes ";" ∷ []

@@ -1,5 +1,6 @@
 pub mod Characters
 pub mod Form
+pub mod Laws
 pub mod Lexer
 pub mod Literal
 pub mod Number

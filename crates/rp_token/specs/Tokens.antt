@@ -174,11 +174,11 @@ behind_token s =
     if is_start c then behind_word s else if is_ascii_digit c then behind_number s
     else if (c == 39) || (c == 34) then behind_literal s else behind_mark s
 
--- within a line: a blank, a comment, a line end, a joining backslash, or a token
+-- within a line: blanks, a comment, a line end, a joining backslash, or a token
 unfoldable pub in_line : Rule
 in_line s =
     let c = first s.left in
-    if is_blank c then Ok (record s { left = drop 1 s.left })
+    if is_blank c then Ok (record s { left = behind_run is_blank s.left })
     else if c == 35 then Ok (record s { left = behind_run is_comment s.left })
     else if is_line_end c then behind_line_end s
     else if c == 92 then joined s else behind_token s

@@ -49,7 +49,8 @@ pub(crate) struct Lexer<'t> {
 }
 
 impl<'t> Lexer<'t> {
-    ghost use Rattle.std.specs.Prelude.{◌≡◌, ◌≤◌, ◌++◌, ◌==◌, List, ℕ, OnOk};
+    ghost use Rattle.std.specs.Prelude.{◌≡◌, ◌≤◌, ◌++◌, ◌==◌, List, ℕ, OnOk, true};
+    ghost use Rattle.rp_base.specs.Identifier.{is_start};
     ghost use Rattle.rp_token.specs.Characters.{first, line_end_length};
     ghost use Rattle.rp_token.specs.Lexer.{Gives, Goes, IsGrown, state};
     ghost use Rattle.rp_token.specs.Tokens.{begun, behind_line_end, behind_literal, behind_mark, behind_number, behind_token, behind_word, bracketed, closed_to, ending, in_line, indented, joined, start, step, taken, with_token};
@@ -110,7 +111,7 @@ impl<'t> Lexer<'t> {
         Ok(self.tokens)
     }
 
-    /// Within a line: a blank, a comment, a line end, a joining backslash, or a token.
+    /// Within a line: blanks, a comment, a line end, a joining backslash, or a token.
     #[tactic(auto, unfolding(crate::specs::Tokens::in_line))]
     fn in_line(&mut self, names: &mut Names) -> Result<(), TokenFault>
         ensures goes { (more : List (List ℕ)) → Goes (names.new ++ more) in_line result self.old self.new }
@@ -118,7 +119,8 @@ impl<'t> Lexer<'t> {
     {
         match first(self.rest) {
             ' ' | '\t' => {
-                self.rest = behind(self.rest);
+                let (_, rest) = Run::Blanks.split(self.rest);
+                self.rest = rest;
                 Ok(())
             }
             '#' => {
@@ -241,6 +243,7 @@ impl<'t> Lexer<'t> {
 
     #[tactic(auto, unfolding(crate::specs::Tokens::behind_word))]
     fn word(&mut self, names: &mut Names) -> Result<(), TokenFault>
+        requires { is_start (first (chars self.old.rest.now)) ≡ true }
         ensures goes { (more : List (List ℕ)) → Goes (names.new ++ more) behind_word result self.old self.new }
         ensures grown { IsGrown names.old names.new }
     {

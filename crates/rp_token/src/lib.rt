@@ -2,6 +2,7 @@
 #![tactic(auto)]
 
 ghost use Rattle.std.specs.Prelude.{All, IfOk, chars};
+ghost use Rattle.rp_token.specs.Laws.{BlocksEnd, EndsOnce, IsWithin, LieInOrder};
 ghost use Rattle.rp_token.specs.Lexer.{Gives, IsGrown};
 ghost use Rattle.rp_token.specs.View.{IsHeld};
 ghost use Rattle.rp_token.specs.Tokens.{tokens_of};
@@ -27,11 +28,18 @@ pub use token::{Token, TokenKind};
 /// The tokens of a text. Its words are interned among the names, which stay where they are and grow,
 /// whatever is answered; so each name in a token is held.
 ///
+/// The tokens end with their only END, lie in order between character boundaries of the text, end each block
+/// that they begin, and open at most 200 brackets at once.
+///
 /// # Errors
 /// The first fault of the text from the left, with its line from 1, or `Memory` where a growth was refused.
 pub fn tokens(alloc: Global, text: &str, names: &mut Names) -> Result<Vec<Token>, TokenFault>
     ensures tokens { Gives names.new (tokens_of (chars text.now)) result }
     ensures names { IsGrown names.old names.new }
+    ensures ends { IfOk result (λ found. EndsOnce found.items) }
+    ensures order { IfOk result (λ found. LieInOrder text.now 0 found.items) }
+    ensures blocks { IfOk result (λ found. BlocksEnd found.items) }
+    ensures brackets { IfOk result (λ found. IsWithin 200 0 found.items) }
     ensures held { IfOk result (λ found. All (IsHeld names.new) found.items) }
 {
     let mut lexer = Lexer::new(alloc, text);

@@ -1,23 +1,20 @@
-ghost use Rattle.std.specs.Prelude.{◌≡◌, ℕ, ◌<◌, [], List, MatchOption, None, chars, false, find, length, nat_eq, slice_index_or, true};
+ghost use Rattle.std.specs.Prelude.{◌≡◌, ℕ, ◌<◌, ◌≤◌, [], List, MatchOption, None, chars, drop, false, find, length, nat_eq, slice_index_or, take, true};
 ghost use Rattle.std.specs.List.{starts_with};
 ghost use Rattle.rp_base.specs.Keyword.{is_keyword, keywords};
+ghost use Rattle.rp_token.specs.Characters.{none_begins};
 ghost use Rattle.rp_token.specs.Form.{keyword, mark, marks};
 ghost use Rattle.rp_token.specs.View.{IsMark, form_view};
 
+use crate::text::first;
 use crate::token::TokenKind;
-
-/// How many keywords Python 3 has (Python Language Reference, "Keywords").
-const KEYWORDS: usize = 35;
-
-/// How many marks there are (Python Language Reference, "Operators" and "Delimiters").
-const MARKS: usize = 40;
 
 /// The keyword that a word is.
 pub(crate) fn keyword(word: &str) -> Option<TokenKind>
     ensures { MatchOption result (is_keyword (chars word.now) ≡ false)
         (λ kind. (is_keyword (chars word.now) ≡ true) × ((names : List (List ℕ)) → form_view names kind ≡ keyword (chars word.now))) }
 {
-    for place in 0..KEYWORDS {
+    let (begin, end) = keyword_places(first(word));
+    for place in begin..end {
         let (spelled, kind) = keyword_at(place);
         if spelled == word {
             return Some(kind);
@@ -31,7 +28,8 @@ pub(crate) fn mark(text: &str) -> Option<(TokenKind, &str)>
     ensures { let cs = chars text.now in
         MatchOption result (find (starts_with nat_eq cs) marks ≡ None) (λ r. IsMark (find (starts_with nat_eq cs) marks) cs r.0 r.1.now) }
 {
-    for place in 0..MARKS {
+    let (begin, end) = mark_places(first(text));
+    for place in begin..end {
         let (spelled, kind) = mark_at(place);
         if let Some(rest) = text.strip_prefix(spelled) {
             return Some((kind, rest));
@@ -40,7 +38,38 @@ pub(crate) fn mark(text: &str) -> Option<(TokenKind, &str)>
     None
 }
 
-/// A keyword by its place: its spelling, and the token.
+/// Where the keywords that begin with the letter stand: the place of the first, and that behind the last.
+fn keyword_places(letter: char) -> (usize, usize)
+    ensures order { result.0 ≤ result.1 }
+    ensures end { result.1 ≤ length keywords }
+    ensures before { none_begins letter (take result.0 keywords) ≡ true }
+    ensures behind { none_begins letter (drop result.1 keywords) ≡ true }
+{
+    match letter {
+        'F' => (0, 1),
+        'N' => (1, 2),
+        'T' => (2, 3),
+        'a' => (3, 8),
+        'b' => (8, 9),
+        'c' => (9, 11),
+        'd' => (11, 13),
+        'e' => (13, 16),
+        'f' => (16, 19),
+        'g' => (19, 20),
+        'i' => (20, 24),
+        'l' => (24, 25),
+        'n' => (25, 27),
+        'o' => (27, 28),
+        'p' => (28, 29),
+        'r' => (29, 31),
+        't' => (31, 32),
+        'w' => (32, 34),
+        'y' => (34, 35),
+        _ => (0, 0),
+    }
+}
+
+/// A keyword by its place, in the order of their first letters: its spelling, and the token.
 fn keyword_at(place: usize) -> (&'static str, TokenKind)
     requires { place < length keywords }
     ensures spelled { result.0.now ≡ slice_index_or keywords place [] }
@@ -85,7 +114,42 @@ fn keyword_at(place: usize) -> (&'static str, TokenKind)
     }
 }
 
-/// A mark by its place, longer ones before shorter: its spelling, and the token.
+/// Where the marks that begin with the character stand: the place of the first, and that behind the last.
+fn mark_places(letter: char) -> (usize, usize)
+    ensures order { result.0 ≤ result.1 }
+    ensures end { result.1 ≤ length marks }
+    ensures before { none_begins letter (take result.0 marks) ≡ true }
+    ensures behind { none_begins letter (drop result.1 marks) ≡ true }
+{
+    match letter {
+        '*' => (0, 4),
+        '/' => (4, 6),
+        '<' => (6, 10),
+        '>' => (10, 14),
+        '=' => (14, 16),
+        '!' => (16, 17),
+        '+' => (17, 19),
+        '-' => (19, 21),
+        '%' => (21, 23),
+        '&' => (23, 25),
+        '|' => (25, 27),
+        '^' => (27, 29),
+        '~' => (29, 30),
+        '(' => (30, 31),
+        ')' => (31, 32),
+        '[' => (32, 33),
+        ']' => (33, 34),
+        '{' => (34, 35),
+        '}' => (35, 36),
+        ',' => (36, 37),
+        ':' => (37, 38),
+        '.' => (38, 39),
+        ';' => (39, 40),
+        _ => (0, 0),
+    }
+}
+
+/// A mark by its place, those with one first character together, longer ones first: its spelling, and the token.
 fn mark_at(place: usize) -> (&'static str, TokenKind)
     requires { place < length marks }
     ensures spelled { result.0.now ≡ slice_index_or marks place [] }
@@ -93,35 +157,35 @@ fn mark_at(place: usize) -> (&'static str, TokenKind)
 {
     match place {
         0 => ("**=", TokenKind::DoubleStarEqual),
-        1 => ("//=", TokenKind::DoubleSlashEqual),
-        2 => ("<<=", TokenKind::LeftShiftEqual),
-        3 => (">>=", TokenKind::RightShiftEqual),
-        4 => ("**", TokenKind::DoubleStar),
+        1 => ("**", TokenKind::DoubleStar),
+        2 => ("*=", TokenKind::StarEqual),
+        3 => ("*", TokenKind::Star),
+        4 => ("//=", TokenKind::DoubleSlashEqual),
         5 => ("//", TokenKind::DoubleSlash),
-        6 => ("<<", TokenKind::LeftShift),
-        7 => (">>", TokenKind::RightShift),
+        6 => ("<<=", TokenKind::LeftShiftEqual),
+        7 => ("<<", TokenKind::LeftShift),
         8 => ("<=", TokenKind::LessEqual),
-        9 => (">=", TokenKind::GreaterEqual),
-        10 => ("==", TokenKind::EqualEqual),
-        11 => ("!=", TokenKind::NotEqual),
-        12 => ("+=", TokenKind::PlusEqual),
-        13 => ("-=", TokenKind::MinusEqual),
-        14 => ("*=", TokenKind::StarEqual),
-        15 => ("%=", TokenKind::PercentEqual),
-        16 => ("&=", TokenKind::AmperEqual),
-        17 => ("|=", TokenKind::VBarEqual),
-        18 => ("^=", TokenKind::CircumflexEqual),
-        19 => ("+", TokenKind::Plus),
+        9 => ("<", TokenKind::Less),
+        10 => (">>=", TokenKind::RightShiftEqual),
+        11 => (">>", TokenKind::RightShift),
+        12 => (">=", TokenKind::GreaterEqual),
+        13 => (">", TokenKind::Greater),
+        14 => ("==", TokenKind::EqualEqual),
+        15 => ("=", TokenKind::Equal),
+        16 => ("!=", TokenKind::NotEqual),
+        17 => ("+=", TokenKind::PlusEqual),
+        18 => ("+", TokenKind::Plus),
+        19 => ("-=", TokenKind::MinusEqual),
         20 => ("-", TokenKind::Minus),
-        21 => ("*", TokenKind::Star),
+        21 => ("%=", TokenKind::PercentEqual),
         22 => ("%", TokenKind::Percent),
-        23 => ("&", TokenKind::Amper),
-        24 => ("|", TokenKind::VBar),
-        25 => ("^", TokenKind::Circumflex),
-        26 => ("~", TokenKind::Tilde),
-        27 => ("<", TokenKind::Less),
-        28 => (">", TokenKind::Greater),
-        29 => ("=", TokenKind::Equal),
+        23 => ("&=", TokenKind::AmperEqual),
+        24 => ("&", TokenKind::Amper),
+        25 => ("|=", TokenKind::VBarEqual),
+        26 => ("|", TokenKind::VBar),
+        27 => ("^=", TokenKind::CircumflexEqual),
+        28 => ("^", TokenKind::Circumflex),
+        29 => ("~", TokenKind::Tilde),
         30 => ("(", TokenKind::LeftParen),
         31 => (")", TokenKind::RightParen),
         32 => ("[", TokenKind::LeftBracket),

@@ -43,8 +43,20 @@ fn repeated(alloc: Global, piece: &str, count: usize) -> Result<String, AllocErr
     Ok(out)
 }
 
+/// The tokens of a text, or its first fault. It has no contract, so the proofs of the tests stay short.
+fn read(alloc: Global, text: &str, names: &mut Names) -> Result<Vec<Token>, TokenFault> {
+    tokens(alloc, text, names)
+}
+
+/// The tokens of a text in a row.
+fn row_of(alloc: Global, text: &str) -> Result<String, Fail> {
+    let mut names = Names::new(alloc)?;
+    let found = read(alloc, text, &mut names)?;
+    Ok(shown(alloc, text, &names, found.as_slice())?)
+}
+
 #[test]
-fn texts_have_these_tokens(rt: HostRuntime) -> Result<(), Fail> {
+fn lines_and_blocks_have_these_tokens(rt: HostRuntime) -> Result<(), Fail> {
     let alloc = rt.alloc();
     for (text, expected) in [
         ("", "END "),
@@ -69,7 +81,17 @@ fn texts_have_these_tokens(rt: HostRuntime) -> Result<(), Fail> {
         ("if a:\n    \\\nb\n", "if a : NL IN b NL DE END "),
         ("x)]\n y", "x ) ] NL IN y NL DE END "),
         ("(]{)(}", "( ] { ) ( } NL END "),
-        // Numbers.
+    ] {
+        let row = row_of(alloc, text)?;
+        assert_eq!(rt; row.as_str(), expected, "at {text}");
+    }
+    Ok(())
+}
+
+#[test]
+fn numbers_words_and_marks_are_these_tokens(rt: HostRuntime) -> Result<(), Fail> {
+    let alloc = rt.alloc();
+    for (text, expected) in [
         (
             "0 00 0_0 7 1_0 9223372036854775807",
             "#0 #0 #0 #7 #10 #9223372036854775807 NL END ",
@@ -103,9 +125,7 @@ fn texts_have_these_tokens(rt: HostRuntime) -> Result<(), Fail> {
             "a ** * b . . . % & | ^ < > + - NL END ",
         ),
     ] {
-        let mut names = Names::new(alloc)?;
-        let found = tokens(alloc, text, &mut names)?;
-        let row = shown(alloc, text, &names, found.as_slice())?;
+        let row = row_of(alloc, text)?;
         assert_eq!(rt; row.as_str(), expected, "at {text}");
     }
     Ok(())
@@ -135,7 +155,7 @@ fn literals_stand_for_these_texts(rt: HostRuntime) -> Result<(), Fail> {
         ("'# \t\u{e9}'", "# \t\u{e9}"),
     ] {
         let mut names = Names::new(alloc)?;
-        let found = tokens(alloc, text, &mut names)?;
+        let found = read(alloc, text, &mut names)?;
         assert_eq!(rt; found.len(), 3, "at {text}");
         match &found[0].kind {
             TokenKind::Text(value) => assert_eq!(rt; value.as_str(), expected, "at {text}"),
@@ -196,7 +216,7 @@ fn texts_have_these_first_faults(rt: HostRuntime) -> Result<(), Fail> {
     ] {
         let mut names = Names::new(alloc)?;
         assert_eq!(rt;
-            tokens(alloc, text, &mut names).err(),
+            read(alloc, text, &mut names).err(),
             Some(fault),
             "at {text}"
         );
@@ -212,22 +232,26 @@ fn limits_hold_where_they_are_said(rt: HostRuntime) -> Result<(), Fail> {
     text.push_str(")\n(")?;
     let closers = repeated(alloc, "]", 200)?;
     text.push_str(closers.as_str())?;
-    let found = tokens(alloc, text.as_str(), &mut names)?;
-    assert_eq!(rt; found.len(), 404);
+    assert_eq!(rt; read(alloc, text.as_str(), &mut names)?.len(), 404);
     let deep = repeated(alloc, "(\n", 201)?;
     assert_eq!(rt;
-        tokens(alloc, deep.as_str(), &mut names).err(),
+        read(alloc, deep.as_str(), &mut names).err(),
         Some(TokenFault::Deep(Line(201)))
     );
     let held = names.len();
-    let longest = repeated(alloc, "a", 255)?;
-    assert_eq!(rt; tokens(alloc, longest.as_str(), &mut names).err(), None);
+    let mut longest = repeated(alloc, "a", 255)?;
+    assert_eq!(rt; read(alloc, longest.as_str(), &mut names).err(), None);
     let more = names.len();
     assert_eq!(rt; more - held.min(more), 1);
+    longest.push('a')?;
+    assert_eq!(rt;
+        read(alloc, longest.as_str(), &mut names).err(),
+        Some(TokenFault::BadChar(Line(1)))
+    );
     // 128 letters of two bytes each.
     let long = repeated(alloc, "\u{e9}", 128)?;
     assert_eq!(rt;
-        tokens(alloc, long.as_str(), &mut names).err(),
+        read(alloc, long.as_str(), &mut names).err(),
         Some(TokenFault::BadChar(Line(1)))
     );
     assert_eq!(rt; names.len(), more);
@@ -239,7 +263,7 @@ fn tokens_have_these_places_and_lines(rt: HostRuntime) -> Result<(), Fail> {
     let alloc = rt.alloc();
     let mut names = Names::new(alloc)?;
     let text = "\u{feff}if \u{e9}:\r\n  '''\n'''\r# c\n  \\\nx";
-    let found = tokens(alloc, text, &mut names)?;
+    let found = read(alloc, text, &mut names)?;
     let places = [
         (3, 5, 1),
         (6, 8, 1),
@@ -257,7 +281,7 @@ fn tokens_have_these_places_and_lines(rt: HostRuntime) -> Result<(), Fail> {
     for (token, (from, to, line)) in found.iter().zip(places) {
         assert_eq!(rt; (token.from, token.to, token.line.0), (from, to, line));
     }
-    let joined = tokens(alloc, "a:\n \\\n\\\r\n b\n\\\nc", &mut names)?;
+    let joined = read(alloc, "a:\n \\\n\\\r\n b\n\\\nc", &mut names)?;
     let lines = [1, 1, 1, 4, 4, 4, 6, 6, 6, 6];
     assert_eq!(rt; joined.len(), lines.len());
     for (token, line) in joined.iter().zip(lines) {

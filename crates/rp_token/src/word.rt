@@ -1,4 +1,6 @@
-ghost use Rattle.std.specs.Prelude.{◌≡◌, ◌++◌, ℕ, List, IfOk, chars, option_map};
+ghost use Rattle.std.specs.Prelude.{◌≡◌, ◌++◌, ℕ, List, IfOk, IsTrue, chars, false, option_map, true};
+ghost use Rattle.rp_base.specs.Identifier.{IsIdentifier, is_identifier};
+ghost use Rattle.rp_base.specs.Keyword.{is_keyword};
 ghost use Rattle.rp_token.specs.Lexer.{IsGrown};
 ghost use Rattle.rp_token.specs.Tokens.{word_form};
 ghost use Rattle.rp_token.specs.View.{form_view};
@@ -7,6 +9,9 @@ use crate::spelling::keyword;
 use crate::token::TokenKind;
 use rp_base::{Memory, Names, identifier, is_keyword};
 use std::alloc::Global;
+
+/// The most bytes of UTF-8 that an identifier has.
+const LONGEST: usize = 255;
 
 /// The keyword or the name that a word is: its form NFKC, which is an identifier of at most 255 bytes
 /// and no keyword. `None` where it is neither.
@@ -18,12 +23,34 @@ pub(crate) fn word_kind(
     word: &str,
     names: &mut Names,
 ) -> Result<Option<TokenKind>, Memory>
+    requires { is_identifier (chars word.now) ≡ true }
     ensures form { (more : List (List ℕ)) → IfOk result (λ kind. option_map (form_view (names.new ++ more)) kind ≡ word_form (chars word.now)) }
     ensures grown { IsGrown names.old names.new }
 {
     if let Some(kind) = keyword(word) {
         return Ok(Some(kind));
     }
+    if !is_plain(word) {
+        return name_of_form(alloc, word, names);
+    }
+    let name = names.intern(word)?;
+    Ok(Some(TokenKind::Name(name)))
+}
+
+/// Whether the word is ASCII, which is its own form, and short enough for an identifier.
+fn is_plain(word: &str) -> bool
+    requires { is_identifier (chars word.now) ≡ true }
+    ensures { IsTrue result → IsIdentifier (chars word.now) }
+{
+    word.is_ascii() && word.len() <= LONGEST
+}
+
+/// The name of the word's form, where it has one that is no keyword.
+fn name_of_form(alloc: Global, word: &str, names: &mut Names) -> Result<Option<TokenKind>, Memory>
+    requires { is_keyword (chars word.now) ≡ false }
+    ensures form { (more : List (List ℕ)) → IfOk result (λ kind. option_map (form_view (names.new ++ more)) kind ≡ word_form (chars word.now)) }
+    ensures grown { IsGrown names.old names.new }
+{
     let Some(form) = identifier(alloc, word)? else {
         return Ok(None);
     };

@@ -3,9 +3,11 @@ use Rattle.std.proofs.lemmas.List.{append-nil, length-drop, nil_from_length}
 use Rattle.std.proofs.lemmas.Str.{IsUtf8-had}
 use Rattle.rp_token.specs.declared.fault.TokenFault.{TokenFault}
 use Rattle.rp_token.specs.Form.{Item}
+use Rattle.rp_token.specs.Laws.{BlocksEnd, EndsOnce, IsWithin, LieInOrder}
 use Rattle.rp_token.specs.Lexer.{Gives, state}
 use Rattle.rp_token.specs.Tokens.{ending, step, tokens_from, tokens_of}
 use Rattle.rp_token.proofs.Held.{held_tokens}
+use Rattle.rp_token.proofs.Laws.{Laws, law, laws}
 use Rattle.rp_token.proofs.Rules.{Gives-fault, err_handed}
 use Rattle.rp_token.proofs.Steps.{step-left, tokens_from-fault, tokens_from-step}
 use Rattle.rp_token.proofs.Texts.{no_chars, not_empty, some_chars}
@@ -70,3 +72,23 @@ returns-clause-held c =
     λ k. tokens_from 0 (state (sym (append-nil c.steps.names) k) old) (chars old.rest.now) in
     held_tokens c.steps.names (tokens_of (chars c.args.text.now)) c.finish.result (λ more. given (c.steps.names ++ more) (c.steps.invariant.same more))
     (given c.steps.names (now ∙ c.steps.invariant.same []))
+
+pub returns-clause-ends : goal.returns-clause-ends
+returns-clause-ends c =
+    let all = laws c.steps.names c.args.text.now c.finish.result c.utf8.text (returns-clause-tokens c) in
+    law c.finish.result c.args.text.now (EndsOnce) (λ ts (l : Laws c.args.text.now ts). l.ends) all
+
+pub returns-clause-order : goal.returns-clause-order
+returns-clause-order c =
+    let all = laws c.steps.names c.args.text.now c.finish.result c.utf8.text (returns-clause-tokens c) in
+    law c.finish.result c.args.text.now (LieInOrder c.args.text.now 0) (λ ts (l : Laws c.args.text.now ts). l.order) all
+
+pub returns-clause-blocks : goal.returns-clause-blocks
+returns-clause-blocks c =
+    let all = laws c.steps.names c.args.text.now c.finish.result c.utf8.text (returns-clause-tokens c) in
+    law c.finish.result c.args.text.now (BlocksEnd) (λ ts (l : Laws c.args.text.now ts). l.blocks) all
+
+pub returns-clause-brackets : goal.returns-clause-brackets
+returns-clause-brackets c =
+    let all = laws c.steps.names c.args.text.now c.finish.result c.utf8.text (returns-clause-tokens c) in
+    law c.finish.result c.args.text.now (IsWithin 200 0) (λ ts (l : Laws c.args.text.now ts). l.brackets) all

@@ -1,5 +1,4 @@
 use Rattle.std.proofs.Common.{sym, ◌∙◌}
-use Rattle.rp_machine.proofs.Statements.{same_tree}
 use Rattle.rp_machine.proofs.Unmarked.{bare-tree}
 use Rattle.rp_machine.proofs.script.compile_script.Goals as goal
 
@@ -7,9 +6,9 @@ pub returns-clause-rewritten : goal.returns-clause-rewritten
 returns-clause-rewritten c =
     let tree = c.in_ok-source.ensures.tree in
     let rewritten = c.transform.ensures in
-    (c.in_ok-source.source.items, (tree, record { same = rewritten.same ∙ bare-tree _ tree.written; guarded = rewritten.guarded }))
+    (c.in_ok-source.source.items, (tree, record { same = rewritten.same ∙ bare-tree _ tree.spells.written; guarded = rewritten.guarded }))
 
 pub returns-clause-one : goal.returns-clause-one
 returns-clause-one c = λ source other.
     let tree = c.in_ok-source.ensures.tree in
-    c.transform.ensures.same ∙ (bare-tree _ tree.written ∙ same_tree _ _ tree.written other.written (sym tree.spelled ∙ other.spelled))
+    c.transform.ensures.same ∙ (bare-tree _ tree.spells.written ∙ sym (c.in_ok-source.ensures.one source other))

@@ -1,5 +1,5 @@
 use Rattle.std.proofs.Common.{◌≡◌, map, take}
-use Rattle.rp_decl.specs.Records.{object_view as declared_view}
+use Rattle.rp_first.specs.Records.{object_view as declared_view}
 use Rattle.rp_machine.specs.Store.{object_view, placed}
 use Rattle.rp_machine.proofs.world.place_all.Given as goal
 

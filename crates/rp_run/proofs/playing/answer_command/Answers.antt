@@ -1,5 +1,5 @@
-use Rattle.std.proofs.Common.{◌≡◌, ◌∙◌, IfOk, subst, inr}
-use Rattle.rp_decl.specs.Declares.{Declares}
+use Rattle.std.proofs.Common.{◌∙◌, IfOk, subst, inr}
+use Rattle.rp_first.specs.Declares.{Declares}
 use Rattle.rp_run.proofs.Sayings.{IsWhole, TellsDeclared, whole_read, tells_run, admitted_run}
 use Rattle.rp_run.proofs.playing.answer_command.Goals as goal
 

@@ -1,30 +1,36 @@
-use Rattle.std.proofs.Common.{◌≡◌, ◌∙◌, refl, sym, ap, nat_eq, get_or, [], chars, arith, true, false}
+use Rattle.std.proofs.Common.{◌≡◌, ◌∙◌, sym, ap, subst, take, drop, nat_eq, get_or, [], chars, arith, ℕ, true, false}
 use Rattle.std.specs.Cmp.Lexicographic.{pointwise, bytes_decides}
-use Rattle.std.proofs.lemmas.Str.{chars-IsAscii}
 use Rattle.rp_base.specs.Keyword.{keywords}
+use Rattle.rp_token.specs.Characters.{none_begins}
 use Rattle.rp_token.specs.Form.{keyword}
-use Rattle.rp_token.proofs.Places.{IsAscii-keyword, among-here, among-next, is_among, is_keyword-chars}
+use Rattle.rp_token.proofs.Places.{IsAscii-keyword, among-begin, among-end, among-here, among-next, is_among, pointwise-chars}
 use Rattle.rp_token.proofs.spelling.keyword.Goals as goal
 
 pub loop-place-init : goal.loop-place-init
-loop-place-init c = refl
+loop-place-init c =
+    among-begin (chars c.args.word.now) c.keyword_places-begin.result.0 (subst (λ n. none_begins n (take c.keyword_places-begin.result.0 keywords) ≡ true) c.first.ensures c.keyword_places-begin.ensures.before)
 
 pub loop-place-preserved : goal.loop-place-preserved
 loop-place-preserved c =
-    let other : pointwise nat_eq (get_or keywords c.loop-place.place []) c.args.word.now ≡ false = rw (← c.keyword_at-kind.ensures.spelled) (sym c.eq.ensures ∙ c.if-eq.false) in
-    among-next c.args.word.now c.loop-place.place c.loop-place-test.true other ∙ c.loop-place.invariant
+    let word = c.args.word.now in
+    let place = c.loop-place.place in
+    let spelled : pointwise nat_eq (get_or keywords place []) word ≡ false = rw (← c.keyword_at-kind.ensures.spelled) (sym c.eq.ensures ∙ c.if-eq.false) in
+    let other = sym (pointwise-chars (get_or keywords place []) word (IsAscii-keyword place) c.utf8.word) ∙ spelled in
+    among-next (chars word) place (omega arith) other ∙ c.loop-place.invariant
 
 pub returns-then-eq : goal.returns-then-eq
 returns-then-eq c =
     let word = c.args.word.now in
-    let here : pointwise nat_eq (get_or keywords c.loop-place.place []) word ≡ true = rw (← c.keyword_at-kind.ensures.spelled) (sym c.eq.ensures ∙ c.if-eq.true) in
-    let is : get_or keywords c.loop-place.place [] ≡ word = (bytes_decides _ word).0 here in
-    let ascii : chars word ≡ word = ap chars (sym is) ∙ chars-IsAscii _ (IsAscii-keyword c.loop-place.place) ∙ is in (
-      sym (is_keyword-chars word c.utf8.word) ∙ sym c.loop-place.invariant ∙ among-here word c.loop-place.place c.loop-place-test.true here,
-      λ names. c.keyword_at-kind.ensures.kind names ∙ ap keyword (is ∙ sym ascii),
+    let place = c.loop-place.place in
+    let spelled : pointwise nat_eq (get_or keywords place []) word ≡ true = rw (← c.keyword_at-kind.ensures.spelled) (sym c.eq.ensures ∙ c.if-eq.true) in
+    let here = sym (pointwise-chars (get_or keywords place []) word (IsAscii-keyword place) c.utf8.word) ∙ spelled in (
+      sym c.loop-place.invariant ∙ among-here (chars word) place (omega arith) here,
+      λ names. c.keyword_at-kind.ensures.kind names ∙ ap keyword ((bytes_decides _ (chars word)).0 here),
     )
 
 pub returns : goal.returns
 returns c =
-    let ended : c.loop-place.place ≡ 35 = omega arith in
-    sym (is_keyword-chars c.args.word.now c.utf8.word) ∙ sym c.loop-place.invariant ∙ ap (is_among c.args.word.now) ended
+    let word = chars c.args.word.now in
+    let end = c.keyword_places-begin.result.1 in
+    let ended : c.loop-place.place ≡ end = omega arith in
+    sym c.loop-place.invariant ∙ ap (is_among word) ended ∙ among-end word end (subst (λ (n : ℕ). none_begins n (drop end keywords) ≡ true) c.first.ensures c.keyword_places-begin.ensures.behind)

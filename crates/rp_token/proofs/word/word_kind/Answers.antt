@@ -1,21 +1,10 @@
-use Rattle.std.proofs.Common.{◌≡◌, ◌∙◌, sym, ap, chars, true, false, Some}
-use Rattle.rp_base.specs.Keyword.{is_keyword}
-use Rattle.rp_base.specs.Identifier.{identifier_of}
+use Rattle.std.proofs.Common.{◌∙◌, rules, sym, ap, chars, Some}
 use Rattle.rp_token.specs.Form.{name}
-use Rattle.rp_token.proofs.Places.{is_keyword-chars}
-use Rattle.rp_token.proofs.Rules.{held_among, word_form-name, word_form-refused}
+use Rattle.rp_token.proofs.Rules.{held_among, word_form-name}
 use Rattle.rp_token.proofs.word.word_kind.Goals as goal
-
-pub returns-then-is_keyword-clause-form : goal.returns-then-is_keyword-clause-form
-returns-then-is_keyword-clause-form c =
-    let word = chars c.args.word.now in
-    let is : identifier_of word ≡ Some c.in-Some-2.form = sym c.in_ok-form.ensures.form ∙ c.in-Some-2.is in
-    let refused : is_keyword c.in-Some-2.form ≡ true = ap is_keyword (sym c.as_str.ensures) ∙ sym (is_keyword-chars c.as_str.result.now c.as_str.utf8) ∙ sym c.is_keyword.ensures ∙ c.if-is_keyword.true in
-    λ more. sym (word_form-refused word c.in-Some-2.form c.in_default.ensures is refused)
 
 pub returns-clause-form : goal.returns-clause-form
 returns-clause-form c =
     let word = chars c.args.word.now in
-    let is : identifier_of word ≡ Some c.in-Some-2.form = sym c.in_ok-form.ensures.form ∙ c.in-Some-2.is in
-    let other : is_keyword c.in-Some-2.form ≡ false = ap is_keyword (sym c.as_str.ensures) ∙ sym (is_keyword-chars c.as_str.result.now c.as_str.utf8) ∙ sym c.is_keyword.ensures ∙ c.if-is_keyword.false in
-    λ more. ap (λ w. Some (name w)) (held_among c.intern.new.self more c.in_ok-name.name.0 _ c.in_ok-name.ensures.place ∙ c.as_str-2.ensures) ∙ sym (word_form-name word c.in-Some-2.form c.in_default.ensures is other)
+    λ more. ap (λ w. Some (name w)) (held_among c.intern.new.self more c.in_ok-name.name.0 _ c.in_ok-name.ensures.place)
+    ∙ sym (word_form-name word word c.in_default.ensures (c.is_plain.ensures (search rules)) c.in_default.ensures)

@@ -1,7 +1,7 @@
 use Rattle.std.proofs.Common.{◌≡◌, sym, ◌∙◌, rules}
 use Rattle.std.specs.List.{position}
 use Rattle.rp_base.specs.Same.{same_text}
-use Rattle.rp_decl.specs.Records.{object_view}
+use Rattle.rp_first.specs.Records.{object_view}
 use Rattle.rp_machine.proofs.Searches.{position-map}
 use Rattle.rp_machine.proofs.world.World.place_of.Goals as goal
 

@@ -3,7 +3,11 @@ use Rattle.rp_token.specs.Lexer.{state}
 use Rattle.rp_token.specs.Tokens.{word_form}
 use Rattle.rp_token.specs.View.{form_view}
 use Rattle.rp_token.proofs.Rules.{behind_word-taken}
+use Rattle.rp_token.proofs.Words.{is_identifier-run}
 use Rattle.rp_token.proofs.lexer.Lexer.word.Goals as goal
+
+pub word_kind-requires : goal.word_kind-requires
+word_kind-requires c = rw c.split.ensures.run (is_identifier-run (chars c.args.self.now.rest.now) c.requires)
 
 pub returns-in_ok-take-in-Some-clause-goes : goal.returns-in_ok-take-in-Some-clause-goes
 returns-in_ok-take-in-Some-clause-goes c =

@@ -1,0 +1,33 @@
+use Rattle.std.specs.Map.{lookup}
+use Rattle.std.proofs.Common.{arith}
+use Rattle.rp_store.specs.Key.{same_name}
+use Rattle.rp_store.specs.Object.{Content}
+use Rattle.rp_store.specs.Parts.{methods}
+use Rattle.rp_store.specs.Writers.{with_method}
+use Rattle.rp_store.proofs.HeapLemmas.{cells-view, grown-view, not_over, on_err, same-view}
+use Rattle.rp_store.proofs.store.Store.set_method.Goals as goal
+
+pub returns-in_err-cells-clause-same : goal.returns-in_err-cells-clause-same
+returns-in_err-cells-clause-same c =
+    on_err c.from_residual.result _ (same-view c.self.inside.slots.items c.self.inside.used c.self.inside.limit c.args.self.now c.self.view_is c.args.at c.index_mut.result.now c.index_mut.ensures.value
+    c.set_method.new.self c.in_err-cells.ensures.same)
+
+pub overflow_add-self : goal.overflow_add-self
+overflow_add-self c =
+    let cells = cells-view c.self.inside.slots.items c.self.inside.used c.self.inside.limit c.args.self.now c.self.view_is c.args.at c.index_mut.result.now c.index_mut.ensures.value
+    (λ (o : Content). lookup (same_name c.args.name) (methods o)) c.in_ok-cells.cells c.requires.held c.in_ok-cells.ensures.cells in
+    let within = not_over c.self.inside.slots.items c.self.inside.used c.self.inside.limit c.args.self.now c.self.view_is c.is_over_for_method.result c.in_ok-cells.cells _ c.if-is_over_for_method.false c.is_over_for_method.ensures cells in
+    omega arith
+
+pub invariant_of-self-2 : goal.invariant_of-self-2
+invariant_of-self-2 c =
+    let cells = cells-view c.self.inside.slots.items c.self.inside.used c.self.inside.limit c.args.self.now c.self.view_is c.args.at c.index_mut.result.now c.index_mut.ensures.value
+    (λ (o : Content). lookup (same_name c.args.name) (methods o)) c.in_ok-cells.cells c.requires.held c.in_ok-cells.ensures.cells in
+    not_over c.self.inside.slots.items c.self.inside.used c.self.inside.limit c.args.self.now c.self.view_is c.is_over_for_method.result c.in_ok-cells.cells _ c.if-is_over_for_method.false c.is_over_for_method.ensures cells
+
+pub returns-clause-set : goal.returns-clause-set
+returns-clause-set c =
+    let cells = cells-view c.self.inside.slots.items c.self.inside.used c.self.inside.limit c.args.self.now c.self.view_is c.args.at c.index_mut.result.now c.index_mut.ensures.value
+    (λ (o : Content). lookup (same_name c.args.name) (methods o)) c.in_ok-cells.cells c.requires.held c.in_ok-cells.ensures.cells in
+    grown-view c.self.inside.slots.items c.self.inside.used c.self.inside.limit c.args.self.now c.self.view_is c.args.at c.index_mut.result.now c.index_mut.ensures.value
+    c.set_method.new.self (with_method c.args.name c.args.function) c.in_ok-cells.cells _ c.in_ok-cells.ensures.ok cells

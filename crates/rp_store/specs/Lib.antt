@@ -1,0 +1,9 @@
+pub mod Cost
+pub mod Heap
+pub mod Kept
+pub mod Key
+pub mod Object
+pub mod Parts
+pub mod Store
+pub mod View
+pub mod Writers
