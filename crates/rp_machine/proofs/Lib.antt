@@ -1,15 +1,10 @@
-pub mod Found
-pub mod Lists
-pub mod Names
-pub mod Outcomes
-mod Safe
-pub mod Same
-mod Scripts
-mod Searches
-pub mod Spelled
-mod Texts
-mod Tokenized
-pub mod Trees
-pub mod Unmarked
-mod Verdicts
-mod Words
+pub mod Decided
+pub mod Exposed
+pub mod Fields
+pub mod Loaded
+pub mod Named
+pub mod Places
+pub mod Safe
+pub mod Scenes
+pub mod Scripts
+pub mod Words

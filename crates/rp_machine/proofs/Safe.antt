@@ -1,15 +1,28 @@
 -- What a script may hold stays so.
-use Rattle.std.proofs.Common.{◌≡◌, ◌≢◌, ℕ, ◌<◌, Bool, true, false, cond, List, [], ◌∷◌, length, Option, None, Some, refl, sym, subst}
+use Rattle.std.proofs.Common.{◌≡◌, ◌≢◌, ℕ, ◌<◌, Bool, true, false, cond, ◌==◌, if◌then◌else◌, List, [], ◌∷◌, length, nat_eq, eq-eqb, Option, None, Some, refl, sym, ap, ◌∙◌, subst, arith}
 use Rattle.std.specs.List.{slice_get}
 use Rattle.std.specs.Map.{lookup}
-use Rattle.std.specs.Option.{IfSome, IsSomeAnd}
+use Rattle.std.specs.Option.{IfSome, IsSomeAnd, option_map, option_map_or}
+use Rattle.std.proofs.lemmas.Bool.{true≢false}
+use Rattle.std.proofs.lemmas.Bool.Decides.{nat_tests}
 use Rattle.std.proofs.lemmas.Option.{slice_get_within}
-use Rattle.indexmap.specs.IndexMap.{insert_entry}
+use Rattle.rp_dict.specs.Dict.{insert_entry}
+use Rattle.rp_base.specs.Same.{same_text}
+use Rattle.rp_base.specs.declared.value.Oid.{Oid}
+use Rattle.rp_base.specs.declared.value.Side.{Side}
 use Rattle.rp_base.specs.declared.value.Value.{Value}
 use Rattle.rp_base.specs.declared.value.Value.TheVariants as value
-use Rattle.rp_base.specs.Same.{same_text}
-use Rattle.rp_machine.specs.Store.{Placed, IsSafe, AreSafe, IsPlaced, heap_of}
-use Rattle.rp_machine.specs.World.{Scene, Player, IsConfined}
+use Rattle.rp_proxy.specs.Taken as proxy
+use Rattle.rp_store.specs.Heap.{Owned}
+use Rattle.rp_machine.proofs.Loaded.{placed_at, placed_view, there}
+use Rattle.rp_machine.specs.Store.{Placed, AreSafe, IsPlaced, IsSafe, is_own, taken, taken_reference}
+use Rattle.rp_machine.specs.World.{heap_view}
+
+one_number : (a b : ℕ) → nat_eq a b ≡ true → a ≡ b
+one_number a b e = grind (arith, nat_tests)
+
+apart_from_zero : (n : ℕ) → 0 < n → nat_eq n 0 ≡ false
+apart_from_zero n h = grind (arith, nat_tests)
 
 -- a variable's value is one that the script may hold
 pub IsSafe-lookup : (heap : List Placed) (side : ℕ) (test : List ℕ → Bool) (vs : List (List ℕ × Value)) (v : Value) → AreSafe heap side vs → Some v ≡ lookup test vs → IsSafe heap side v
@@ -41,11 +54,36 @@ IsPlaced-IsSafe heap side (value.Rock r) safe = tt
 IsPlaced-IsSafe heap side (value.Ref at) safe = within (λ o. o.owner ≡ side) heap at.0 safe
 IsPlaced-IsSafe heap side (value.Prox at) safe = within (λ o. o.owner ≢ side) heap at.0 safe
 
--- what is decided changes nothing of it
-pub IsConfined-declarations : (old new : Scene) (player : Player) → new.declarations ≡ old.declarations → IsConfined old player → IsConfined new player
-IsConfined-declarations old new player same confined =
-    record { script = confined.script; safe = rw same confined.safe }
+-- by the test of its owner
+owned : (heap : List Placed) (side : ℕ) (at : Oid) (o : Placed) → slice_get heap at.0 ≡ Some o → (b : Bool) → (o.owner == side) ≡ b → IsSafe heap side (if b then value.Ref at else value.Prox at)
+owned heap side at o e true same = let one : o.owner ≡ side = one_number o.owner side same in rw e one
+owned heap side at o e false other = let apart : o.owner ≢ side = λ one. absurd (true≢false (sym (eq-eqb o.owner side one) ∙ other)) in rw e apart
 
-pub IsConfined-bind : (scene : Scene) (player : Player) (x : List ℕ) (v : Value) → IsConfined scene player → IsSafe (heap_of scene.declarations) player.number v → IsConfined scene (record player { variables = insert_entry same_text player.variables x v })
-IsConfined-bind scene player x v confined fits =
-    record { script = confined.script; safe = AreSafe-insert_entry _ _ player.variables x v confined.safe fits }
+reference-safe : (heap : List Placed) (side : ℕ) (at : Oid) → at.0 < length heap → IsSafe heap side (taken_reference heap side at)
+reference-safe heap side at inside =
+    let (o, e) = there heap at.0 inside in
+    let test : is_own heap side at ≡ (o.owner == side) = ap (λ (found : Option Placed). option_map_or (λ o. o.owner == side) found false) e in
+    subst (λ (b : Bool). IsSafe heap side (if b then value.Ref at else value.Prox at)) (sym test) (owned heap side at o e (o.owner == side) refl)
+
+-- what a script takes it may hold
+pub taken-safe : (heap : List Placed) (side : ℕ) (v : Value) → 0 < side → IsPlaced heap v → IsSafe heap side (taken heap side v)
+taken-safe heap side (value.Rock r) script placed = tt
+taken-safe heap side (value.Ref at) script placed = let apart : (side == 0) ≡ false = apart_from_zero side script in rw apart (reference-safe heap side at placed)
+taken-safe heap side (value.Prox at) script placed = let apart : (side == 0) ≡ false = apart_from_zero side script in rw apart (reference-safe heap side at placed)
+
+owns-view : (names : List (List ℕ)) (heap : List Owned) (side : Side) (at : Oid) → proxy.owns heap side at ≡ is_own (heap_view names heap) side.0 at
+owns-view names heap side at = by (slice_get heap at.0) ∙ ap (λ (found : Option Placed). option_map_or (λ o. o.owner == side.0) found false) (sym (placed_at names heap at.0))
+  where
+    by : (found : Option Owned) → option_map_or (λ (owner : Side). nat_eq owner.0 side.0) (option_map (λ (o : Owned). o.owner) found) false ≡ option_map_or (λ (o : Placed). o.owner == side.0) (option_map (placed_view names heap) found) false
+    by None = refl
+    by (Some o) = refl
+
+rock-taken : (b : Bool) (v : Value) → (if b then v else v) ≡ v
+rock-taken true v = refl
+rock-taken false v = refl
+
+-- what the program hands to a side is what is meant
+pub taken-view : (names : List (List ℕ)) (heap : List Owned) (side : Side) (v : Value) → proxy.taken heap side v ≡ taken (heap_view names heap) side.0 v
+taken-view names heap side (value.Rock r) = rock-taken (nat_eq side.0 0) (value.Rock r)
+taken-view names heap side (value.Ref at) = λ k. if nat_eq side.0 0 then value.Ref at else (if owns-view names heap side at k then value.Ref at else value.Prox at)
+taken-view names heap side (value.Prox at) = λ k. if nat_eq side.0 0 then value.Prox at else (if owns-view names heap side at k then value.Ref at else value.Prox at)

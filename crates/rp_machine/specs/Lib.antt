@@ -1,9 +1,4 @@
-pub mod Access
+pub mod Code
 pub mod Meaning
-pub mod Reading
-pub mod Refusal
-pub mod Reserved
-pub mod Rewrites
-pub mod Script
 pub mod Store
 pub mod World

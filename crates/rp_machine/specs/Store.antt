@@ -1,5 +1,5 @@
 -- Objects, and what code of a side may hold of them.
-use Rattle.std.specs.Prelude.{◌≡◌, ◌≢◌, ◌<◌, ℕ, Bool, false, ◌==◌, if◌then◌else◌, List, length, map, slice_get, IsSomeAnd}
+use Rattle.std.specs.Prelude.{◌≡◌, ◌≢◌, ◌<◌, ℕ, Bool, false, ◌==◌, if◌then◌else◌, List, [], ◌++◌, length, map, slice_get, IsSomeAnd}
 use Rattle.std.specs.Option.{option_map_or}
 use Rattle.std.specs.List.{AllByRecursion}
 use Rattle.rp_base.specs.declared.value.Oid.{Oid}
@@ -7,34 +7,45 @@ use Rattle.rp_base.specs.declared.value.Rock.{Rock}
 use Rattle.rp_base.specs.declared.value.Rock.TheVariants as rock
 use Rattle.rp_base.specs.declared.value.Value.{Value}
 use Rattle.rp_base.specs.declared.value.Value.TheVariants as value
-use Rattle.rp_first.specs.declared.records.Field.{Field}
-use Rattle.rp_first.specs.declared.records.Field.TheVariants as field
-use Rattle.rp_first.specs.Records.{Declarations, Object as Declared}
-use Rattle.rp_machine.specs.declared.object.Object.{Object}
+use Rattle.rp_decl.specs.Records.{Field, int, text, truth, list, table, Object, Declarations}
 
--- an object of the store: the side that owns it, its class and its fields
+-- what an object of the store is: a class with its name, or an instance of a class with its fields
+pub data Thing : Type 0 where
+  class : List ℕ → Thing
+  instance : List ℕ → List (List ℕ × Rock) → Thing
+
+-- an object with the side that owns it
 pub record Placed : Type 0 where
   pub owner : ℕ
-  pub class : List ℕ
-  pub fields : List (List ℕ × Rock)
+  pub thing : Thing
 
-abbrev pub object_view : Object → Placed
-object_view o = record { owner = o.owner.0; class = o.class; fields = o.fields.items }
+abbrev pub fields : Thing → List (List ℕ × Rock)
+fields (class name) = []
+fields (instance of fs) = fs
 
+-- the value of a declared field; the other forms are not run yet
 abbrev pub field_rock : Field → Rock
-field_rock (field.Int n) = rock.Int n
-field_rock (field.Text t) = rock.Text t
+field_rock (int n) = rock.Int n
+field_rock (text t) = rock.Text t
+field_rock (truth b) = rock.Nil
+field_rock (list xs) = rock.Nil
+field_rock (table xs) = rock.Nil
 
-abbrev pub field_view : List ℕ × Field → List ℕ × Rock
-field_view f = (f.0, field_rock f.1)
+-- a declared object as an instance of its class
+abbrev pub instance_of : Object → Thing
+instance_of o = instance o.class (map (λ f. (f.0, field_rock f.1)) o.fields)
 
--- a declared object in the store, owned by trusted code
-abbrev pub placed : Declared → Placed
-placed o = record { owner = 0; class = o.class; fields = map field_view o.fields }
+-- owned by trusted code
+abbrev pub trusted : Thing → Placed
+trusted thing = record { owner = 0; thing = thing }
 
--- the store at the beginning: the declared objects in their order
+-- the store at the beginning: the declared classes and then the declared objects, in their order
 abbrev pub heap_of : Declarations → List Placed
-heap_of d = map placed d.objects
+heap_of d = map (λ c. trusted (class c.name)) d.classes ++ map (λ o. trusted (instance_of o)) d.objects
+
+-- the names of the objects in the store
+abbrev pub global_names : Declarations → List (List ℕ)
+global_names d = map (λ c. c.name) d.classes ++ map (λ o. o.name) d.objects
 
 -- the object at the place is owned by the side
 abbrev pub is_own : List Placed → ℕ → Oid → Bool

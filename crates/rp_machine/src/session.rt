@@ -1,184 +1,174 @@
-ghost use Rattle.std.specs.Prelude.{◌≡◌, ◌<◌, ◌++◌, [], true, map, chars, codes, fold, IfOk, OnOk, OnErr, IsErrOf};
-ghost use Rattle.indexmap.specs.IndexMap.{insert_entry};
-ghost use Rattle.rp_base.specs.Same.{same_text};
-ghost use Rattle.rp_machine.specs.Meaning.{attribute, decide, eval, exec, expose, field_at, first_state, on_value, read_name, run_script, shown};
-ghost use Rattle.rp_machine.specs.Rewrites.{bare, bare_expression, is_guarded, is_guarded_expression};
-ghost use Rattle.rp_machine.specs.Store.{AreSafe, IsPlaced, IsSafe, heap_of};
-ghost use Rattle.rp_machine.specs.World.{Ends, IsConfined, IsCrossed, SameSetting, state_of};
+ghost use Rattle.std.specs.Prelude.{◌≡◌, true, chars, codes, map, IfOk, OnOk};
+ghost use Rattle.std.specs.List.{All};
+ghost use Rattle.rp_base.specs.Names.{first_words};
+ghost use Rattle.rp_compile.specs.Rewrites.{is_guarded, is_guarded_expression};
+ghost use Rattle.rp_compile.specs.View.{IsExpressionHeld, IsStatementHeld, expression_view, statement_view};
+ghost use Rattle.rp_decl.specs.Places.{IsHeld};
+ghost use Rattle.rp_decl.specs.View.{declarations_view, name_text};
+ghost use Rattle.rp_proxy.specs.Held.{IsValueHeld};
+ghost use Rattle.rp_trail.specs.View.{trail_view};
+ghost use Rattle.rp_machine.specs.Meaning.{attribute_of, decide, eval, exec, field_at, first_state, on_value, print_value, read_name, run_script};
+ghost use Rattle.rp_machine.specs.Store.{AreSafe, IsPlaced, IsSafe};
+ghost use Rattle.rp_machine.specs.World.{Ends, IsBegun, SameSetting};
 
-use crate::entry::Entry;
-use crate::lookup::value_at;
-use crate::script::Compiled;
-use crate::tree::{Expr, Guard, Stmt};
-use crate::world::World;
-use crate::{decide, show};
-use indexmap::IndexMap;
-use rp_base::{Kind, Memory, Oid, OpEnd, Printed, Raised, Rock, Side, Text, Value};
+use crate::exposing::exposed;
+use crate::show::line_of;
+use rp_base::{Kind, Memory, Name, Oid, Op, OpEnd, Raised, Rock, Text, Value};
+use rp_compile::{Compiled, Expr, Guard, Stmt};
+use rp_dict::Dict;
+use rp_proxy::{World, cross};
+use rp_store::StoreFault;
+use rp_trail::Entry;
 use std::alloc::Global;
 use std::marker::Model;
 
-/// One run of a script: its number, which is the side of its code, its principal, its variables and what
-/// it has printed.
+/// The name that printing a value reads, `__str__`: its place among the words of operations.
+const STR: Name = Name(9);
+
+/// One run of a script in a world: the world's running session is a script's, and these are its variables.
 #[derive(Drop)]
 pub struct Session {
     alloc: Global,
-    number: u32,
-    who: Text,
-    variables: IndexMap<Text, Value>,
-    printed: Printed,
-    /// The name that printing a value reads.
-    str_method: Text,
+    world: World,
+    variables: Dict<Name, Value>,
 }
 
 impl Model for Session {
-    ghost use Rattle.std.specs.Prelude.{◌≡◌, codes};
-    ghost use Rattle.rp_machine.specs.World.{Player};
+    ghost use Rattle.std.specs.Coded.{codes};
+    ghost use Rattle.rp_machine.specs.Code.{coded_field};
+    ghost use Rattle.rp_machine.specs.World.{IsConfined, Scene, scene_of};
 
-    ghost Value = { Player };
+    ghost Value = { Scene };
 
-    ghost view = { λ s. record { number = s.number; who = s.who; variables = s.variables.entries; printed = s.printed } };
+    ghost coded = { Prim.hlevel (codes, coded_field) };
 
-    ghost invariant = { λ s. s.str_method ≡ codes "__str__" };
+    ghost view = { λ s. scene_of s.world s.variables };
+
+    ghost invariant = { λ s. IsConfined s.world s.variables };
 }
 
 impl Session {
-    /// A session before its first statement. Its variables are the exposed names.
+    /// The session before its first statement. Its variables are the exposed names.
     ///
     /// # Errors
-    /// Where a growth was refused.
-    pub fn new(alloc: Global, world: &World, number: u32, who: Text) -> Result<Session, Memory>
-        requires { 0 < number }
-        ensures begins { IfOk result (λ s. state_of (record world.now { log = [] }) s ≡ first_state world.now.declarations number who) }
-        ensures safe { IfOk result (λ s. IsConfined world.now s) }
-        ensures number { IfOk result (λ s. s.number ≡ number) }
+    /// `Memory` where a growth was refused.
+    pub fn new(alloc: Global, world: World) -> Result<Session, Memory>
+        requires begun { IsBegun world }
+        ensures begins { IfOk result (λ s. s ≡ record {
+          names = world.names;
+          declarations = declarations_view world.names world.decl;
+          state = first_state (declarations_view world.names world.decl) world.store.limit world.running.session world.running.interaction.ids;
+        }) }
     {
+        let variables = exposed(alloc, &world)?;
         Ok(Session {
             alloc,
-            number,
-            who,
-            variables: exposed(alloc, world, Side(number))?,
-            printed: Printed::new(alloc),
-            str_method: str_method(alloc)?,
+            world,
+            variables,
         })
     }
 
-    /// Hands a value back where a name of it may be read. Through a proxy the reading is decided, and the
-    /// decision is logged.
+    /// Hands a value back where a name of it may be read. Through a proxy the reading is decided, for one
+    /// cell, and the decision is logged (zope.security: proxies).
     ///
     /// # Errors
-    /// `Raised` with `Unauthorized` or `ForbiddenAttribute` where the reading is not allowed; `Memory` where
-    /// a growth was refused, and then the world is as before.
-    pub fn cross(&self, world: &mut World, value: Value, name: &Text) -> Result<Value, OpEnd>
-        requires { IsPlaced (heap_of world.old.declarations) value }
-        ensures meaning { Ends result (decide world.old.declarations value name.now (state_of world.old self.now)) (state_of world.new self.now) }
+    /// `Raised` with `Unauthorized` or `ForbiddenAttribute` where the reading is not allowed, `StopCells`
+    /// where no cell is left, `Memory` where a growth was refused.
+    fn cross(&mut self, value: Value, name: Name) -> Result<Value, OpEnd>
+        requires placed { IsPlaced self.old.state.heap value }
+        requires held { IsHeld self.old.names name }
+        ensures meaning { Ends result (decide self.old.declarations value (name_text self.old.names name) self.old.state) self.new.state }
         ensures same { IfOk result (λ v. v ≡ value) }
-        ensures crossed { IfOk result (IsCrossed world.old world.new self.now name.now) }
-        ensures memory { IsErrOf result OpEnd.Memory → world.new ≡ world.old }
-        ensures setting { world.new.declarations ≡ world.old.declarations }
+        ensures setting { SameSetting self.old self.new }
     {
-        match value {
-            Value::Rock(rock) => Ok(Value::Rock(rock)),
-            Value::Ref(at) => Ok(Value::Ref(at)),
-            Value::Prox(at) => self.cross_proxy(world, at, name),
-        }
-    }
-
-    fn cross_proxy(&self, world: &mut World, at: Oid, name: &Text) -> Result<Value, OpEnd>
-        requires { IsPlaced (heap_of world.old.declarations) (Value.Prox at) }
-        ensures meaning { Ends result (decide world.old.declarations (Value.Prox at) name.now (state_of world.old self.now)) (state_of world.new self.now) }
-        ensures same { IfOk result (λ v. v ≡ Value.Prox at) }
-        ensures crossed { OnOk result (IsCrossed world.old world.new self.now name.now (Value.Prox at)) }
-        ensures memory { IsErrOf result OpEnd.Memory → world.new ≡ world.old }
-        ensures setting { world.new.declarations ≡ world.old.declarations }
-    {
-        let Some(object) = world.object(at) else {
-            unreachable!()
-        };
-        let class = object.class.copy()?;
-        let verdict = decide::verdict_of(world.declarations(), &self.who, &class, name)?;
-        let refusal = decide::refusal_of(&verdict, name)?;
-        let name = name.copy()?;
-        world.add_entry(Entry {
-            session: self.number,
-            class,
-            name,
-            verdict,
-        })?;
-        match refusal {
-            None => Ok(Value::Prox(at)),
-            Some(raised) => Err(OpEnd::Raised(raised)),
-        }
+        cross(self.alloc, &mut self.world, &value, Op::Get(name))?;
+        Ok(value)
     }
 
     /// Reads an attribute at a mark: a proxy is crossed first.
     ///
     /// # Errors
     /// As `cross`, and `Raised` with `AttributeError` where the value has no such attribute.
-    pub fn attribute(&self, world: &mut World, value: Value, name: &Text) -> Result<Value, OpEnd>
-        requires { IsPlaced (heap_of world.old.declarations) value }
-        ensures meaning { Ends result (on_value (decide world.old.declarations value name.now (state_of world.old self.now)) (λ v s. attribute v name.now s)) (state_of world.new self.now) }
-        ensures crossed { OnOk result (IsCrossed world.old world.new self.now name.now value) }
-        ensures safe { IfOk result (IsSafe (heap_of world.old.declarations) self.now.number) }
-        ensures setting { world.new.declarations ≡ world.old.declarations }
+    fn attribute(&mut self, value: Value, name: Name) -> Result<Value, OpEnd>
+        requires placed { IsPlaced self.old.state.heap value }
+        requires held { IsHeld self.old.names name }
+        ensures meaning { Ends result (on_value (decide self.old.declarations value (name_text self.old.names name) self.old.state) (λ v s. attribute_of v (name_text self.old.names name) s)) self.new.state }
+        ensures safe { IfOk result (IsSafe self.new.state.heap self.new.state.session) }
+        ensures setting { SameSetting self.old self.new }
     {
-        let crossed = self.cross(world, value, name)?;
-        self.read_attribute(world, &crossed, name)
+        let value = self.cross(value, name)?;
+        self.read_attribute(&value, name)
     }
 
     /// The attribute itself.
-    fn read_attribute(&self, world: &World, value: &Value, name: &Text) -> Result<Value, OpEnd>
-        ensures meaning { Ends result (attribute value.now name.now (state_of world.now self.now)) (state_of world.now self.now) }
-        ensures safe { IfOk result (IsSafe (heap_of world.now.declarations) self.now.number) }
+    fn read_attribute(&self, value: &Value, name: Name) -> Result<Value, OpEnd>
+        requires placed { IsPlaced self.now.state.heap value.now }
+        requires held { IsHeld self.now.names name }
+        ensures meaning { Ends result (attribute_of value.now (name_text self.now.names name) self.now.state) self.now.state }
+        ensures safe { IfOk result (IsSafe self.now.state.heap self.now.state.session) }
     {
         match value {
-            Value::Rock(_) => Err(raised(Kind::AttributeError, name)?),
-            Value::Ref(at) => self.read_field(world, *at, name),
-            Value::Prox(at) => self.read_field(world, *at, name),
+            Value::Rock(_) => Err(self.raised(Kind::AttributeError, name)?),
+            Value::Ref(at) => self.read_field(*at, name),
+            Value::Prox(at) => self.read_field(*at, name),
         }
     }
 
-    fn read_field(&self, world: &World, at: Oid, name: &Text) -> Result<Value, OpEnd>
-        ensures meaning { Ends result (field_at at name.now (state_of world.now self.now)) (state_of world.now self.now) }
-        ensures safe { IfOk result (IsSafe (heap_of world.now.declarations) self.now.number) }
+    fn read_field(&self, at: Oid, name: Name) -> Result<Value, OpEnd>
+        requires placed { IsPlaced self.now.state.heap (Value.Ref at) }
+        requires held { IsHeld self.now.names name }
+        ensures meaning { Ends result (field_at at (name_text self.now.names name) self.now.state) self.now.state }
+        ensures safe { IfOk result (IsSafe self.now.state.heap self.now.state.session) }
     {
-        match world.field(at, name) {
-            Some(rock) => Ok(Value::Rock(rock.copy()?)),
-            None => Err(raised(Kind::AttributeError, name)?),
+        match self.world.store.object(at).field(name) {
+            Some(value) => Ok(value.copy()?),
+            None => Err(self.raised(Kind::AttributeError, name)?),
         }
     }
 
     /// The value of a variable.
-    fn read_name(&self, world: &World, name: &Text) -> Result<Value, OpEnd>
-        requires { AreSafe (heap_of world.now.declarations) self.now.number self.now.variables }
-        ensures meaning { Ends result (read_name name.now (state_of world.now self.now)) (state_of world.now self.now) }
-        ensures safe { IfOk result (IsSafe (heap_of world.now.declarations) self.now.number) }
+    fn read_name(&self, name: Name) -> Result<Value, OpEnd>
+        requires held { IsHeld self.now.names name }
+        ensures meaning { Ends result (read_name (name_text self.now.names name) self.now.state) self.now.state }
+        ensures safe { IfOk result (IsSafe self.now.state.heap self.now.state.session) }
     {
-        match self.variables.get(name) {
+        match self.variables.get(&name) {
             Some(value) => Ok(value.copy()?),
-            None => Err(raised(Kind::NameError, name)?),
+            None => Err(self.raised(Kind::NameError, name)?),
         }
     }
 
+    /// The exception of the kind with a name as its text.
+    fn raised(&self, kind: Kind, name: Name) -> Result<OpEnd, Memory>
+        requires held { IsHeld self.now.names name }
+        ensures { IfOk result (λ end. end ≡ OpEnd.Raised (record { kind = kind; text = name_text self.now.names name })) }
+    {
+        Ok(OpEnd::Raised(Raised {
+            kind,
+            text: Text::new(self.alloc, self.world.names.text(name))?,
+        }))
+    }
+
     /// The value of an expression.
-    fn eval(&self, world: &mut World, expression: &Expr) -> Result<Value, OpEnd>
-        requires safe { IsConfined world.old self.now }
-        requires guarded { is_guarded_expression expression.now ≡ true }
-        ensures meaning { Ends result (eval world.old.declarations (bare_expression expression.now) (state_of world.old self.now)) (state_of world.new self.now) }
-        ensures safe { IfOk result (IsSafe (heap_of world.old.declarations) self.now.number) }
-        ensures setting { world.new.declarations ≡ world.old.declarations }
+    fn eval(&mut self, expression: Expr) -> Result<Value, OpEnd>
+        requires guarded { is_guarded_expression expression ≡ true }
+        requires held { IsExpressionHeld self.old.names expression }
+        ensures meaning { Ends result (eval self.old.declarations (expression_view self.old.names expression) self.old.state) self.new.state }
+        ensures safe { IfOk result (IsSafe self.new.state.heap self.new.state.session) }
+        ensures setting { SameSetting self.old self.new }
     {
         match expression {
-            Expr::Int(number) => Ok(Value::Rock(Rock::Int(*number))),
-            Expr::Name(name) => self.read_name(world, name),
+            Expr::Int(number) => Ok(Value::Rock(Rock::Int(number))),
+            Expr::Name(name) => self.read_name(name),
             Expr::Attr {
                 object,
                 name,
                 guard,
             } => {
-                let value = self.read_name(world, object)?;
+                let value = self.read_name(object)?;
                 match guard {
-                    Some(Guard::GetAttr) => self.attribute(world, value, name),
-                    None => self.read_attribute(world, &value, name),
+                    Some(Guard::GetAttr) => self.attribute(value, name),
+                    None => self.read_attribute(&value, name),
                 }
             }
         }
@@ -187,138 +177,104 @@ impl Session {
     /// Runs one statement.
     ///
     /// # Errors
-    /// `Raised` with the exception that ends the session, `Memory` where a growth was refused.
-    pub fn statement(&mut self, world: &mut World, statement: &Stmt) -> Result<Value, OpEnd>
-        requires safe { IsConfined world.old self.old }
+    /// `Raised` with the exception that ends the session, `StopCells` where no cell is left, `Memory` where a
+    /// growth was refused.
+    pub fn statement(&mut self, statement: &Stmt) -> Result<Value, OpEnd>
         requires guarded { is_guarded statement.now ≡ true }
-        ensures meaning { Ends result (exec world.old.declarations (bare statement.now) (state_of world.old self.old)) (state_of world.new self.new) }
-        ensures safe { IsConfined world.new self.new }
-        ensures setting { SameSetting world.old self.old world.new self.new }
+        requires held { IsStatementHeld self.old.names statement.now }
+        ensures meaning { Ends result (exec self.old.declarations (statement_view self.old.names statement.now) self.old.state) self.new.state }
+        ensures setting { SameSetting self.old self.new }
+        ensures safe { AreSafe self.new.state.heap self.new.state.session self.new.state.variables }
+    {
+        let end = self.run(statement);
+        // The variables hold what a script may hold.
+        let _variables = &self.variables;
+        end
+    }
+
+    fn run(&mut self, statement: &Stmt) -> Result<Value, OpEnd>
+        requires guarded { is_guarded statement.now ≡ true }
+        requires held { IsStatementHeld self.old.names statement.now }
+        ensures meaning { Ends result (exec self.old.declarations (statement_view self.old.names statement.now) self.old.state) self.new.state }
+        ensures setting { SameSetting self.old self.new }
     {
         match statement {
-            Stmt::Assign(name, expression) => self.assign(world, name, expression),
-            Stmt::Print(expression) => self.print(world, expression),
+            Stmt::Assign(name, expression) => self.assign(*name, *expression),
+            Stmt::Print(expression) => self.print(*expression),
         }
     }
 
-    fn assign(&mut self, world: &mut World, name: &Text, expression: &Expr) -> Result<Value, OpEnd>
-        requires safe { IsConfined world.old self.old }
-        requires guarded { is_guarded_expression expression.now ≡ true }
-        ensures meaning { Ends result (exec world.old.declarations (Stmt.Assign name.now (bare_expression expression.now)) (state_of world.old self.old)) (state_of world.new self.new) }
-        ensures safe { IsConfined world.new self.new }
-        ensures setting { SameSetting world.old self.old world.new self.new }
+    fn assign(&mut self, name: Name, expression: Expr) -> Result<Value, OpEnd>
+        requires guarded { is_guarded_expression expression ≡ true }
+        requires held { IsStatementHeld self.old.names (Stmt.Assign name expression) }
+        ensures meaning { Ends result (exec self.old.declarations (statement_view self.old.names (Stmt.Assign name expression)) self.old.state) self.new.state }
+        ensures setting { SameSetting self.old self.new }
     {
-        let value = self.eval(world, expression)?;
-        self.bind(name, value)?;
+        let value = self.eval(expression)?;
+        self.variables.set(name, value).map_err(Memory::from)?;
         Ok(Value::Rock(Rock::Nil))
     }
 
-    fn bind(&mut self, name: &Text, value: Value) -> Result<(), Memory>
-        ensures bound { OnOk result (self.new ≡ record self.old { variables = insert_entry same_text self.old.variables name.now value }) }
-        ensures same { OnErr result (self.new ≡ self.old) }
+    fn print(&mut self, expression: Expr) -> Result<Value, OpEnd>
+        requires guarded { is_guarded_expression expression ≡ true }
+        requires held { IsStatementHeld self.old.names (Stmt.Print expression) }
+        ensures meaning { Ends result (exec self.old.declarations (statement_view self.old.names (Stmt.Print expression)) self.old.state) self.new.state }
+        ensures setting { SameSetting self.old self.new }
     {
-        self.variables.insert(name.copy()?, value)?;
-        Ok(())
+        // The names begin with the words of operations.
+        let _world = &self.world;
+        let value = self.eval(expression)?;
+        let value = self.cross(value, STR)?;
+        self.print_value(&value)
     }
 
-    fn print(&mut self, world: &mut World, expression: &Expr) -> Result<Value, OpEnd>
-        requires safe { IsConfined world.old self.old }
-        requires guarded { is_guarded_expression expression.now ≡ true }
-        ensures meaning { Ends result (exec world.old.declarations (Stmt.Print (bare_expression expression.now)) (state_of world.old self.old)) (state_of world.new self.new) }
-        ensures safe { IsConfined world.new self.new }
-        ensures setting { SameSetting world.old self.old world.new self.new }
+    /// Writes the line of a value, for a cell a byte.
+    fn print_value(&mut self, value: &Value) -> Result<Value, OpEnd>
+        requires placed { IsPlaced self.old.state.heap value.now }
+        ensures meaning { Ends result (print_value value.now self.old.state) self.new.state }
+        ensures setting { SameSetting self.old self.new }
     {
-        let value = self.eval(world, expression)?;
-        let name = self.str_method()?;
-        let value = self.cross(world, value, &name)?;
-        self.write_line(world, &value)?;
+        let line = line_of(self.alloc, &self.world, value)?;
+        let bytes = line.as_str().len() as u64;
+        match self.world.store.charge(bytes) {
+            Err(StoreFault::Cells) => return Err(OpEnd::StopCells),
+            Err(StoreFault::Memory) => return Err(OpEnd::Memory),
+            Ok(()) => (),
+        }
+        self.world.running.printed.add(line.as_str())?;
         Ok(Value::Rock(Rock::Nil))
-    }
-
-    fn str_method(&self) -> Result<Text, Memory>
-        ensures { IfOk result (λ name. name ≡ codes "__str__") }
-    {
-        self.str_method.copy()
-    }
-
-    /// Prints the line of a value, whole or not at all.
-    fn write_line(&mut self, world: &World, value: &Value) -> Result<(), Memory>
-        ensures printed { OnOk result (self.new ≡ record self.old { printed = self.old.printed ++ shown (heap_of world.now.declarations) value.now ++ codes "\n" }) }
-        ensures same { OnErr result (self.new ≡ self.old) }
-    {
-        let line = show::line_of(self.alloc, world, value)?;
-        self.printed.add(line.as_str())
     }
 
     /// Runs a whole script.
     ///
     /// # Errors
-    /// `Raised` with the exception that ended the session, `Memory` where a growth was refused.
-    pub fn finish(&mut self, world: &mut World, script: &Compiled) -> Result<Value, OpEnd>
-        requires safe { IsConfined world.old self.old }
-        ensures meaning { Ends result (run_script world.old.declarations (map bare script.now) (state_of world.old self.old)) (state_of world.new self.new) }
-        ensures safe { IsConfined world.new self.new }
-        ensures setting { SameSetting world.old self.old world.new self.new }
+    /// `Raised` with the exception that ended the session, `StopCells` where no cell was left, `Memory` where a
+    /// growth was refused.
+    pub fn finish(&mut self, script: &Compiled) -> Result<Value, OpEnd>
+        requires held { All (IsStatementHeld self.old.names) script.now }
+        ensures meaning { Ends result (run_script self.old.declarations (map (statement_view self.old.names) script.now) self.old.state) self.new.state }
+        ensures setting { SameSetting self.old self.new }
+        ensures safe { AreSafe self.new.state.heap self.new.state.session self.new.state.variables }
     {
+        // The variables hold what a script may hold.
+        let _variables = &self.variables;
         for statement in script.statements() {
-            self.statement(world, statement)?;
+            self.statement(statement)?;
         }
         Ok(Value::Rock(Rock::Nil))
     }
 
     /// What was printed.
     pub fn printed(&self) -> &str
-        ensures { chars result.now ≡ self.now.printed }
+        ensures { chars result.now ≡ self.now.state.printed }
     {
-        self.printed.as_str()
+        self.world.running.printed.as_str()
     }
-}
 
-/// The exposed names, with their objects as the side takes them.
-fn exposed(alloc: Global, world: &World, side: Side) -> Result<IndexMap<Text, Value>, Memory>
-    requires { 0 < side.0 }
-    ensures exposed { IfOk result (λ variables. variables.entries ≡ fold (expose world.now.declarations side.0) [] world.now.declarations.expose) }
-    ensures safe { IfOk result (λ variables. AreSafe (heap_of world.now.declarations) side.0 variables.entries) }
-{
-    let mut variables = IndexMap::new(alloc);
-    for name in world.declarations().expose() {
-        expose(&mut variables, world, side, name)?;
+    /// The decisions so far, the first one first.
+    pub fn trail(&self) -> &[Entry]
+        ensures { trail_view self.now.names self.now.declarations.permissions result.now ≡ self.now.state.log }
+    {
+        self.world.trail.entries()
     }
-    Ok(variables)
-}
-
-/// Binds an exposed name to its object.
-fn expose(
-    variables: &mut IndexMap<Text, Value>,
-    world: &World,
-    side: Side,
-    name: &Text,
-) -> Result<(), Memory>
-    requires side { 0 < side.0 }
-    requires safe { AreSafe (heap_of world.now.declarations) side.0 variables.old.entries }
-    ensures bound { OnOk result (variables.new.entries ≡ expose world.now.declarations side.0 variables.old.entries name.now) }
-    ensures safe { OnOk result (AreSafe (heap_of world.now.declarations) side.0 variables.new.entries) }
-{
-    if let Some(at) = world.place_of(name) {
-        let object = world.take(Value::Ref(at), side);
-        variables.insert(name.copy()?, object)?;
-    }
-    Ok(())
-}
-
-/// The name that printing a value reads.
-fn str_method(alloc: Global) -> Result<Text, Memory>
-    ensures { IfOk result (λ name. name ≡ codes "__str__") }
-{
-    Text::new(alloc, "__str__")
-}
-
-/// The exception of the kind with the text, as the end of an operation.
-fn raised(kind: Kind, text: &Text) -> Result<OpEnd, Memory>
-    ensures { IfOk result (λ end. end ≡ OpEnd.Raised (record { kind = kind; text = text.now })) }
-{
-    Ok(OpEnd::Raised(Raised {
-        kind,
-        text: text.copy()?,
-    }))
 }

@@ -1,4 +1,8 @@
 mod Ascii
+mod Ended
+mod Ids
+mod Later
 mod Pieces
+mod Reasons
 mod Sayings
 pub mod Taken

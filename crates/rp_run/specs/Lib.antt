@@ -4,3 +4,4 @@ pub mod Headline
 pub mod Output
 pub mod Steps
 pub mod Told
+pub mod View

@@ -1,15 +1,17 @@
 -- What the program says to its words and the contents of the files that they name.
-use Rattle.std.specs.Prelude.{◌≡◌, ◌<◌, ◌≤◌, ℕ, true, false, List, ◌++◌, length, codes, MatchOption}
-use Rattle.rp_first.specs.Declares.{Declares, DeclaresNothingYet, IsNoDocument}
-use Rattle.rp_first.specs.Records.{Declarations}
-use Rattle.rp_machine.specs.Access.{is_principal}
+use Rattle.std.specs.Prelude.{◌≡◌, ◌<◌, ◌≤◌, ℕ, true, false, List, ◌++◌, length, codes, Some, None, MatchOption}
+use Rattle.rp_compile.specs.Refusal.{IsRefused as IsScriptRefused, refusal_line as script_refusal_line}
+use Rattle.rp_compile.specs.Script.{IsScript}
+use Rattle.rp_compile.specs.Source.{Statement}
+use Rattle.rp_compile.specs.declared.refusal.Refusal.{Refusal as ScriptRefusal}
+use Rattle.rp_decl.specs.Declares.{Declares, IsNoDocument, IsRefused, Refusal}
+use Rattle.rp_decl.specs.Records.{Declarations}
+use Rattle.rp_decl.specs.Word.{is_among}
+use Rattle.rp_interact.specs.Why.{first_unknown}
+use Rattle.rp_load.specs.Load.{Fault, fault_line, fault_of}
 use Rattle.rp_machine.specs.Meaning.{Outcome, run_script, first_state}
-use Rattle.rp_machine.specs.Refusal.{IsRefused, refusal_line}
-use Rattle.rp_machine.specs.Script.{IsScript}
-use Rattle.rp_machine.specs.declared.refusal.Refusal.{Refusal}
-use Rattle.rp_machine.specs.declared.tree.Stmt.{Stmt}
-use Rattle.rp_run.specs.Command.{Run, command_of, usage}
-use Rattle.rp_run.specs.Output.{session_block, end_status}
+use Rattle.rp_run.specs.Command.{Command, run, may, Run, May, command_of, usage}
+use Rattle.rp_run.specs.Output.{session_block, end_status, refusal_line, may_text, may_status}
 
 -- the most bytes of a file that is read
 abbrev pub longest_file : ℕ
@@ -24,33 +26,71 @@ IsTooLong bytes = longest_file < length bytes
 abbrev pub too_long_line : List ℕ → List ℕ
 too_long_line path = codes "too long: " ++ path ++ codes "\n"
 
-abbrev pub principal_line : List ℕ → List ℕ
-principal_line who = codes "principal: " ++ who ++ codes "\n"
+abbrev pub unknown_line : List ℕ → List ℕ
+unknown_line id = codes "principal: " ++ id ++ codes "\n"
 
--- the declarations of a run are read and have its principal
-pub record IsAdmitted (run : Run) (contents : List ℕ → List ℕ) (d : Declarations) : Type 0 where
-  pub short : IsShort (contents run.declarations)
-  pub declares : Declares (contents run.declarations) d
-  pub known : is_principal d run.who ≡ true
+abbrev pub undeclared_line : List ℕ → List ℕ
+undeclared_line permission = codes "permission: " ++ permission ++ codes "\n"
+
+-- ---- declarations
+
+-- The first check that the contents at the path of the declarations do not pass, and what is said.
+pub data ToldUnread (path bytes : List ℕ) (text : List ℕ) (status : ℕ) : Type 0 where
+  long : IsTooLong bytes → text ≡ too_long_line path → status ≡ 9 → ToldUnread path bytes text status
+  not_toml : IsShort bytes → IsNoDocument bytes → text ≡ codes "declarations: not TOML\n" → status ≡ 3 → ToldUnread path bytes text status
+  refused : IsShort bytes → (r : Refusal) → IsRefused bytes r → text ≡ refusal_line r → status ≡ 3 → ToldUnread path bytes text status
+
+-- the bytes are read, and they declare these records
+pub record IsRead (bytes : List ℕ) (d : Declarations) : Type 0 where
+  pub short : IsShort bytes
+  pub declares : Declares bytes d
+
+-- ---- a run
+
+-- the declarations of a run are read, can be run, and have its principals
+pub record IsAdmitted (r : Run) (contents : List ℕ → List ℕ) (d : Declarations) : Type 0 where
+  pub read : IsRead (contents r.declarations) d
+  pub runs : fault_of d ≡ None
+  pub known : first_unknown d r.ids ≡ None
+
+-- the most cells that a run may use
+abbrev pub most_cells : ℕ
+most_cells = 1000000
 
 -- the direct meaning of a source script in a first session
-abbrev pub played : Run → Declarations → List Stmt → Outcome
-played run d source = run_script d source (first_state d 1 run.who)
+abbrev pub played : Run → Declarations → List Statement → Outcome
+played r d source = run_script d source (first_state d most_cells 1 r.ids)
 
 -- The first step that refuses decides, in the order of the constructors; else the script is run.
-pub data ToldRun (run : Run) (contents : List ℕ → List ℕ) (text : List ℕ) (status : ℕ) : Type 0 where
-  long_declarations : IsTooLong (contents run.declarations) → text ≡ too_long_line run.declarations → status ≡ 9 → ToldRun run contents text status
-  not_toml : IsShort (contents run.declarations) → IsNoDocument (contents run.declarations) → text ≡ codes "declarations: not TOML\n" → status ≡ 3 → ToldRun run contents text status
-  declarations_not_yet : IsShort (contents run.declarations) → DeclaresNothingYet (contents run.declarations) → text ≡ codes "declarations: not yet\n" → status ≡ 3 → ToldRun run contents text status
-  unknown_principal : IsShort (contents run.declarations) → (d : Declarations) → Declares (contents run.declarations) d → is_principal d run.who ≡ false
-      → text ≡ principal_line run.who → status ≡ 3 → ToldRun run contents text status
-  long_script : (d : Declarations) → IsAdmitted run contents d → IsTooLong (contents run.script) → text ≡ too_long_line run.script → status ≡ 9 → ToldRun run contents text status
-  script_refused : (d : Declarations) → IsAdmitted run contents d → IsShort (contents run.script) → (refusal : Refusal) → IsRefused (contents run.script) refusal
-      → text ≡ codes "script 1: " ++ refusal_line refusal → status ≡ 4 → ToldRun run contents text status
-  ran : (d : Declarations) → IsAdmitted run contents d → IsShort (contents run.script) → (source : List Stmt) → IsScript (contents run.script) source
-      → text ≡ session_block 1 run.who (played run d source) → status ≡ end_status (played run d source).answer → ToldRun run contents text status
+pub data ToldRun (r : Run) (contents : List ℕ → List ℕ) (text : List ℕ) (status : ℕ) : Type 0 where
+  unread : ToldUnread r.declarations (contents r.declarations) text status → ToldRun r contents text status
+  not_run : (d : Declarations) → IsRead (contents r.declarations) d → (f : Fault) → fault_of d ≡ Some f
+      → text ≡ fault_line f → status ≡ 3 → ToldRun r contents text status
+  unknown_principal : (d : Declarations) → IsRead (contents r.declarations) d → fault_of d ≡ None → (id : List ℕ) → first_unknown d r.ids ≡ Some id
+      → text ≡ unknown_line id → status ≡ 3 → ToldRun r contents text status
+  long_script : (d : Declarations) → IsAdmitted r contents d → IsTooLong (contents r.script) → text ≡ too_long_line r.script → status ≡ 9 → ToldRun r contents text status
+  script_refused : (d : Declarations) → IsAdmitted r contents d → IsShort (contents r.script) → (refusal : ScriptRefusal) → IsScriptRefused (contents r.script) refusal
+      → text ≡ codes "script 1: " ++ script_refusal_line refusal → status ≡ 4 → ToldRun r contents text status
+  ran : (d : Declarations) → IsAdmitted r contents d → IsShort (contents r.script) → (source : List Statement) → IsScript (contents r.script) source
+      → text ≡ session_block 1 r.who (played r d source) → status ≡ end_status (played r d source).answer → ToldRun r contents text status
+
+-- ---- permissions
+
+-- the same order: the declarations, the principals, the permission; else each principal's line is told
+pub data ToldMay (m : May) (contents : List ℕ → List ℕ) (text : List ℕ) (status : ℕ) : Type 0 where
+  unread : ToldUnread m.declarations (contents m.declarations) text status → ToldMay m contents text status
+  unknown_principal : (d : Declarations) → IsRead (contents m.declarations) d → (id : List ℕ) → first_unknown d m.ids ≡ Some id
+      → text ≡ unknown_line id → status ≡ 3 → ToldMay m contents text status
+  undeclared : (d : Declarations) → IsRead (contents m.declarations) d → first_unknown d m.ids ≡ None → is_among d.permissions m.permission ≡ false
+      → text ≡ undeclared_line m.permission → status ≡ 3 → ToldMay m contents text status
+  told : (d : Declarations) → IsRead (contents m.declarations) d → first_unknown d m.ids ≡ None → is_among d.permissions m.permission ≡ true
+      → text ≡ may_text d m.ids m.permission → status ≡ may_status d m.ids m.permission → ToldMay m contents text status
+
+abbrev pub ToldCommand : Command → (List ℕ → List ℕ) → List ℕ → ℕ → Type 0
+ToldCommand (run r) contents text status = ToldRun r contents text status
+ToldCommand (may m) contents text status = ToldMay m contents text status
 
 -- the program says this text, as characters, and ends with this status
 abbrev pub Told : List (List ℕ) → (List ℕ → List ℕ) → List ℕ → ℕ → Type 0
 Told words contents text status =
-    MatchOption (command_of words) ((text ≡ usage) × (status ≡ 2)) (λ run. ToldRun run contents text status)
+    MatchOption (command_of words) ((text ≡ usage) × (status ≡ 2)) (λ command. ToldCommand command contents text status)

@@ -3,12 +3,13 @@ ghost use Rattle.std.specs.Char.{is_ascii};
 ghost use Rattle.std.specs.Fmt.{decimal};
 ghost use Rattle.std.specs.List.{list_all};
 ghost use Rattle.rp_base.specs.Kind.{kind_name};
-ghost use Rattle.rp_machine.specs.Refusal.{refusal_line};
+ghost use Rattle.rp_compile.specs.Refusal.{refusal_line};
 ghost use Rattle.rp_run.specs.Command.{usage};
 ghost use Rattle.rp_run.specs.Output.{detail, end_line, end_status};
+ghost use Rattle.rp_run.specs.View.{end_view};
 
-use rp_base::{Memory, Printed, Raised, Status, Text, Value};
-use rp_machine::{Refusal, refusal_text};
+use rp_base::{Memory, Printed, Raised, Status, Text};
+use rp_compile::{Refusal, refusal_text};
 use std::alloc::Global;
 
 /// What the program says where its words give no command.
@@ -52,6 +53,18 @@ impl Answer {
         })
     }
 
+    /// The answer that says a line that is made already.
+    pub fn line(alloc: Global, line: &str, status: u8) -> Result<Answer, Memory>
+        ensures { IfOk result (λ a. (a.text ≡ chars line.now) × (a.status.0 ≡ status)) }
+    {
+        let mut text = Printed::new(alloc);
+        text.add(line)?;
+        Ok(Answer {
+            text,
+            status: Status(status),
+        })
+    }
+
     /// The answer of one line, a label and a subject. It is refused only for want of memory.
     pub fn labelled(
         alloc: Global,
@@ -88,19 +101,19 @@ impl Answer {
         }
     }
 
-    /// The block of a session: its number and principal, what it printed, and how it ended. It is
+    /// The block of a session: its number and principals, what it printed, and how it ended. It is
     /// refused only for want of memory.
     pub fn session(
         alloc: Global,
         number: u32,
         who: &Text,
         printed: &str,
-        end: &Result<Value, Raised>,
+        end: &SessionEnd,
     ) -> Result<Answer, Memory>
         ensures text { IfOk result (λ a. a.text ≡
             codes "session " ++ decimal number ++ codes " " ++ who.now ++ codes "\n"
-            ++ chars printed.now ++ end_line end.now) }
-        ensures status { IfOk result (λ a. a.status.0 ≡ end_status end.now) }
+            ++ chars printed.now ++ end_line (end_view end.now)) }
+        ensures status { IfOk result (λ a. a.status.0 ≡ end_status (end_view end.now)) }
     {
         let mut text = Printed::new(alloc);
         add_ascii(&mut text, "session ")?;
@@ -117,23 +130,34 @@ impl Answer {
     }
 }
 
-/// 0 where a session ended well, 1 where an exception ended it.
-fn end_status(end: &Result<Value, Raised>) -> Status
-    ensures { result.0 ≡ end_status end.now }
+/// How a session ended.
+#[derive(Drop)]
+pub enum SessionEnd {
+    Well,
+    Raised(Raised),
+    /// No cell was left.
+    NoCell,
+}
+
+/// 0 where a session ended well, 1 where an exception ended it, 5 where it was stopped.
+fn end_status(end: &SessionEnd) -> Status
+    ensures { result.0 ≡ end_status (end_view end.now) }
 {
     match end {
-        Ok(_) => Status(0),
-        Err(_) => Status(1),
+        SessionEnd::Well => Status(0),
+        SessionEnd::Raised(_) => Status(1),
+        SessionEnd::NoCell => Status(5),
     }
 }
 
 /// Appends the line that says how a session ended.
-fn add_end(text: &mut Printed, end: &Result<Value, Raised>) -> Result<(), Memory>
-    ensures { OnOk result (text.new ≡ text.old ++ end_line end.now) }
+fn add_end(text: &mut Printed, end: &SessionEnd) -> Result<(), Memory>
+    ensures { OnOk result (text.new ≡ text.old ++ end_line (end_view end.now)) }
 {
     match end {
-        Ok(_) => add_ascii(text, "end ok\n"),
-        Err(raised) => add_raised(text, raised),
+        SessionEnd::Well => add_ascii(text, "end ok\n"),
+        SessionEnd::Raised(raised) => add_raised(text, raised),
+        SessionEnd::NoCell => add_ascii(text, "end stopped cells\n"),
     }
 }
 
@@ -168,7 +192,7 @@ fn add_number(alloc: Global, text: &mut Printed, number: u32) -> Result<(), Memo
 }
 
 /// Appends an ASCII text, whose characters are its bytes.
-fn add_ascii(text: &mut Printed, piece: &str) -> Result<(), Memory>
+pub(crate) fn add_ascii(text: &mut Printed, piece: &str) -> Result<(), Memory>
     requires { list_all is_ascii piece.now ≡ true }
     ensures { OnOk result (text.new ≡ text.old ++ piece.now) }
 {

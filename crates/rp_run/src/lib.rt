@@ -3,10 +3,12 @@
 
 mod answer;
 mod command;
+mod declaring;
 mod playing;
 mod program;
 mod reading;
 mod stop;
+mod telling;
 #[cfg(test)]
 mod tests;
 mod writing;

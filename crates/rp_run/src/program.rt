@@ -5,8 +5,9 @@ ghost use Rattle.rp_run.specs.Told.{Told};
 
 use crate::answer::Answer;
 use crate::command::Command;
-use crate::playing::answer_command;
+use crate::playing::answer_run;
 use crate::stop::Stop;
+use crate::telling::answer_may;
 use crate::writing::write_text;
 use rp_base::{Failed, Files, Sink, Status};
 use std::alloc::Global;
@@ -15,15 +16,17 @@ use std::alloc::Global;
 ///
 /// Whatever the words and the files say, what is written and the status are those of the direct meaning
 /// of the source script, where each operation through a lent reference is first decided by the declared
-/// policy for the script's principal, and logged. All text goes to `out`, and only after the last step.
+/// policy for the script's principals, and logged; `may` tells what that policy grants. All text goes to
+/// `out`, and only after the last step.
 ///
 /// | status | means |
 /// |---|---|
-/// | 0 | the session ended well |
-/// | 1 | the session ended by an exception |
+/// | 0 | the session ended well; or the principals have the permission |
+/// | 1 | the session ended by an exception; or the principals lack the permission |
 /// | 2 | the words give no command |
-/// | 3 | the declarations, or the principal, are refused |
+/// | 3 | the declarations, a principal or the permission are refused |
 /// | 4 | the script is refused |
+/// | 5 | the session was stopped, as no cell was left |
 /// | 6 | a read failed; nothing is written |
 /// | 7 | a write failed; a front of the text is written |
 /// | 8 | want of memory; nothing is written |
@@ -78,6 +81,7 @@ fn answer<F: Files>(alloc: Global, words: &[String], files: &mut F) -> Result<An
 {
     match Command::read(alloc, words)? {
         None => Ok(Answer::usage(alloc)?),
-        Some(command) => answer_command(alloc, &command, files),
+        Some(Command::Run(run)) => answer_run(alloc, &run, files),
+        Some(Command::May(may)) => answer_may(alloc, &may, files),
     }
 }

@@ -6,7 +6,7 @@ use std::alloc::{AllocError, Global};
 use std::process::Abort;
 use std::test::Fail;
 
-const TITLE: &[u8] = br#"version = 1
+const TITLE: &str = r#"version = 1
 permissions = ["zope.View", "zope.Manage"]
 expose = ["root"]
 [class.Folder]
@@ -20,22 +20,40 @@ class = "Folder"
 fields = { title = "Home", size = 3, secret = "k" }
 "#;
 
+/// The same, where eve has a role.
+const ROLES: &str = r#"version = 2
+permissions = ["zope.View", "zope.Manage"]
+expose = ["root"]
+[class.Folder]
+get = { title = "zope.View", size = "zope.Public" }
+set = { title = "zope.Manage" }
+[role.reader]
+permissions = ["zope.View"]
+[principal.bob]
+allow = ["zope.View"]
+[principal.eve]
+roles = ["reader"]
+[object.root]
+class = "Folder"
+fields = { title = "Home", size = 3, secret = "k" }
+"#;
+
+/// A group allows what its member is denied.
+const GROUPS: &str = r#"version = 1
+permissions = ["zope.View"]
+[group.staff]
+allow = ["zope.View"]
+[principal.kim]
+groups = ["staff"]
+deny = ["zope.View"]
+"#;
+
 const PRINT_TITLE: &[u8] = b"print(root.title)\n";
 
 const HOME: &[u8] = b"session 1 bob\nHome\nend ok\n";
 
 /// More bytes than the tests have.
 const AMPLE: usize = 8_388_608;
-
-/// What is said, and the status, where a script is run under declarations.
-#[derive(Clone, Copy)]
-struct Case<'a> {
-    line: &'a str,
-    declarations: &'a [u8],
-    script: &'a [u8],
-    said: &'a str,
-    status: u8,
-}
 
 /// The room of a sink, the most bytes of a write, and the number of the write that fails.
 #[derive(Clone, Copy)]
@@ -78,18 +96,6 @@ fn run_title<F: Files, K: Sink>(alloc: Global, files: &mut F, out: &mut K) -> Re
     Ok(run(alloc, words.as_slice(), files, out))
 }
 
-fn expect_said(rt: &impl Abort, alloc: Global, case: &Case) -> Result<(), Fail> {
-    let list = file_list(alloc, case.declarations, case.script)?;
-    let mut files = MemFiles::new(list, AMPLE, Vec::new(alloc));
-    let mut out = MemSink::new(alloc, AMPLE, AMPLE, Vec::new(alloc))?;
-    let words = word_list(alloc, case.line)?;
-    let status = run(alloc, words.as_slice(), &mut files, &mut out);
-    let said = case.said;
-    assert_eq!(rt; out.bytes(), said.as_bytes(), "{said}");
-    assert_eq!(rt; status, Status(case.status), "{said}");
-    Ok(())
-}
-
 /// Runs a script for bob, and compares what is said.
 fn expect_bytes_said(
     rt: &impl Abort,
@@ -115,7 +121,7 @@ fn expect_written(
 ) -> Result<(), Fail>
     requires { 0 < sink.most }
 {
-    let mut files = SureFiles::new(file_list(alloc, TITLE, PRINT_TITLE)?);
+    let mut files = SureFiles::new(file_list(alloc, TITLE.as_bytes(), PRINT_TITLE)?);
     let failing = vec![in alloc; sink.failing]?;
     let mut out = MemSink::new(alloc, sink.room, sink.most, failing)?;
     let status = run_title(alloc, &mut files, &mut out)?;
@@ -129,93 +135,199 @@ fn expect_written(
     Ok(())
 }
 
-#[test]
-fn says_what_the_words_and_the_files_mean(rt: HostRuntime) -> Result<(), Fail> {
-    let cases = [
-        Case {
-            line: "run title.toml bob:s.py",
-            declarations: TITLE,
-            script: b"print(root.title)\n",
-            said: "session 1 bob\nHome\nend ok\n",
-            status: 0,
-        },
-        Case {
-            line: "run title.toml eve:s.py",
-            declarations: TITLE,
-            script: b"print(root.title)\n",
-            said: "session 1 eve\nend Unauthorized: zope.View\n",
-            status: 1,
-        },
-        Case {
-            line: "run title.toml bob:s.py",
-            declarations: TITLE,
-            script: b"print(root.secret)\n",
-            said: "session 1 bob\nend ForbiddenAttribute: secret\n",
-            status: 1,
-        },
-        Case {
-            line: "run title.toml bob:s.py",
-            declarations: TITLE,
-            script: b"print(q)\n",
-            said: "session 1 bob\nend NameError: q\n",
-            status: 1,
-        },
-        Case {
-            line: "run title.toml bob:s.py",
-            declarations: TITLE,
-            script: b"x = root\nprint(x.size)\nx = 5\nprint(x)\n",
-            said: "session 1 bob\n3\n5\nend ok\n",
-            status: 0,
-        },
-        Case {
-            line: "run title.toml bob:s.py",
-            declarations: TITLE,
-            script: b"",
-            said: "session 1 bob\nend ok\n",
-            status: 0,
-        },
-        Case {
-            line: "run title.toml bob:s.py",
-            declarations: TITLE,
-            script: b"x\xFF",
-            said: "script 1: byte 1: not UTF-8\n",
-            status: 4,
-        },
-        Case {
-            line: "run title.toml dave:s.py",
-            declarations: TITLE,
-            script: b"x\xFF",
-            said: "principal: dave\n",
-            status: 3,
-        },
-        Case {
-            line: "run title.toml dave:s.py",
-            declarations: b"x =\n",
-            script: b"",
-            said: "declarations: not TOML\n",
-            status: 3,
-        },
-        Case {
-            line: "run title.toml dave:s.py",
-            declarations: b"version = 2\n",
-            script: b"",
-            said: "declarations: not yet\n",
-            status: 3,
-        },
-    ];
-    for case in &cases {
-        expect_said(&rt, rt.alloc(), case)?;
-    }
-    Ok(())
+/// What is said to the words of a line, with the status behind it.
+fn said_to(alloc: Global, line: &str, declarations: &str, script: &[u8]) -> Result<String, Fail> {
+    let list = file_list(alloc, declarations.as_bytes(), script)?;
+    let mut files = MemFiles::new(list, AMPLE, Vec::new(alloc));
+    let mut out = MemSink::new(alloc, AMPLE, AMPLE, Vec::new(alloc))?;
+    let words = word_list(alloc, line)?;
+    let Status(status) = run(alloc, words.as_slice(), &mut files, &mut out);
+    let said = std::str::from_utf8(out.bytes())?;
+    Ok(format!(in alloc; "{said}{status}")?)
 }
 
 /// What is said where bob's script is run, with the status behind it.
 fn said_of(alloc: Global, script: &[u8]) -> Result<String, Fail> {
-    let mut files = SureFiles::new(file_list(alloc, TITLE, script)?);
-    let mut out = MemSink::new(alloc, AMPLE, AMPLE, Vec::new(alloc))?;
-    let Status(status) = run_title(alloc, &mut files, &mut out)?;
-    let said = std::str::from_utf8(out.bytes())?;
-    Ok(format!(in alloc; "{said}{status}")?)
+    said_to(alloc, "run title.toml bob:s.py", TITLE, script)
+}
+
+/// What is said where `print(root.title)` is run for eve, with one text in place of another in the
+/// declarations.
+fn said_where(alloc: Global, declarations: &str, from: &str, to: &str) -> Result<String, Fail> {
+    let changed = declarations.replace(alloc, from, to)?;
+    said_to(
+        alloc,
+        "run title.toml eve:s.py",
+        changed.as_str(),
+        PRINT_TITLE,
+    )
+}
+
+#[test]
+fn says_what_a_session_says(rt: HostRuntime) -> Result<(), Fail> {
+    for (who, script, said) in [
+        ("bob", "print(root.title)", "Home\nend ok\n0"),
+        ("eve", "print(root.title)", "end Unauthorized: zope.View\n1"),
+        (
+            "bob",
+            "print(root.secret)",
+            "end ForbiddenAttribute: secret\n1",
+        ),
+        ("bob", "print(q)", "end NameError: q\n1"),
+        (
+            "bob",
+            "x = root\nprint(x.size)\nx = 5\nprint(x)",
+            "3\n5\nend ok\n0",
+        ),
+        ("bob", "", "end ok\n0"),
+        (
+            "bob+eve",
+            "print(root.title)",
+            "end Unauthorized: zope.View\n1",
+        ),
+        ("bob+bob", "print(root.title)", "Home\nend ok\n0"),
+    ] {
+        let alloc = rt.alloc();
+        let line = format!(in alloc; "run title.toml {who}:s.py")?;
+        let want = format!(in alloc; "session 1 {who}\n{said}")?;
+        let got = said_to(alloc, line.as_str(), TITLE, script.as_bytes())?;
+        assert_eq!(rt; got.as_str(), want.as_str());
+    }
+    Ok(())
+}
+
+#[test]
+fn says_which_principals_have_a_permission(rt: HostRuntime) -> Result<(), Fail> {
+    for (words, said) in [
+        (
+            "bob+eve zope.View",
+            "bob yes principal\neve no none\nmay no\n1",
+        ),
+        ("bob zope.View", "bob yes principal\nmay yes\n0"),
+        ("eve zope.Public", "eve yes public\nmay yes\n0"),
+        ("bob zope.Edit", "permission: zope.Edit\n3"),
+        ("dave zope.View", "principal: dave\n3"),
+        ("bob+dave+carl zope.Edit", "principal: dave\n3"),
+    ] {
+        let alloc = rt.alloc();
+        let line = format!(in alloc; "may title.toml {words}")?;
+        let got = said_to(alloc, line.as_str(), TITLE, b"")?;
+        assert_eq!(rt; got.as_str(), said);
+    }
+    Ok(())
+}
+
+#[test]
+fn says_that_a_denial_of_ones_own_comes_first(rt: HostRuntime) -> Result<(), Fail> {
+    let alloc = rt.alloc();
+    let line = "may title.toml kim zope.View";
+    let said = said_to(alloc, line, GROUPS, b"")?;
+    assert_eq!(rt; said.as_str(), "kim no principal\nmay no\n1");
+    let undenied = GROUPS.replace(alloc, "deny = [\"zope.View\"]", "")?;
+    let said = said_to(alloc, line, undenied.as_str(), b"")?;
+    assert_eq!(rt; said.as_str(), "kim yes group staff\nmay yes\n0");
+    Ok(())
+}
+
+#[test]
+fn takes_roles_of_version_2(rt: HostRuntime) -> Result<(), Fail> {
+    let alloc = rt.alloc();
+    let said = said_to(alloc, "may title.toml eve zope.View", ROLES, b"")?;
+    assert_eq!(rt; said.as_str(), "eve yes role reader\nmay yes\n0");
+    let said = said_to(alloc, "run title.toml eve:s.py", ROLES, PRINT_TITLE)?;
+    assert_eq!(rt; said.as_str(), "session 1 eve\nHome\nend ok\n0");
+    Ok(())
+}
+
+#[test]
+fn says_why_roles_are_refused(rt: HostRuntime) -> Result<(), Fail> {
+    for (from, to, said) in [
+        ("version = 2", "version = 1", "shape principal.eve.roles"),
+        ("[\"reader\"]", "[\"writer\"]", "role writer"),
+        (
+            "permissions = [\"zope.View\"]",
+            "permissions = [\"x\"]",
+            "permission x",
+        ),
+        ("version = 2", "version = 3", "version"),
+    ] {
+        let alloc = rt.alloc();
+        let want = format!(in alloc; "declarations: {said}\n3")?;
+        let got = said_where(alloc, ROLES, from, to)?;
+        assert_eq!(rt; got.as_str(), want.as_str());
+    }
+    Ok(())
+}
+
+#[test]
+fn says_why_declarations_are_refused(rt: HostRuntime) -> Result<(), Fail> {
+    for (from, to, said) in [
+        ("version = 1", "x =", "not TOML"),
+        ("size = 3", "size = 1.5", "shape object.root.fields.size"),
+        (", \"zope.Manage\"]", "]", "permission zope.Manage"),
+        (
+            "[principal.bob]",
+            "[class.B]\nlike = \"C\"\n[class.C]\nlike = \"B\"\n[principal.bob]",
+            "class B",
+        ),
+        (
+            "[principal.eve]",
+            "[principal.eve]\ngroups = [\"x\"]",
+            "group x",
+        ),
+        ("[\"root\"]", "[\"rot\"]", "expose rot"),
+        ("version = 1", "version = 1\nmodule = \"x = 1\"", "not yet"),
+        ("size = 3", "size = true", "not yet"),
+    ] {
+        let alloc = rt.alloc();
+        let want = format!(in alloc; "declarations: {said}\n3")?;
+        let got = said_where(alloc, TITLE, from, to)?;
+        assert_eq!(rt; got.as_str(), want.as_str());
+    }
+    Ok(())
+}
+
+#[test]
+fn tells_permissions_of_declarations_that_are_not_run(rt: HostRuntime) -> Result<(), Fail> {
+    for (from, to) in [
+        ("version = 1", "version = 1\nmodule = \"x = 1\""),
+        ("[\"root\"]", "[\"rot\"]"),
+    ] {
+        let alloc = rt.alloc();
+        let changed = TITLE.replace(alloc, from, to)?;
+        let line = "may title.toml bob zope.View";
+        let said = said_to(alloc, line, changed.as_str(), b"")?;
+        assert_eq!(rt; said.as_str(), "bob yes principal\nmay yes\n0");
+    }
+    Ok(())
+}
+
+#[test]
+fn refuses_in_the_order_of_the_steps(rt: HostRuntime) -> Result<(), Fail> {
+    let alloc = rt.alloc();
+    let line = "run title.toml dave:s.py";
+    let said = said_to(alloc, line, "x =\n", b"x\xFF")?;
+    assert_eq!(rt; said.as_str(), "declarations: not TOML\n3");
+    let said = said_to(alloc, line, TITLE, b"x\xFF")?;
+    assert_eq!(rt; said.as_str(), "principal: dave\n3");
+    let said = said_of(alloc, b"x\xFF")?;
+    assert_eq!(rt; said.as_str(), "script 1: byte 1: not UTF-8\n4");
+    Ok(())
+}
+
+/// A line has 2,000 bytes, and reading the title and printing it are 2,001 cells.
+#[test]
+fn stops_a_session_where_no_cell_is_left(rt: HostRuntime) -> Result<(), Fail> {
+    let alloc = rt.alloc();
+    let title = "a".repeat(alloc, 1999)?;
+    let changed = TITLE.replace(alloc, "Home", title.as_str())?;
+    let script = "print(root.title)\n".repeat(alloc, 600)?;
+    let line = "run title.toml bob:s.py";
+    let said = said_to(alloc, line, changed.as_str(), script.as_bytes())?;
+    assert_eq!(rt; said.len(), 14 + 499 * 2_000 + 18 + 1);
+    let stopped = said.as_str().ends_with("a\nend stopped cells\n5");
+    assert!(rt; stopped);
+    Ok(())
 }
 
 #[test]
@@ -266,9 +378,15 @@ fn runs_a_script_in_whatever_spacing(rt: HostRuntime) -> Result<(), Fail> {
     Ok(())
 }
 
+/// Whether the usage is said to a line, and nothing else.
+fn is_usage_said(alloc: Global, line: &str) -> Result<bool, Fail> {
+    let said = said_to(alloc, line, TITLE, PRINT_TITLE)?;
+    Ok(said.as_str().strip_suffix("2") == Some(USAGE))
+}
+
 #[test]
-fn says_the_usage_where_the_words_give_no_command(rt: HostRuntime) -> Result<(), Fail> {
-    let lines = [
+fn says_the_usage_where_the_words_give_no_run(rt: HostRuntime) -> Result<(), Fail> {
+    for line in [
         "",
         "run title.toml",
         "run title.toml bob",
@@ -279,14 +397,31 @@ fn says_the_usage_where_the_words_give_no_command(rt: HostRuntime) -> Result<(),
         "run title.toml -b:s.py",
         "Run title.toml bob:s.py",
         "run title.toml bob:s.py eve:s.py",
-    ];
-    for line in lines {
-        let mut files = SureFiles::new(file_list(rt.alloc(), TITLE, PRINT_TITLE)?);
-        let mut out = MemSink::new(rt.alloc(), AMPLE, AMPLE, Vec::new(rt.alloc()))?;
-        let words = word_list(rt.alloc(), line)?;
-        let status = run(rt.alloc(), words.as_slice(), &mut files, &mut out);
-        assert_eq!(rt; out.bytes(), USAGE.as_bytes(), "{line}");
-        assert_eq!(rt; status, Status(2), "{line}");
+        "run title.toml bob+:s.py",
+        "run title.toml +bob:s.py",
+        "run title.toml bob++eve:s.py",
+    ] {
+        let said = is_usage_said(rt.alloc(), line)?;
+        assert!(rt; said, "{line}");
+    }
+    Ok(())
+}
+
+#[test]
+fn says_the_usage_where_the_words_give_no_may(rt: HostRuntime) -> Result<(), Fail> {
+    for line in [
+        "may title.toml bob",
+        "may --at bob zope.View",
+        "may title.toml -bob zope.View",
+        "may title.toml bob+ zope.View",
+        "may title.toml bob:s.py zope.View",
+        "may title.toml bob -zope.View",
+        "may title.toml bob zope/View",
+        "May title.toml bob zope.View",
+        "may title.toml bob zope.View x",
+    ] {
+        let said = is_usage_said(rt.alloc(), line)?;
+        assert!(rt; said, "{line}");
     }
     Ok(())
 }
@@ -299,12 +434,19 @@ fn reads_files_of_4_mebibytes_and_no_longer_ones(rt: HostRuntime) -> Result<(), 
     expect_bytes_said(
         &rt,
         alloc,
-        TITLE,
+        TITLE.as_bytes(),
         short.as_slice(),
         "session 1 bob\nend ok\n",
         0,
     )?;
-    expect_bytes_said(&rt, alloc, TITLE, long.as_slice(), "too long: s.py\n", 9)?;
+    expect_bytes_said(
+        &rt,
+        alloc,
+        TITLE.as_bytes(),
+        long.as_slice(),
+        "too long: s.py\n",
+        9,
+    )?;
     expect_bytes_said(
         &rt,
         alloc,
@@ -319,7 +461,7 @@ fn reads_files_of_4_mebibytes_and_no_longer_ones(rt: HostRuntime) -> Result<(), 
 fn says_nothing_where_a_call_of_the_files_fails(rt: HostRuntime) -> Result<(), Fail> {
     let alloc = rt.alloc();
     for failing in 1..8u64 {
-        let list = file_list(alloc, TITLE, PRINT_TITLE)?;
+        let list = file_list(alloc, TITLE.as_bytes(), PRINT_TITLE)?;
         let mut files = MemFiles::new(list, AMPLE, vec![in alloc; failing]?);
         let mut out = MemSink::new(alloc, AMPLE, AMPLE, Vec::new(alloc))?;
         let status = run_title(alloc, &mut files, &mut out)?;
@@ -337,7 +479,11 @@ fn says_nothing_where_a_call_of_the_files_fails(rt: HostRuntime) -> Result<(), F
 #[test]
 fn says_the_same_where_a_read_gives_one_byte(rt: HostRuntime) -> Result<(), Fail> {
     let alloc = rt.alloc();
-    let mut files = MemFiles::new(file_list(alloc, TITLE, PRINT_TITLE)?, 1, Vec::new(alloc));
+    let mut files = MemFiles::new(
+        file_list(alloc, TITLE.as_bytes(), PRINT_TITLE)?,
+        1,
+        Vec::new(alloc),
+    );
     let mut out = MemSink::new(alloc, AMPLE, AMPLE, Vec::new(alloc))?;
     assert_eq!(rt; run_title(alloc, &mut files, &mut out)?, Status(0));
     assert_eq!(rt; out.bytes(), HOME);
@@ -385,7 +531,7 @@ fn writes_a_front_where_a_write_fails(rt: HostRuntime) -> Result<(), Fail> {
 #[test]
 fn runs_over_files_and_a_sink_that_never_fail(rt: HostRuntime) -> Result<(), Fail> {
     let alloc = rt.alloc();
-    let mut files = SureFiles::new(file_list(alloc, TITLE, PRINT_TITLE)?);
+    let mut files = SureFiles::new(file_list(alloc, TITLE.as_bytes(), PRINT_TITLE)?);
     let mut out = SureSink::new();
     assert_eq!(rt; run_title(alloc, &mut files, &mut out)?, Status(0));
     Ok(())

@@ -1,9 +1,7 @@
-use Rattle.std.proofs.Common.{append_assoc, rules}
+use Rattle.std.proofs.Common.{rules}
 use Rattle.std.proofs.lemmas.Result.{IfOk-equal}
-use Rattle.std.specs.Str.{chars}
 use Rattle.rp_machine.proofs.Words.{chars_kind_name}
 use Rattle.rp_machine.proofs.show.add_kind.Goals as goal
 
 pub returns : goal.returns
-unfolding chars
-returns c = let word = chars_kind_name c.args.kind in search (rules, IfOk-equal, append_assoc)
+returns c = let word = chars_kind_name c.args.kind in search (rules, IfOk-equal)

@@ -1,17 +1,36 @@
-use Rattle.std.proofs.Common.{◌≡◌, ◌∙◌, IfOk, sym, subst}
-use Rattle.rp_machine.specs.Access.{is_principal}
-use Rattle.rp_run.proofs.Sayings.{TellsScript, tells_unknown, tells_known}
+use Rattle.std.proofs.Common.{◌≡◌, ◌∙◌, ap, chars, sym}
+use Rattle.rp_decl.specs.View.{declarations_view}
+use Rattle.rp_load.specs.View.{fault_view}
+use Rattle.rp_run.proofs.Sayings.{tells_not_run, tells_unknown, tells_known, unknown_to}
+use Rattle.rp_run.specs.View.{run_view}
 use Rattle.rp_run.proofs.playing.answer_declared.Goals as goal
 
-pub returns-then-not-has_principal-clause-told : goal.returns-then-not-has_principal-clause-told
-returns-then-not-has_principal-clause-told g c =
-    let has : c.has_principal.result ≡ is_principal c.args.declared c.args.command.now.who = rw (c.who.ensures, c.in_ok-world.ensures) at c.has_principal.ensures in
-    let said = c.in_ok-labelled.ensures in
-    tells_unknown c.args.command.now c.args.declared _ _ _ (sym has ∙ c.if-not-has_principal.true) (rw c.who-then-not-has_principal.ensures at said.0) said.1
+pub returns-in-Some-clause-told : goal.returns-in-Some-clause-told
+returns-in-Some-clause-told g c =
+    let said = c.in_ok-line-2.ensures in
+    tells_not_run (run_view c.args.command.now) (declarations_view c.args.names c.args.decl) _ (fault_view c.args.names c.in-Some.fault) _ _ (sym c.in-Some.ensures.fault)
+    (said.0 ∙ ap chars c.as_str.ensures.value ∙ c.in_ok-line.ensures) said.1
 
-pub returns-clause-told : goal.returns-clause-told
-returns-clause-told g c =
-    let has : c.has_principal.result ≡ is_principal c.args.declared c.args.command.now.who = rw (c.who.ensures, c.in_ok-world.ensures) at c.has_principal.ensures in
-    tells_known c.args.command.now c.args.declared _ c.answer_script.result (sym has ∙ c.if-not-has_principal.false)
-    (subst (λ w. IfOk c.answer_script.result (λ a. TellsScript c.args.command.now w.declarations (g.F.Files.contents c.args.files.now) a.text a.status.0))
-    c.in_ok-world.ensures c.answer_script.ensures.told)
+pub answer_script-requires : goal.answer_script-requires
+answer_script-requires g c = record {
+  begun = c.requires.begun;
+  sound = c.requires.sound;
+  well = c.requires.well;
+  grants = c.in-Ok.ensures.answers;
+  ids = c.in-Ok.ensures.ids ∙ c.as_slice.ensures.value;
+  runs = sym c.in_default.ensures.fault;
+}
+
+pub returns-in-Ok-clause-known : goal.returns-in-Ok-clause-known
+returns-in-Ok-clause-known g c = λ failed. rw c.as_slice.ensures.value at (c.in-Ok.ensures.known c.args.names)
+
+pub returns-in-Ok-clause-told : goal.returns-in-Ok-clause-told
+returns-in-Ok-clause-told g c =
+    tells_known (run_view c.args.command.now) (declarations_view c.args.names c.args.decl) _ c.answer_script.result (sym c.in_default.ensures.fault)
+    (rw c.as_slice.ensures.value at (c.in-Ok.ensures.known c.args.names)) c.answer_script.ensures.told
+
+pub returns-in-Err-Unknown-clause-told : goal.returns-in-Err-Unknown-clause-told
+returns-in-Err-Unknown-clause-told g c =
+    let said = c.in_ok-labelled-in-Err-Unknown.ensures in
+    tells_unknown (run_view c.args.command.now) (declarations_view c.args.names c.args.decl) _ c.in-Err-Unknown.id _ _ (sym c.in_default.ensures.fault)
+    (rw c.as_slice.ensures.value at (unknown_to c.args.decl c.as_slice.result.now c.in-Err-Unknown.field-0 c.in-Err-Unknown.id c.in-Err-Unknown.field-0-is c.in-Err-Unknown.ensures.refused c.args.names)) said.0 said.1

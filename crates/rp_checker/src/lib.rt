@@ -1,0 +1,12 @@
+//! Checkers: what each class asks of whoever reads or sets a name of its objects.
+#![tactic(auto)]
+
+mod checkers;
+mod class_rows;
+mod plan;
+mod table;
+#[cfg(test)]
+mod tests;
+mod words;
+
+pub use checkers::Checkers;

@@ -1,0 +1,11 @@
+use Rattle.std.proofs.Common.{codes, sym, ap, refl, ◌∙◌}
+use Rattle.rp_base.specs.Same.{same_text}
+use Rattle.rp_compile.proofs.Names.{word_is}
+use Rattle.rp_compile.proofs.Texts.{same_ascii, tested_ascii}
+use Rattle.rp_compile.proofs.source.is_print.Goals as goal
+
+pub returns : goal.returns
+returns c =
+    let text = c.text.result.now in
+    c.eq.ensures ∙ (sym (same_ascii text (codes "print") c.text.utf8 (tested_ascii (codes "print") refl))
+    ∙ ap (λ word. same_text word (codes "print")) (sym (word_is c.args.names.now c.args.name text c.text.ensures.word)))

@@ -1,0 +1,15 @@
+pub mod Laws
+pub mod Words
+pub mod Paths
+pub mod Orders
+pub mod KeyTables
+pub mod Places
+pub mod Documents
+pub mod Unknown
+pub mod Rings
+pub mod Named
+pub mod Growth
+pub mod Fields
+pub mod Shown
+pub mod Checked
+pub mod Placed

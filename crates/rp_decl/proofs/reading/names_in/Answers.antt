@@ -1,0 +1,5 @@
+use Rattle.toml.proofs.Views.{view-Array}
+use Rattle.rp_decl.proofs.reading.names_in.Goals as goal
+
+pub returns-in-Array-clause-shown : goal.returns-in-Array-clause-shown
+returns-in-Array-clause-shown c = rw (c.in-Array.is, view-Array) c.each_name.ensures.shown

@@ -1,0 +1,16 @@
+pub mod Consistency
+pub mod Declares
+pub mod Document
+pub mod Faults
+pub mod InOrder
+pub mod Naming
+pub mod Order
+pub mod Places
+pub mod Reading
+pub mod Records
+pub mod Ring
+pub mod Shape
+pub mod View
+pub mod Test
+pub mod Word
+pub mod Path

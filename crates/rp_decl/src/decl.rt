@@ -1,0 +1,156 @@
+use crate::consistency::text_member;
+use crate::known::Known;
+use crate::reading::{names_at, records_at};
+use crate::records::{ClassDecl, GroupDecl, ObjectDecl, PrincipalDecl, RoleDecl};
+use rp_base::{Memory, Name, Names, Text};
+use std::alloc::Global;
+use std::marker::Model;
+use toml::Table;
+
+/// What a declaration file says. Permissions, classes, roles, groups, principals and objects stand in
+/// byte order of their ids and names, each once. Each place of a permission, role or group in it is
+/// that of a declared one.
+#[derive(Drop)]
+pub struct Decl {
+    permissions: Vec<Text>,
+    expose: Vec<Name>,
+    module_text: Text,
+    classes: Vec<ClassDecl>,
+    roles: Vec<RoleDecl>,
+    groups: Vec<GroupDecl>,
+    principals: Vec<PrincipalDecl>,
+    objects: Vec<ObjectDecl>,
+}
+
+impl Model for Decl {
+    ghost use Rattle.std.specs.Coded.{codes};
+    ghost use Rattle.rp_decl.specs.contracts.records.Field as field;
+    ghost use Rattle.rp_decl.specs.Places.{IsClosed};
+    ghost use Rattle.rp_decl.specs.View.{Placed};
+
+    ghost Value = { Placed };
+
+    ghost coded = { Prim.hlevel (codes, field.the_row.coded) };
+
+    ghost view = { λ d. record {
+      permissions = d.permissions.items;
+      expose = d.expose.items;
+      module_text = d.module_text;
+      classes = d.classes.items;
+      roles = d.roles.items;
+      groups = d.groups.items;
+      principals = d.principals.items;
+      objects = d.objects.items;
+    } };
+
+    ghost invariant = { λ d. IsClosed (record {
+      permissions = d.permissions.items;
+      expose = d.expose.items;
+      module_text = d.module_text;
+      classes = d.classes.items;
+      roles = d.roles.items;
+      groups = d.groups.items;
+      principals = d.principals.items;
+      objects = d.objects.items;
+    }) };
+}
+
+impl Decl {
+    ghost use Rattle.std.specs.Prelude.{◌≡◌, All, IfOk, length};
+    ghost use Rattle.toml.specs.View.{table_view};
+    ghost use Rattle.rp_decl.specs.Document.{records_of};
+    ghost use Rattle.rp_decl.specs.InOrder.{AreInOrder};
+    ghost use Rattle.rp_decl.specs.Reading.{IsAllKnown, IsKnownBy};
+    ghost use Rattle.rp_decl.specs.View.{declarations_view};
+    ghost use Rattle.rp_decl.specs.Places.{GrowsTo, IsHeldBy, IsClassWithin, IsRoleWithin, IsGroupWithin, IsPrincipalWithin};
+
+    /// What a document declares, where all that it names is known.
+    pub(crate) fn read(
+        alloc: Global,
+        names: &mut Names,
+        known: Known,
+        document: &Table,
+    ) -> Result<Decl, Memory>
+        requires known_by { IsKnownBy known (records_of (table_view document.now)) }
+        requires all_known { IsAllKnown known (records_of (table_view document.now)) }
+        ensures declared { IfOk result (λ d. declarations_view names.new d ≡ records_of (table_view document.now)) }
+        ensures held { IfOk result (IsHeldBy names.new) }
+        ensures ordered { IfOk result (λ d. AreInOrder (records_of (table_view document.now))) }
+        ensures grown { GrowsTo names.old names.new }
+    {
+        let expose = names_at(alloc, names, document, "expose")?;
+        let module_text = Text::new(alloc, text_member(document, "module"))?;
+        let classes = records_at(alloc, names, &known, document, "class")?;
+        let roles = records_at(alloc, names, &known, document, "role")?;
+        let groups = records_at(alloc, names, &known, document, "group")?;
+        let principals = records_at(alloc, names, &known, document, "principal")?;
+        let objects = records_at(alloc, names, &known, document, "object")?;
+        let permissions = known.into_permissions();
+        Ok(Decl {
+            permissions,
+            expose,
+            module_text,
+            classes,
+            roles,
+            groups,
+            principals,
+            objects,
+        })
+    }
+
+    /// The ids of the permissions, `zope.Public` among them.
+    pub fn permissions(&self) -> &[Text]
+        ensures { result.now ≡ self.now.permissions }
+    {
+        self.permissions.as_slice()
+    }
+
+    /// The names that scripts may use, as written.
+    pub fn expose(&self) -> &[Name]
+        ensures { result.now ≡ self.now.expose }
+    {
+        self.expose.as_slice()
+    }
+
+    /// The text of the trusted module, empty where there is none.
+    pub fn module(&self) -> &Text
+        ensures { result.now ≡ self.now.module_text }
+    {
+        &self.module_text
+    }
+
+    pub fn classes(&self) -> &[ClassDecl]
+        ensures value { result.now ≡ self.now.classes }
+        ensures within { All (IsClassWithin (length self.now.permissions)) result.now }
+    {
+        self.classes.as_slice()
+    }
+
+    /// The roles, none for version 1.
+    pub fn roles(&self) -> &[RoleDecl]
+        ensures value { result.now ≡ self.now.roles }
+        ensures within { All (IsRoleWithin (length self.now.permissions)) result.now }
+    {
+        self.roles.as_slice()
+    }
+
+    pub fn groups(&self) -> &[GroupDecl]
+        ensures value { result.now ≡ self.now.groups }
+        ensures within { All (IsGroupWithin (length self.now.permissions) (length self.now.roles)) result.now }
+    {
+        self.groups.as_slice()
+    }
+
+    pub fn principals(&self) -> &[PrincipalDecl]
+        ensures value { result.now ≡ self.now.principals }
+        ensures within { All (IsPrincipalWithin (length self.now.permissions) (length self.now.roles) (length self.now.groups)) result.now }
+    {
+        self.principals.as_slice()
+    }
+
+    pub fn objects(&self) -> &[ObjectDecl]
+        ensures { result.now ≡ self.now.objects }
+    {
+        self.objects.as_slice()
+    }
+}

@@ -1,0 +1,32 @@
+//! Declaration files: who is there, and who may do what.
+#![tactic(auto)]
+
+mod consistency;
+mod decl;
+mod document;
+mod fault;
+mod field;
+mod known;
+mod least;
+mod members;
+mod naming;
+mod path;
+mod read;
+mod reading;
+mod records;
+mod ring;
+mod row;
+mod shape;
+mod shapes;
+mod sorted;
+mod test;
+#[cfg(test)]
+mod tests;
+mod word;
+
+pub use decl::Decl;
+pub use fault::{DeclFault, fault_line};
+pub use read::declarations;
+pub use records::{ClassDecl, Field, GroupDecl, ObjectDecl, Perm, PrincipalDecl, RoleDecl};
+pub use row::Row;
+pub use word::{is_declared_name, is_id};

@@ -1,0 +1,95 @@
+-- Grants as the program keeps them, with permissions, roles and groups as places.
+use Rattle.std.specs.Prelude.{ℕ, Bool, true, false, ◌||◌, nat_eq, List, [], ◌∷◌, find, Option, Some, None, option_map, option_and_then, is_some, unwrap_or, if◌then◌else◌}
+use Rattle.std.specs.List.{list_all, list_any}
+use Rattle.std.specs.Option.{option_map_or}
+use Rattle.rp_decl.specs.declared.records.Perm.{Perm}
+use Rattle.rp_interact.specs.Least.{least_of}
+use Rattle.rp_interact.specs.declared.reason.Reason.{Reason}
+use Rattle.rp_interact.specs.declared.reason.Reason.TheVariants.{Public, Own, Role, Group, GroupRole, Nothing}
+
+-- a role's place, and its permissions
+pub record RoleGranted : Type 0 where
+  pub place : ℕ
+  pub permissions : List Perm
+
+-- a group's place, and what it is granted and denied
+pub record GroupGranted : Type 0 where
+  pub place : ℕ
+  pub roles : List RoleGranted
+  pub allow : List Perm
+  pub deny : List Perm
+
+-- what a principal is granted and denied
+pub record Granted : Type 0 where
+  pub roles : List RoleGranted
+  pub groups : List GroupGranted
+  pub allow : List Perm
+  pub deny : List Perm
+
+-- An interaction: the ids of its principals, the place of the permission that everybody has, what each principal is granted, and
+-- the answers that are kept, the latest used first.
+pub record Interacting : Type 0 where
+  pub ids : List (List ℕ)
+  pub everybody : Option ℕ
+  pub granted : List Granted
+  pub kept : List (Perm × Bool)
+
+abbrev pub is_in : List Perm → Perm → Bool
+is_in permissions permission = list_any (λ p. nat_eq p.0 permission.0) permissions
+
+abbrev pub least_role : List RoleGranted → Perm → Option ℕ
+least_role roles permission = least_of (λ r. is_in r.permissions permission) (λ r. r.place) roles
+
+abbrev pub least_denying : List GroupGranted → Perm → Option ℕ
+least_denying groups permission = least_of (λ g. is_in g.deny permission) (λ g. g.place) groups
+
+abbrev pub least_allowing : List GroupGranted → Perm → Option ℕ
+least_allowing groups permission = least_of (λ g. is_in g.allow permission) (λ g. g.place) groups
+
+abbrev pub least_with_role : List GroupGranted → Perm → Option ℕ
+least_with_role groups permission = least_of (λ g. is_some (least_role g.roles permission)) (λ g. g.place) groups
+
+-- the least role of the group at a place
+abbrev pub role_at : List GroupGranted → Perm → ℕ → Option ℕ
+role_at groups permission place = option_and_then (λ g. least_role g.roles permission) (find (λ g. nat_eq g.place place) groups)
+
+abbrev pub group_role : List GroupGranted → Perm → Option Reason
+group_role groups permission = option_and_then (λ g. option_map (GroupRole g) (role_at groups permission g)) (least_with_role groups permission)
+
+abbrev pub rule : Bool → Reason → Option Reason
+rule applies reason = if applies then Some reason else None
+
+abbrev pub first_rule : List (Option Reason) → Reason
+first_rule [] = Nothing
+first_rule (r ∷ rs) = unwrap_or r (first_rule rs)
+
+-- the rules for a permission that is not everybody's, in their order
+abbrev pub rules : Granted → Perm → List (Option Reason)
+rules g permission =
+    rule (is_in g.deny permission) (Own false)
+    ∷ rule (is_in g.allow permission) (Own true)
+    ∷ option_map Role (least_role g.roles permission)
+    ∷ option_map (λ place. Group place false) (least_denying g.groups permission)
+    ∷ option_map (λ place. Group place true) (least_allowing g.groups permission)
+    ∷ group_role g.groups permission
+    ∷ []
+
+abbrev pub reason : Granted → Perm → Reason
+reason g permission = first_rule (rules g permission)
+
+abbrev pub is_everybody : Option ℕ → Perm → Bool
+is_everybody place permission = option_map_or (nat_eq permission.0) place false
+
+abbrev pub why_in : Option ℕ → Granted → Perm → Reason
+why_in everybody g permission = if is_everybody everybody permission then Public else reason g permission
+
+abbrev pub is_yes : Reason → Bool
+is_yes Public = true
+is_yes (Own allowed) = allowed
+is_yes (Role r) = true
+is_yes (Group g allowed) = allowed
+is_yes (GroupRole g r) = true
+is_yes Nothing = false
+
+abbrev pub has_in : Interacting → Perm → Bool
+has_in i permission = is_everybody i.everybody permission || list_all (λ g. is_yes (reason g permission)) i.granted

@@ -1,0 +1,5 @@
+pub mod Answers
+pub mod Granted
+pub mod Kept
+pub mod Least
+pub mod Why

@@ -1,0 +1,13 @@
+//! Interactions: which permissions the principals of a session have, and why.
+#![tactic(auto)]
+
+mod grants;
+mod interaction;
+mod reason;
+#[cfg(test)]
+mod tests;
+mod who_fault;
+
+pub use interaction::Interaction;
+pub use reason::Reason;
+pub use who_fault::WhoFault;

@@ -1,0 +1,4 @@
+mod Apart
+mod Bound
+mod Loaded
+pub mod Later

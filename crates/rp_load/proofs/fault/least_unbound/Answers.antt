@@ -1,0 +1,30 @@
+use Rattle.std.proofs.Common.{◌≡◌, rules, sym, ap, subst, ◌∙◌}
+use Rattle.std.specs.List.{All}
+use Rattle.std.specs.Option.{IfSome}
+use Rattle.rp_base.specs.declared.value.Name.{Name}
+use Rattle.rp_decl.specs.Places.{IsHeld}
+use Rattle.rp_decl.specs.View.{declarations_view}
+use Rattle.rp_machine.specs.Store.{global_names}
+use Rattle.rp_load.proofs.Bound.{bound-step, unbound-step}
+use Rattle.rp_load.proofs.fault.least_unbound.Goals.{then-not-is_bound, else-not-is_bound}
+use Rattle.rp_load.proofs.fault.least_unbound.Goals as goal
+
+pub loop-name-preserved : goal.loop-name-preserved
+loop-name-preserved c =
+    let names = c.args.names.now in
+    let known = global_names (declarations_view names c.args.decl.now) in
+    let xs = c.expose-name-items.result.now in
+    let i = c.loop-name.name-index in
+    let first : Name = record { 0 = 0 } in
+    elim c.if-not-is_bound.branch [
+      | then-not-is_bound w ↦
+          rw w.least-is (record {
+            found = unbound-step names known c.loop-name.least w.lesser.result xs i first c.loop-name-test.true (sym c.is_bound.ensures ∙ w.if-not-is_bound.true) w.lesser.ensures.lesser ∙ c.loop-name.invariant.found;
+            held = w.lesser.ensures.held;
+          })
+      | else-not-is_bound w ↦
+          rw w.least-is (record {
+            found = bound-step names known c.loop-name.least xs i first c.loop-name-test.true (sym c.is_bound.ensures ∙ w.if-not-is_bound.false) ∙ c.loop-name.invariant.found;
+            held = c.loop-name.invariant.held;
+          })
+    ]

@@ -1,0 +1,18 @@
+use Rattle.std.proofs.Common.{◌≡◌, ◌<◌, [], sym, ap, subst, ◌∙◌}
+use Rattle.std.specs.List.{All}
+use Rattle.rp_load.proofs.Apart.{AreApart, apart-objects}
+use Rattle.rp_load.proofs.Loaded.{begun, stored}
+use Rattle.rp_load.proofs.loading.load.Goals as goal
+
+pub place_objects-requires : goal.place_objects-requires
+place_objects-requires c =
+    let same = c.objects.ensures ∙ ap (λ d. d.objects) c.in_ok-world.ensures.decl in
+    record { apart = subst (All AreApart) (sym same) (apart-objects c.args.names c.args.decl.objects c.requires.ordered.fields) }
+
+pub returns-clause-begun : goal.returns-clause-begun
+returns-clause-begun c =
+    let w = c.in_ok-world.world in
+    let known = c.in_ok-world.ensures in
+    let last = stored w.decl c.args.limit w.store c.place_classes.new.store c.place_objects.new.store c.classes.result.now c.classes-2.result.now c.objects.result.now
+    known.store c.classes.ensures.value c.classes-2.ensures.value c.objects.ensures c.in_ok-place_classes.ensures.placed c.in_ok-place_objects.ensures.placed in
+    begun w c.place_objects.new.store c.args.limit known.faithful known.trail (ap (λ r. r.printed) known.running ∙ c.requires.unprinted) (subst (λ r. 0 < r.session) (sym known.running) c.requires.script) last

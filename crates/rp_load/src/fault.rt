@@ -1,0 +1,140 @@
+ghost use Rattle.std.specs.Prelude.{◌≡◌, ◌++◌, IfOk, IfSome, IsTrue, Some, chars, map, nat_lt, option_map, string_bytes};
+ghost use Rattle.std.specs.List.{list_all, list_any};
+ghost use Rattle.rp_decl.specs.Consistency.{unknown};
+ghost use Rattle.rp_decl.specs.Faults.{line_of};
+ghost use Rattle.rp_decl.specs.Order.{least, lesser_of};
+ghost use Rattle.rp_decl.specs.Places.{IsHeld, IsHeldBy};
+ghost use Rattle.rp_decl.specs.View.{declarations_view, field_view, name_text};
+ghost use Rattle.rp_decl.specs.Word.{is_among};
+ghost use Rattle.rp_machine.specs.Store.{global_names};
+ghost use Rattle.rp_store.specs.Key.{same_name};
+ghost use Rattle.rp_load.specs.Load.{fault_line, fault_of, is_run};
+ghost use Rattle.rp_load.specs.View.{IsFaultHeld, fault_view};
+
+use rp_base::{Memory, Name, Names};
+use rp_decl::{ClassDecl, Decl, Field, ObjectDecl};
+use std::alloc::Global;
+use std::cmp::Ordering;
+
+/// Why declarations are not run.
+#[derive(Clone, Copy, Debug, PartialEq, Eq)]
+pub enum LoadFault {
+    /// An exposed name is that of no declared class or object: the least in byte order.
+    Expose(Name),
+    /// There is a module, or a field that is a truth value, a list or a table: these are not run yet.
+    NotYet,
+}
+
+/// Why declarations that were read into the names are not run, if they are not.
+pub fn load_fault(decl: &Decl, names: &Names) -> Option<LoadFault>
+    requires held { IsHeldBy names.now decl.now }
+    ensures fault { option_map (fault_view names.now) result ≡ fault_of (declarations_view names.now decl.now) }
+    ensures held { IfSome result (IsFaultHeld names.now) }
+{
+    if !decl.module().as_str().is_empty() {
+        return Some(LoadFault::NotYet);
+    }
+    if let Some(name) = least_unbound(decl, names) {
+        return Some(LoadFault::Expose(name));
+    }
+    if are_run(decl.objects()) {
+        None
+    } else {
+        Some(LoadFault::NotYet)
+    }
+}
+
+/// The line that tells a fault: `declarations: expose NAME` or `declarations: not yet`, and a line end.
+///
+/// # Errors
+/// `Memory` where a growth was refused.
+pub fn fault_line(alloc: Global, fault: LoadFault, names: &Names) -> Result<String, Memory>
+    requires held { IsFaultHeld names.now fault }
+    ensures { IfOk result (λ line. chars (string_bytes line) ≡ fault_line (fault_view names.now fault)) }
+{
+    match fault {
+        LoadFault::Expose(name) => line(alloc, "expose ", names.text(name)),
+        LoadFault::NotYet => line(alloc, "not yet", ""),
+    }
+}
+
+/// The line of a cause, of which the words are ASCII.
+fn line(alloc: Global, words: &str, which: &str) -> Result<String, Memory>
+    requires { IsTrue (list_all (λ byte. nat_lt byte 128) words.now) }
+    ensures { IfOk result (λ line. chars (string_bytes line) ≡ line_of (words.now ++ chars which.now)) }
+{
+    Ok(format!(in alloc; "declarations: {words}{which}\n")?)
+}
+
+/// The least exposed name in byte order that is that of no declared class or object.
+fn least_unbound(decl: &Decl, names: &Names) -> Option<Name>
+    requires held { IsHeldBy names.now decl.now }
+    ensures least { option_map (name_text names.now) result ≡ least (unknown (global_names (declarations_view names.now decl.now)) (map (name_text names.now) decl.now.expose)) }
+    ensures held { IfSome result (IsHeld names.now) }
+{
+    let mut least = None;
+    for name in decl.expose() {
+        if !is_bound(decl, names, *name) {
+            least = Some(lesser(names, least, *name));
+        }
+    }
+    least
+}
+
+/// The lesser in byte order of a name and one that may be missing.
+fn lesser(names: &Names, least: Option<Name>, name: Name) -> Name
+    requires least_held { IfSome least (IsHeld names.now) }
+    requires name_held { IsHeld names.now name }
+    ensures lesser { Some (name_text names.now result) ≡ lesser_of (option_map (name_text names.now) least) (Some (name_text names.now name)) }
+    ensures held { IsHeld names.now result }
+{
+    let Some(least) = least else {
+        return name;
+    };
+    match names.text(least).cmp(names.text(name)) {
+        Ordering::Greater => name,
+        _ => least,
+    }
+}
+
+/// Whether a declared class or object has the name.
+fn is_bound(decl: &Decl, names: &Names, name: Name) -> bool
+    requires held { IsHeldBy names.now decl.now }
+    requires name_held { IsHeld names.now name }
+    ensures { result ≡ is_among (global_names (declarations_view names.now decl.now)) (name_text names.now name) }
+{
+    // Names tell with each word that they hold it once.
+    let _text = names.text(name);
+    is_class(decl.classes(), name) || is_object(decl.objects(), name)
+}
+
+fn is_class(classes: &[ClassDecl], name: Name) -> bool
+    ensures { result ≡ list_any (λ c. same_name name c.name) classes.now }
+{
+    classes.iter().any(|class| name == class.name)
+}
+
+fn is_object(objects: &[ObjectDecl], name: Name) -> bool
+    ensures { result ≡ list_any (λ o. same_name name o.name) objects.now }
+{
+    objects.iter().any(|object| name == object.name)
+}
+
+/// Whether each field of the objects has a form that is run.
+fn are_run(objects: &[ObjectDecl]) -> bool
+    ensures { result ≡ list_all (λ o. list_all (λ f. is_run (field_view f.1)) o.fields.items) objects.now }
+{
+    objects.iter().all(|object| is_object_run(object))
+}
+
+fn is_object_run(object: &ObjectDecl) -> bool
+    ensures { result ≡ list_all (λ f. is_run (field_view f.1)) object.now.fields.items }
+{
+    object.fields.iter().all(|field| is_run(&field.1))
+}
+
+fn is_run(field: &Field) -> bool
+    ensures { result ≡ is_run (field_view field.now) }
+{
+    matches!(field, Field::Int(_) | Field::Text(_))
+}

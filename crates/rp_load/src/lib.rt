@@ -1,0 +1,10 @@
+//! Loading: the world of declarations, in which a script can run.
+#![tactic(auto)]
+
+mod fault;
+mod loading;
+#[cfg(test)]
+mod tests;
+
+pub use fault::{LoadFault, fault_line, load_fault};
+pub use loading::load;

@@ -1,0 +1,64 @@
+-- The world after an entry was pushed.
+use Rattle.std.proofs.Common.{◌≡◌, ◌+◌, ◌≤◌, length, [], ◌∷◌, ◌++◌, Option, Some, ap, subst, sym, ◌∙◌}
+use Rattle.std.specs.Option.{option_map_or}
+use Rattle.rp_base.specs.declared.value.ClassTag.{ClassTag}
+use Rattle.rp_base.specs.declared.value.Oid.{Oid}
+use Rattle.rp_base.specs.declared.value.Op.{Op}
+use Rattle.rp_base.specs.declared.value.Raised.{Raised}
+use Rattle.rp_checker.specs.Answers.{IsOpHeld, IsRowWithin, IsTagHeld, operation_view, tag_view}
+use Rattle.rp_checker.specs.Tables.{row_in}
+use Rattle.rp_decl.specs.View.{declarations_view, name_text}
+use Rattle.rp_decl.specs.declared.row.Row.{Row}
+use Rattle.rp_interact.specs.Granted.{Interacting}
+use Rattle.rp_store.specs.Heap.{tag_at}
+use Rattle.rp_trail.specs.View.{IsEntryHeld, IsVerdictDeclared, op_name, verdict_view}
+use Rattle.rp_trail.specs.declared.entry.Entry.{Entry}
+use Rattle.rp_trail.specs.declared.entry.Verdict.{Verdict}
+use Rattle.rp_proxy.proofs.Decisions.{decided}
+use Rattle.rp_proxy.proofs.Named.{IsTagHeld-tag_at}
+use Rattle.rp_proxy.proofs.Verdicts.{class_held, name_held, verdict_declared, verdict_same}
+use Rattle.rp_proxy.proofs.Worlds.{after, after-IsFaithful, after-OnlyDecides, asked_keeps, push-held}
+use Rattle.rp_proxy.specs.Decide.{class_at, decide_entry, entry_of, go, raised, refusal, verdict_of}
+use Rattle.rp_proxy.specs.Faithful.{IsFaithful}
+use Rattle.rp_proxy.specs.View.{IsAsked, OnlyDecides, monitor_of, verdict_in}
+use Rattle.rp_proxy.specs.declared.world.World.{World}
+
+module _ (w : World) (at : Oid) (op : Op) (class : ClassTag) (row : Row) (v : Verdict) (i : Interacting) (faithful : IsFaithful w)
+    (found : tag_at w.store.heap at ≡ Some class) (row_is : row ≡ row_in w.checkers class op) (verdict_is : v ≡ verdict_in w.running.interaction row)
+    (asked : IsAsked row w.running.interaction i) (named : IsOpHeld w.names op) where
+  abbrev pub entry : Entry
+  entry = record { session = w.running.session; op = op; class = class; verdict = v }
+
+  abbrev pub pushed : World
+  pushed = after w (w.store.used + 1) (w.trail ++ entry ∷ []) i
+
+  keeps : i ≡ record w.running.interaction { kept = i.kept }
+  keeps = asked_keeps row w.running.interaction i asked
+
+  tag_is_held : IsTagHeld w.names class
+  tag_is_held = IsTagHeld-tag_at w.names w.store.heap at class faithful.classes found
+
+  verdict_means : verdict_view w.decl.permissions v ≡ verdict_of (declarations_view w.names w.decl) w.running.interaction.ids (tag_view w.names class) (operation_view w.names op)
+  verdict_means =
+      ap (verdict_view w.decl.permissions) (verdict_is ∙ ap (verdict_in w.running.interaction) row_is)
+      ∙ verdict_same w.names w.decl w.checkers w.running.interaction class op faithful.rows faithful.rows_within faithful.grants tag_is_held named
+
+  row_within : IsRowWithin (length w.decl.permissions) row
+  row_within = subst (IsRowWithin (length w.decl.permissions)) (sym row_is) (faithful.rows_within class op)
+
+  entry_held : IsEntryHeld w.names w.decl.permissions entry
+  entry_held = record {
+    name = name_held w.names op named;
+    class = class_held w.names class tag_is_held;
+    permission = subst (IsVerdictDeclared w.decl.permissions) (sym verdict_is) (verdict_declared w.decl.permissions w.running.interaction row row_within);
+  }
+
+  pub pushed-IsFaithful : IsFaithful pushed
+  pushed-IsFaithful = after-IsFaithful w (w.store.used + 1) (w.trail ++ entry ∷ []) i keeps faithful (push-held w.names w.decl.permissions w.trail entry faithful.entries entry_held)
+
+  pub pushed-OnlyDecides : OnlyDecides w pushed
+  pushed-OnlyDecides = after-OnlyDecides w (w.store.used + 1) (w.trail ++ entry ∷ []) i keeps
+
+  pub pushed-decided : (r : Option Raised) → w.store.used + 1 ≤ w.store.limit → r ≡ refusal (name_text w.names (op_name op)) (verdict_view w.decl.permissions v)
+      → decide_entry (monitor_of w) (entry_of (monitor_of w) (operation_view w.names op) (class_at w.store.heap at)) ≡ (option_map_or raised r go, monitor_of pushed)
+  pushed-decided r few refused = decided w op class v i keeps verdict_means at r few found refused

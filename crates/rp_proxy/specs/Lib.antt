@@ -1,0 +1,5 @@
+pub mod Decide
+pub mod Faithful
+pub mod Held
+pub mod Taken
+pub mod View

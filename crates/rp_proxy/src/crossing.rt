@@ -1,0 +1,133 @@
+ghost use Rattle.std.specs.Prelude.{◌≡◌, IfOk, chars};
+ghost use Rattle.rp_base.specs.declared.value.Oid.{Oid};
+ghost use Rattle.rp_checker.specs.Answers.{IsOpHeld, operation_view};
+ghost use Rattle.rp_checker.specs.Tables.{row_in};
+ghost use Rattle.rp_decl.specs.View.{name_text};
+ghost use Rattle.rp_store.specs.Heap.{IsHeld, tag_at};
+ghost use Rattle.rp_trail.specs.View.{IsVerdictDeclared, op_name, verdict_view};
+ghost use Rattle.rp_proxy.specs.Decide.{class_at, decide, refusal};
+ghost use Rattle.rp_proxy.specs.Faithful.{IsFaithful};
+ghost use Rattle.rp_proxy.specs.Held.{IsValueHeld};
+ghost use Rattle.rp_proxy.specs.View.{GivesDecision, IsAsked, IsAskedBy, IsPlain, OnlyDecides, monitor_of, verdict_in};
+
+use crate::world::World;
+use rp_base::{Kind, Memory, Names, Oid, Op, OpEnd, Raised, Text, Value};
+use rp_decl::{Decl, Row};
+use rp_interact::Interaction;
+use rp_store::StoreFault;
+use rp_trail::{Entry, Verdict};
+use std::alloc::Global;
+
+/// Decides on an operation on a value (zope.security: checkers). Only one on a proxy is decided: for one cell, an entry
+/// of the session that runs is added to the trail, with the verdict of the object's class on its principals. An operation
+/// on a rock or a plain reference takes no memory, and nothing is changed.
+///
+/// # Errors
+/// - `StopCells` exactly where the cell is over the limit; then nothing is changed.
+/// - `Raised` exactly where the verdict on the operation does not allow it: `Unauthorized` with the id of the permission
+///   that a principal lacks, or `ForbiddenAttribute` with the name.
+/// - `Memory` where a growth was refused; then the trail and the store are as before.
+pub fn cross(alloc: Global, world: &mut World, value: &Value, op: Op) -> Result<(), OpEnd>
+    requires faithful { IsFaithful world.old }
+    requires held { IsValueHeld world.old.store.heap value.now }
+    requires named { IsOpHeld world.old.names op }
+    ensures faithful { IsFaithful world.new }
+    ensures decided { GivesDecision result (monitor_of world.old) (monitor_of world.new) (decide value.now (operation_view world.old.names op) (monitor_of world.old)) }
+    ensures else_same { OnlyDecides world.old world.new }
+    ensures plain { IsPlain value.now → (result ≡ Ok tt) × (world.new ≡ world.old) }
+    ensures stopped { result ≡ Err OpEnd.StopCells → world.new ≡ world.old }
+    ensures kept { (at : Oid) → value.now ≡ Value.Prox at → IsAskedBy result (row_in world.old.checkers (class_at world.old.store.heap at) op) world.old.running.interaction world.new.running.interaction }
+{
+    match value {
+        Value::Rock(_) | Value::Ref(_) => Ok(()),
+        Value::Prox(at) => cross_proxy(alloc, world, *at, op),
+    }
+}
+
+fn cross_proxy(alloc: Global, world: &mut World, at: Oid, op: Op) -> Result<(), OpEnd>
+    requires faithful { IsFaithful world.old }
+    requires held { IsHeld world.old.store.heap at }
+    requires named { IsOpHeld world.old.names op }
+    ensures faithful { IsFaithful world.new }
+    ensures decided { GivesDecision result (monitor_of world.old) (monitor_of world.new) (decide (Value.Prox at) (operation_view world.old.names op) (monitor_of world.old)) }
+    ensures else_same { OnlyDecides world.old world.new }
+    ensures stopped { result ≡ Err OpEnd.StopCells → world.new ≡ world.old }
+    ensures kept { IsAskedBy result (row_in world.old.checkers (class_at world.old.store.heap at) op) world.old.running.interaction world.new.running.interaction }
+{
+    if world.store.used() == world.store.limit() {
+        return Err(OpEnd::StopCells);
+    }
+    let class = world.store.tag(at);
+    let row = world.checkers.row(class, op);
+    let verdict = verdict_of(row, &mut world.running.interaction);
+    let refusal = refusal_of(alloc, verdict, op, &world.decl, &world.names)?;
+    let entry = Entry {
+        session: world.running.session,
+        op,
+        class,
+        verdict,
+    };
+    match world.trail.push(&mut world.store, entry) {
+        Err(StoreFault::Cells) => return Err(OpEnd::StopCells),
+        Err(StoreFault::Memory) => return Err(OpEnd::Memory),
+        Ok(()) => (),
+    }
+    match refusal {
+        None => Ok(()),
+        Some(raised) => Err(OpEnd::Raised(raised)),
+    }
+}
+
+/// The verdict by a row on the principals of an interaction.
+fn verdict_of(row: Row, interaction: &mut Interaction) -> Verdict
+    ensures verdict { result ≡ verdict_in interaction.old row }
+    ensures asked { IsAsked row interaction.old interaction.new }
+{
+    match row {
+        Row::Public | Row::Default => Verdict::Allowed(row),
+        Row::Needs(permission) => {
+            if interaction.decide(permission) {
+                Verdict::Allowed(row)
+            } else {
+                Verdict::Denied(permission)
+            }
+        }
+        Row::Forbidden => Verdict::Forbidden,
+    }
+}
+
+/// The exception that stands in place of an operation, None where its verdict allows it.
+fn refusal_of(
+    alloc: Global,
+    verdict: Verdict,
+    op: Op,
+    decl: &Decl,
+    names: &Names,
+) -> Result<Option<Raised>, Memory>
+    requires declared { IsVerdictDeclared decl.now.permissions verdict }
+    requires named { IsOpHeld names.now op }
+    ensures { IfOk result (λ r. r ≡ refusal (name_text names.now (op_name op)) (verdict_view decl.now.permissions verdict)) }
+{
+    Ok(match verdict {
+        Verdict::Allowed(_) => None,
+        Verdict::Denied(permission) => Some(Raised {
+            kind: Kind::Unauthorized,
+            text: decl.permissions()[permission.0].copy()?,
+        }),
+        Verdict::Forbidden => Some(Raised {
+            kind: Kind::ForbiddenAttribute,
+            text: Text::new(alloc, name_text(op, names))?,
+        }),
+    })
+}
+
+/// The name that is read or set.
+fn name_text(op: Op, names: &Names) -> &str
+    requires { IsOpHeld names.now op }
+    ensures { chars result.now ≡ name_text names.now (op_name op) }
+{
+    match op {
+        Op::Get(name) => names.text(name),
+        Op::Set(name) => names.text(name),
+    }
+}

@@ -1,0 +1,14 @@
+//! Proxies: values as code of a side gets them, and the decision on each operation through a proxy.
+#![tactic(auto)]
+
+mod crossing;
+#[cfg(test)]
+mod crossing_tests;
+mod taking;
+#[cfg(test)]
+mod tests;
+mod world;
+
+pub use crossing::cross;
+pub use taking::take;
+pub use world::{Running, World};
