@@ -1,12 +1,14 @@
-//! Loops for bench/declarations.sh: `rp_bench decide N` decides N times on a permission whose answer is kept, and
-//! `rp_bench row N` looks up N rows of a class with 100 names. It writes nothing; whatever else it is given, it does
-//! nothing.
+//! Loops for the scripts in bench/: `rp_bench decide N` decides N times on a permission whose answer is kept, `rp_bench row N`
+//! looks up N rows of a class with 100 names, `rp_bench tokens N TEXT` reads the tokens of a script that is the text N times
+//! over, and `rp_bench parse N TEXT` its tree too. It writes nothing; whatever else it is given, it does nothing.
 #![tactic(auto)]
 
 use rp_base::{ClassTag, Memory, Names, Op, Text};
 use rp_checker::Checkers;
 use rp_decl::{Decl, DeclFault, Perm, Row, declarations};
 use rp_interact::{Interaction, WhoFault};
+use rp_parse::{ParseFault, parse};
+use rp_token::{TokenFault, tokens};
 use std::alloc::{AllocError, AllocFailed, Global};
 use std::process::ExitCode;
 use std::rt::Env;
@@ -18,6 +20,7 @@ const NAMES: usize = 100;
 enum Failure {
     Memory,
     Declarations,
+    Script,
     Answer,
 }
 
@@ -51,11 +54,24 @@ impl From<WhoFault> for Failure {
     }
 }
 
+impl From<TokenFault> for Failure {
+    fn from(_: TokenFault) -> Self {
+        Failure::Script
+    }
+}
+
+impl From<ParseFault> for Failure {
+    fn from(_: ParseFault) -> Self {
+        Failure::Script
+    }
+}
+
 fn main(rt: HostRuntime) -> ExitCode {
     match run(&rt) {
         Ok(()) => ExitCode::from(0),
         Err(Failure::Memory) => ExitCode::from(8),
         Err(Failure::Declarations) => ExitCode::from(3),
+        Err(Failure::Script) => ExitCode::from(4),
         Err(Failure::Answer) => ExitCode::from(1),
     }
 }
@@ -72,13 +88,34 @@ fn run<R: Env + AllocGlobal>(rt: &R) -> Result<(), Failure> {
     let Ok(turns) = turns.parse::<u64>() else {
         return Ok(());
     };
-    let mut names = Names::new(alloc)?;
-    let decl = declared(alloc, &mut names)?;
-    match what.as_str() {
-        "decide" => decide(alloc, &decl, turns),
-        "row" => rows(alloc, &decl, turns),
+    match (what.as_str(), words.next()) {
+        ("decide", None) => decide(alloc, turns),
+        ("row", None) => rows(alloc, turns),
+        ("tokens", Some(text)) => script(alloc, text.as_str(), turns, false),
+        ("parse", Some(text)) => script(alloc, text.as_str(), turns, true),
         _ => Ok(()),
     }
+}
+
+/// Reads the tokens of a script that is a text so many times over, and its tree where that is asked for.
+fn script(alloc: Global, text: &str, turns: u64, parsed: bool) -> Result<(), Failure> {
+    let mut script = String::new(alloc);
+    for _ in 0..turns {
+        script.push_str(text)?;
+    }
+    let mut names = Names::new(alloc)?;
+    if parsed {
+        return read_tree(alloc, script.as_str(), &mut names);
+    }
+    tokens(alloc, script.as_str(), &mut names)?;
+    Ok(())
+}
+
+/// Reads the tokens of a script, and its tree.
+fn read_tree(alloc: Global, text: &str, names: &mut Names) -> Result<(), Failure> {
+    let tokens = tokens(alloc, text, names)?;
+    parse(alloc, tokens.as_slice())?;
+    Ok(())
 }
 
 /// One permission, a principal that has it, and a class of which each name needs it.
@@ -93,10 +130,12 @@ fn declared(alloc: Global, names: &mut Names) -> Result<Decl, Failure> {
     Ok(declarations(alloc, text.as_bytes(), names)?)
 }
 
-fn decide(alloc: Global, decl: &Decl, turns: u64) -> Result<(), Failure> {
+fn decide(alloc: Global, turns: u64) -> Result<(), Failure> {
+    let mut names = Names::new(alloc)?;
+    let decl = declared(alloc, &mut names)?;
     let mut who = Vec::new(alloc);
     who.push(Text::new(alloc, "u")?)?;
-    let mut interaction = Interaction::new(alloc, decl, who.as_slice())?;
+    let mut interaction = Interaction::new(alloc, &decl, who.as_slice())?;
     let Some(place) = decl.permissions().iter().position(|id| id.is("p")) else {
         return Err(Failure::Answer);
     };
@@ -113,8 +152,10 @@ fn decide(alloc: Global, decl: &Decl, turns: u64) -> Result<(), Failure> {
     }
 }
 
-fn rows(alloc: Global, decl: &Decl, turns: u64) -> Result<(), Failure> {
-    let checkers = Checkers::new(alloc, decl)?;
+fn rows(alloc: Global, turns: u64) -> Result<(), Failure> {
+    let mut names = Names::new(alloc)?;
+    let decl = declared(alloc, &mut names)?;
+    let checkers = Checkers::new(alloc, &decl)?;
     let [class] = decl.classes() else {
         return Err(Failure::Answer);
     };

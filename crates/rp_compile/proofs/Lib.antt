@@ -1,9 +1,13 @@
-pub mod Found
+pub mod Forms
 mod Lists
 pub mod Names
 pub mod Outcomes
+pub mod Programs
+pub mod Renumbered
 pub mod Same
+pub mod Sources
 pub mod Spelled
 mod Texts
-mod Tokenized
-pub mod Trees
+pub mod Trailing
+pub mod Unique
+pub mod Words

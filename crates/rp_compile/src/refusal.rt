@@ -3,7 +3,8 @@ ghost use Rattle.std.specs.Char.{is_ascii};
 ghost use Rattle.std.specs.List.{list_all};
 ghost use Rattle.rp_compile.specs.Refusal.{at_place, fault_text, reason, refusal_line};
 
-use rp_base::{Memory, Printed};
+use rp_base::{Line, Memory, Printed};
+use rp_parse::ParseFault;
 use rp_token::TokenFault;
 use std::alloc::{AllocFailed, Global};
 
@@ -14,7 +15,10 @@ pub enum Refusal {
     NotUtf8(usize),
     /// The text has no tokens, for its first fault. A want of memory is `Memory`.
     Token(TokenFault),
-    /// The text has tokens, and a form that is not built yet.
+    /// The tokens of the text spell no tree of height at most 200. The line is that of the last place at which a statement
+    /// could begin: what stands before it can be ended to a whole script, and no longer front can.
+    Syntax(Line),
+    /// The text has a tree, of a form that is not built yet.
     NotYet,
     /// A growth was refused.
     Memory,
@@ -56,6 +60,20 @@ impl From<TokenFault> for Refusal {
     }
 }
 
+impl From<ParseFault> for Refusal {
+    ghost use Rattle.std.specs.Prelude.{◌≡◌};
+    ghost use Rattle.rp_compile.specs.Refusal.{refusal_from_parse};
+
+    ghost from_gives = { λ fault given. given ≡ refusal_from_parse fault };
+
+    fn from(fault: ParseFault) -> Self {
+        match fault {
+            ParseFault::Syntax(line) => Refusal::Syntax(line),
+            ParseFault::Memory => Refusal::Memory,
+        }
+    }
+}
+
 /// The line that tells a refusal behind a prefix.
 ///
 /// # Errors
@@ -76,6 +94,7 @@ fn add_reason(alloc: Global, text: &mut Printed, refusal: Refusal) -> Result<(),
     match refusal {
         Refusal::NotUtf8(length) => add_place(alloc, text, "byte", length, "not UTF-8"),
         Refusal::Token(fault) => add_fault(alloc, text, fault),
+        Refusal::Syntax(line) => add_place(alloc, text, "line", line.0, "syntax"),
         Refusal::NotYet => add_ascii(text, "not yet"),
         Refusal::Memory => add_ascii(text, "out of memory"),
     }

@@ -1,17 +1,20 @@
-ghost use Rattle.std.specs.Prelude.{◌≡◌, ◌≢◌, IfErr, IfOk, List};
+ghost use Rattle.std.specs.Prelude.{◌≡◌, ◌≢◌, IfErr, IfOk, List, map};
 ghost use Rattle.std.specs.List.{All};
+ghost use Rattle.rp_base.specs.Names.{HoldsEachOnce};
 ghost use Rattle.rp_token.specs.Lexer.{IsGrown};
 ghost use Rattle.rp_compile.specs.Refusal.{IsRefused};
 ghost use Rattle.rp_compile.specs.Rewrites.{Rewrites};
 ghost use Rattle.rp_compile.specs.Script.{IsScript};
 ghost use Rattle.rp_compile.specs.Source.{Statement};
-ghost use Rattle.rp_compile.specs.View.{IsStatementHeld};
+ghost use Rattle.rp_compile.specs.View.{IsStatementHeld, statement_view};
 
 use crate::refusal::Refusal;
 use crate::rewrite::transform;
-use crate::source::read_script;
+use crate::source::statements;
 use crate::tree::Stmt;
-use rp_base::Names;
+use rp_base::{Name, Names};
+use rp_parse::parse;
+use rp_token::tokens;
 use std::alloc::Global;
 use std::marker::Model;
 
@@ -66,4 +69,44 @@ pub fn compile_script(alloc: Global, bytes: &[u8], names: &mut Names) -> Result<
     Ok(Compiled {
         statements: transform(source),
     })
+}
+
+/// The statements of a script, with no guards.
+///
+/// # Errors
+/// The first check that the bytes do not pass, or `Memory` where a growth was refused.
+fn read_script(alloc: Global, bytes: &[u8], names: &mut Names) -> Result<Vec<Stmt>, Refusal>
+    ensures script { IfOk result (λ v. IsScript bytes.now (map (statement_view names.new) v.items)) }
+    ensures one { IfOk result (λ v. (source : List Statement) → IsScript bytes.now source → source ≡ map (statement_view names.new) v.items) }
+    ensures held { IfOk result (λ v. All (IsStatementHeld names.new) v.items) }
+    ensures refused { IfErr result (λ refusal. refusal ≢ Refusal.Memory → IsRefused bytes.now refusal) }
+    ensures names { IsGrown names.old names.new }
+{
+    match std::str::from_utf8(bytes) {
+        Ok(text) => read_text(alloc, text, names),
+        Err(error) => Err(Refusal::NotUtf8(error.valid_up_to())),
+    }
+}
+
+/// The statements of the script that a text is.
+fn read_text(alloc: Global, text: &str, names: &mut Names) -> Result<Vec<Stmt>, Refusal>
+    ensures script { IfOk result (λ v. IsScript text.now (map (statement_view names.new) v.items)) }
+    ensures one { IfOk result (λ v. (source : List Statement) → IsScript text.now source → source ≡ map (statement_view names.new) v.items) }
+    ensures held { IfOk result (λ v. All (IsStatementHeld names.new) v.items) }
+    ensures refused { IfErr result (λ refusal. refusal ≢ Refusal.Memory → IsRefused text.now refusal) }
+    ensures names { IsGrown names.old names.new }
+{
+    let tokens = tokens(alloc, text, names)?;
+    hold_each_once(names);
+    let tree = parse(alloc, tokens.as_slice())?;
+    statements(alloc, &tree, names)
+}
+
+/// Tells the caller that no word is held twice, and does nothing else.
+fn hold_each_once(names: &Names)
+    ensures { HoldsEachOnce names.now }
+{
+    if names.len() > 0 {
+        let _first = names.text(Name(0));
+    }
 }

@@ -136,41 +136,89 @@ fn spacing_comments_and_line_ends_are_free(rt: HostRuntime) -> Result<(), Fail> 
 }
 
 #[test]
+fn other_spellings_have_the_same_trees(rt: HostRuntime) -> Result<(), Fail> {
+    for (text, tree) in [
+        ("x = (y)", "let x be y;"),
+        ("x = ((7))", "let x be number 7;"),
+        ("(x) = 1", "let x be number 1;"),
+        ("x = (y).f", "let x be f of y, Some(GetAttr);"),
+        ("x = (y.f)", "let x be f of y, Some(GetAttr);"),
+        ("print((x))", "print x;"),
+        ("print(x,)", "print x;"),
+        ("(print)(x)", "print x;"),
+        ("(print(x))", "print x;"),
+        ("x = 1;", "let x be number 1;"),
+        ("x = 1; print(x)", "let x be number 1;print x;"),
+    ] {
+        assert_eq!(rt; tree_of(&rt, text)?.as_str(), tree, "{text:?}");
+    }
+    Ok(())
+}
+
+#[test]
 fn other_forms_are_not_built_yet(rt: HostRuntime) -> Result<(), Fail> {
     for text in [
-        "x = ",
-        " x = 1",
-        "x = 1\n  y = 2",
         "x",
         "1",
-        "x = 1;y = 2",
-        "x = 1 y = 2",
-        "print(x) print(y)",
+        "pass",
         "a = b = c",
+        "x, = y",
+        "(x, y) = z",
         "x += 1",
-        "= 1",
-        "1 = x",
         "x.y = 1",
-        "x = y.",
-        "x = .y",
+        "x[0] = 1",
         "x = x.y.z",
+        "x = x[0]",
+        "x = x()",
         "x = -1",
         "x = \"s\"",
         "x = 's'",
-        "x = (y)",
+        "x = ()",
         "x = 1 + 2",
         "print()",
-        "print(x))",
-        "print((x))",
         "print(x, y)",
+        "print(*x)",
+        "print(x=y)",
         "print(x.y.z)",
-        "print x",
+        "print(x)(y)",
+        "print(x).y",
+        "print[x]",
         "Print(x)",
+        "x.print(y)",
         "print(print(x))",
         "if True: pass",
     ] {
         let refusal = refusal_of(rt.alloc(), text.as_bytes())?;
         assert_eq!(rt; refusal, Some(Refusal::NotYet), "{text:?}");
+    }
+    Ok(())
+}
+
+#[test]
+fn texts_without_a_tree_have_a_line(rt: HostRuntime) -> Result<(), Fail> {
+    for (text, line) in [
+        ("x = = 1", 1),
+        ("x = 1\nx = = 1", 2),
+        ("def f():\n    x = = 1\ny = 1", 2),
+        ("x = ", 1),
+        (" x = 1", 1),
+        ("x = 1\n  y = 2", 2),
+        ("x = 1 y = 2", 1),
+        ("print(x) print(y)", 1),
+        ("= 1", 1),
+        ("1 = x", 1),
+        ("x = y.", 1),
+        ("x = .y", 1),
+        ("print(x))", 1),
+        ("print x", 1),
+        ("if = 1", 1),
+        ("print(x.if)", 1),
+        ("None = 1", 1),
+        ("return", 1),
+        ("\n\nbreak", 3),
+    ] {
+        let refusal = refusal_of(rt.alloc(), text.as_bytes())?;
+        assert_eq!(rt; refusal, Some(Refusal::Syntax(Line(line))), "{text:?}");
     }
     Ok(())
 }
@@ -190,9 +238,6 @@ fn other_names_are_not_built_yet(rt: HostRuntime) -> Result<(), Fail> {
         "print(x.join)",
         "print(x.isdigit)",
         "print(x.len)",
-        "if = 1",
-        "print(x.if)",
-        "None = 1",
         "print(None)",
         "x = True",
         "len = 1",
@@ -271,7 +316,11 @@ fn scripts_have_limits(rt: HostRuntime) -> Result<(), Fail> {
         ("x = 1\n", 999, "x = 2", None),
         ("x = 1\n", 1001, "", Some(Refusal::NotYet)),
         ("x = 1\n", 1000, "x = 2", Some(Refusal::NotYet)),
+        ("x = 1;", 1000, "", None),
+        ("x = 1;", 1001, "", Some(Refusal::NotYet)),
         ("\n", 1200, "x = 1", None),
+        ("not ", 198, "x", Some(Refusal::NotYet)),
+        ("not ", 199, "x", Some(Refusal::Syntax(Line(1)))),
         ("n", 255, " = 1", None),
         (
             "n",
@@ -328,6 +377,7 @@ fn refusals_are_told_in_a_line(rt: HostRuntime) -> Result<(), Fail> {
             Refusal::Token(TokenFault::Deep(Line(4_194_304))),
             "s\u{f6}: line 4194304: brackets too deep\n",
         ),
+        (Refusal::Syntax(Line(12)), "s\u{f6}: line 12: syntax\n"),
         (Refusal::NotYet, "s\u{f6}: not yet\n"),
     ] {
         assert_eq!(rt; told(rt.alloc(), refusal)?.as_str(), line);

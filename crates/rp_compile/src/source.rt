@@ -1,10 +1,10 @@
-ghost use Rattle.std.specs.Prelude.{◌≡◌, ◌≢◌, ◌<◌, ◌≤◌, ℕ, List, length, map, codes, Some, None, option_map, if◌then◌else◌, IfErr, IfOk, IfSome};
+ghost use Rattle.std.specs.Prelude.{◌≡◌, ◌∷◌, [], IfErr, IfOk, IfSome, IsTrue, List, Some, map, option_and_then, option_map};
 ghost use Rattle.std.specs.List.{All};
-ghost use Rattle.rp_base.specs.Same.{same_text};
-ghost use Rattle.rp_token.specs.Lexer.{IsGrown};
-ghost use Rattle.rp_compile.specs.Reading.{AreHeld, OnNotYet, assignment_at, behind_call, behind_line, behind_name, call_at, dotted_at, expression_at, forms, is_end, kinds, name_or_attribute, statement_at};
-ghost use Rattle.rp_compile.specs.Refusal.{IsRefused};
-ghost use Rattle.rp_compile.specs.Script.{IsScript, Spells, is_attribute_name, is_script_name, is_written};
+ghost use Rattle.rp_tree.specs.Expressions as t;
+ghost use Rattle.rp_tree.specs.ExpressionViews as v;
+ghost use Rattle.rp_tree.specs.StatementViews.{view_stmt_form, view_tree};
+ghost use Rattle.rp_compile.specs.Reading.{OnNotYet, allowed, allowed_statement};
+ghost use Rattle.rp_compile.specs.Script.{IsSource, argument_in, arguments_in, attribute_in, expression_of, is_attribute_name, is_print, is_script_name, name_in, printed_in, statement_of, target_in};
 ghost use Rattle.rp_compile.specs.Source as source;
 ghost use Rattle.rp_compile.specs.Source.{Statement};
 ghost use Rattle.rp_compile.specs.View.{IsExpressionHeld, IsNameHeld, IsStatementHeld, expression_view, statement_view, word};
@@ -13,284 +13,197 @@ use crate::refusal::Refusal;
 use crate::script_name::{is_attribute_name, is_script_name};
 use crate::tree::{Expr, Stmt};
 use rp_base::{Name, Names};
-use rp_token::{Token, TokenKind, tokens};
+use rp_tree::{Arg, ExprForm, Place, StmtForm, Trailer, Tree};
 use std::alloc::Global;
 
 /// The most statements of a script.
 const LONGEST_SCRIPT: usize = 1000;
 
-/// The tree of a script, with no guards.
+/// The statements of the first form that a tree is, with no guards.
 ///
 /// # Errors
-/// The first check that the bytes do not pass, or `Memory` where a growth was refused.
-pub(crate) fn read_script(
-    alloc: Global,
-    bytes: &[u8],
-    names: &mut Names,
-) -> Result<Vec<Stmt>, Refusal>
-    ensures tree { IfOk result (λ v. IsScript bytes.now (map (statement_view names.new) v.items)) }
-    ensures one { IfOk result (λ v. (tree : List Statement) → IsScript bytes.now tree → tree ≡ map (statement_view names.new) v.items) }
-    ensures held { IfOk result (λ v. All (IsStatementHeld names.new) v.items) }
-    ensures refused { IfErr result (λ refusal. refusal ≢ Refusal.Memory → IsRefused bytes.now refusal) }
-    ensures names { IsGrown names.old names.new }
-{
-    match std::str::from_utf8(bytes) {
-        Ok(text) => read_text(alloc, text, names),
-        Err(error) => Err(Refusal::NotUtf8(error.valid_up_to())),
-    }
-}
-
-/// The tree of the script that a text is.
-fn read_text(alloc: Global, text: &str, names: &mut Names) -> Result<Vec<Stmt>, Refusal>
-    ensures tree { IfOk result (λ v. IsScript text.now (map (statement_view names.new) v.items)) }
-    ensures one { IfOk result (λ v. (tree : List Statement) → IsScript text.now tree → tree ≡ map (statement_view names.new) v.items) }
-    ensures held { IfOk result (λ v. All (IsStatementHeld names.new) v.items) }
-    ensures refused { IfErr result (λ refusal. refusal ≢ Refusal.Memory → IsRefused text.now refusal) }
-    ensures names { IsGrown names.old names.new }
-{
-    let tokens = tokens(alloc, text, names)?;
-    statements(alloc, tokens.as_slice(), names)
-}
-
-/// The tree that tokens spell.
-fn statements(alloc: Global, tokens: &[Token], names: &Names) -> Result<Vec<Stmt>, Refusal>
-    requires held { AreHeld names.now (kinds tokens.now) }
-    ensures tree { IfOk result (λ v. Spells (forms names.now (kinds tokens.now)) (map (statement_view names.now) v.items)) }
-    ensures one { IfOk result (λ v.
-        (tree : List Statement) → Spells (forms names.now (kinds tokens.now)) tree → tree ≡ map (statement_view names.now) v.items) }
+/// `NotYet` where a statement is of another form or uses another name, or where there are more than 1000, and `Memory`
+/// where a growth was refused.
+pub(crate) fn statements(alloc: Global, tree: &Tree, names: &Names) -> Result<Vec<Stmt>, Refusal>
+    ensures source { IfOk result (λ v. IsSource names.now (view_tree tree.now) (map (statement_view names.now) v.items)) }
     ensures held { IfOk result (λ v. All (IsStatementHeld names.now) v.items) }
-    ensures refused { IfErr result (λ refusal.
-        OnNotYet refusal ((tree : List Statement) → ¬ Spells (forms names.now (kinds tokens.now)) tree)) }
+    ensures refused { IfErr result (λ refusal. OnNotYet refusal ((source : List Statement) → ¬ IsSource names.now (view_tree tree.now) source)) }
 {
+    if tree.body.len() > LONGEST_SCRIPT {
+        return Err(Refusal::NotYet);
+    }
     let mut found = Vec::new(alloc);
-    let mut rest = tokens;
-    'statements: while !is_end(rest) {
-        if found.len() >= LONGEST_SCRIPT {
-            return Err(Refusal::NotYet);
-        }
-        let Some((statement, behind)) = statement(rest, names) else {
+    for stmt in &tree.body {
+        let Some(statement) = statement(&stmt.form, names) else {
             return Err(Refusal::NotYet);
         };
         found.push(statement)?;
-        rest = behind;
     }
     Ok(found)
 }
 
-/// Whether nothing but the end of the text is left.
-fn is_end(tokens: &[Token]) -> bool
-    ensures { result ≡ is_end (kinds tokens.now) }
+/// The statement of the first form that a form is, where a script may write it.
+fn statement(form: &StmtForm, names: &Names) -> Option<Stmt>
+    ensures gives { option_map (statement_view names.now) result ≡ allowed_statement (statement_of names.now (view_stmt_form form.now)) }
+    ensures held { IfSome result (IsStatementHeld names.now) }
 {
-    matches!(
-        tokens,
-        [Token {
-            kind: TokenKind::End,
-            ..
-        }]
-    )
-}
-
-/// The statement at the front of some tokens, up to the end of its line, and what stands behind it.
-fn statement<'t>(tokens: &'t [Token], names: &Names) -> Option<(Stmt, &'t [Token])>
-    requires held { AreHeld names.now (kinds tokens.now) }
-    ensures gives { option_map (λ r. (statement_view names.now r.0, kinds r.1.now)) result ≡ statement_at names.now (kinds tokens.now) }
-    ensures held { IfSome result (λ r. IsStatementHeld names.now r.0 × AreHeld names.now (kinds r.1.now)) }
-    ensures shorter { IfSome result (λ r. length r.1.now < length tokens.now) }
-{
-    match tokens {
-        [
-            Token {
-                kind: TokenKind::Name(name),
-                ..
-            },
-            rest @ ..,
-        ] => behind_name(*name, rest, names),
+    match form {
+        StmtForm::Assign(places, value) => assignment(places, &value.form, names),
+        StmtForm::Expr(value) => call(&value.form, names),
         _ => None,
     }
 }
 
-/// The statement that begins with a name, which the tokens follow, and what stands behind it.
-fn behind_name<'t>(name: Name, tokens: &'t [Token], names: &Names) -> Option<(Stmt, &'t [Token])>
-    requires name { IsNameHeld names.now name }
-    requires held { AreHeld names.now (kinds tokens.now) }
-    ensures gives { option_map (λ r. (statement_view names.now r.0, kinds r.1.now)) result ≡ behind_name names.now name (kinds tokens.now) }
-    ensures held { IfSome result (λ r. IsStatementHeld names.now r.0 × AreHeld names.now (kinds r.1.now)) }
-    ensures shorter { IfSome result (λ r. length r.1.now < length tokens.now) }
+/// The assignment to a name that is the only place.
+fn assignment(places: &[Place], value: &ExprForm, names: &Names) -> Option<Stmt>
+    ensures gives { option_map (statement_view names.now) result
+        ≡ allowed_statement (option_and_then (λ x. option_map (source.assign (word names.now x)) (expression_of names.now (v.view_form value.now))) (target_in (map v.view_place places.now))) }
+    ensures held { IfSome result (IsStatementHeld names.now) }
 {
-    match tokens {
-        [
-            Token {
-                kind: TokenKind::Equal,
-                ..
-            },
-            rest @ ..,
-        ] => assignment(name, rest, names),
-        [
-            Token {
-                kind: TokenKind::LeftParen,
-                ..
-            },
-            rest @ ..,
-        ] => call(name, rest, names),
+    let target = target(places)?;
+    let value = expression(value, names)?;
+    if is_usable(target, names) {
+        Some(Stmt::Assign(target, value))
+    } else {
+        None
+    }
+}
+
+/// The name that is the only place.
+fn target(places: &[Place]) -> Option<Name>
+    ensures { result ≡ target_in (map v.view_place places.now) }
+{
+    match places {
+        [place] => bound(place),
         _ => None,
     }
 }
 
-/// The assignment to a target of which the tokens follow `=`, and what stands behind it.
-fn assignment<'t>(target: Name, tokens: &'t [Token], names: &Names) -> Option<(Stmt, &'t [Token])>
-    requires target { IsNameHeld names.now target }
-    requires held { AreHeld names.now (kinds tokens.now) }
-    ensures gives { option_map (λ r. (statement_view names.now r.0, kinds r.1.now)) result ≡ assignment_at names.now target (kinds tokens.now) }
-    ensures held { IfSome result (λ r. IsStatementHeld names.now r.0 × AreHeld names.now (kinds r.1.now)) }
-    ensures shorter { IfSome result (λ r. length r.1.now < length tokens.now) }
+/// The name that a place is.
+#[tactic(auto, using(rp_tree::proofs::ExpressionEquations::variants))]
+fn bound(place: &Place) -> Option<Name>
+    ensures { result ≡ target_in (v.view_place place.now ∷ []) }
 {
-    if !is_usable(target, names) {
-        return None;
+    match place {
+        Place::Name(named) => Some(named.name),
+        Place::Attr(..) | Place::Item(..) => None,
     }
-    let (value, rest) = expression(tokens, names)?;
-    let rest = behind_line(rest)?;
-    Some((Stmt::Assign(target, value), rest))
 }
 
-/// The call of `print` of which the tokens follow `(`, and what stands behind it.
-fn call<'t>(function: Name, tokens: &'t [Token], names: &Names) -> Option<(Stmt, &'t [Token])>
-    requires function { IsNameHeld names.now function }
-    requires held { AreHeld names.now (kinds tokens.now) }
-    ensures gives { option_map (λ r. (statement_view names.now r.0, kinds r.1.now)) result ≡ call_at names.now function (kinds tokens.now) }
-    ensures held { IfSome result (λ r. IsStatementHeld names.now r.0 × AreHeld names.now (kinds r.1.now)) }
-    ensures shorter { IfSome result (λ r. length r.1.now < length tokens.now) }
+/// The call of `print` that an expression is.
+fn call(form: &ExprForm, names: &Names) -> Option<Stmt>
+    ensures gives { option_map (statement_view names.now) result
+        ≡ allowed_statement (option_map source.print (option_and_then (expression_of names.now) (printed_in names.now (v.view_form form.now)))) }
+    ensures held { IfSome result (IsStatementHeld names.now) }
 {
-    if !is_print(function, names) {
-        return None;
+    let value = expression(printed(form, names)?, names)?;
+    Some(Stmt::Print(value))
+}
+
+/// The only argument of the call of `print` that an expression is.
+fn printed<'t>(form: &'t ExprForm, names: &Names) -> Option<&'t ExprForm>
+    ensures { option_map (λ f. v.view_form f.now) result ≡ printed_in names.now (v.view_form form.now) }
+{
+    match form {
+        ExprForm::Primary(function, trailers) => {
+            if is_print(name(&function.form)?, names) {
+                argument(arguments(trailers)?)
+            } else {
+                None
+            }
+        }
+        _ => None,
     }
-    let (value, rest) = expression(tokens, names)?;
-    let rest = behind_call(rest)?;
-    Some((Stmt::Print(value), rest))
+}
+
+/// The arguments of the call that is all that trails.
+fn arguments(trailers: &[Trailer]) -> Option<&[Arg]>
+    ensures { option_map (λ args. v.args_of (map v.view_arg args.now)) result ≡ arguments_in (v.trailers_of (map v.view_trailer trailers.now)) }
+{
+    match trailers {
+        [] => None,
+        [trailer] => arguments_of(trailer),
+        [_, _, ..] => None,
+    }
+}
+
+/// The arguments, where a trailer is a call.
+fn arguments_of(trailer: &Trailer) -> Option<&[Arg]>
+    ensures { option_map (λ args. v.args_of (map v.view_arg args.now)) result ≡ arguments_in (t.trailer (v.view_trailer trailer.now) t.no_trailers) }
+{
+    match trailer {
+        Trailer::Call(args, _) => Some(args),
+        _ => None,
+    }
+}
+
+/// The positional argument that is the only one.
+fn argument(args: &[Arg]) -> Option<&ExprForm>
+    ensures { option_map (λ f. v.view_form f.now) result ≡ argument_in (v.args_of (map v.view_arg args.now)) }
+{
+    match args {
+        [] => None,
+        [arg] => positional(arg),
+        [_, _, ..] => None,
+    }
+}
+
+/// The expression of a positional argument.
+#[tactic(auto, using(rp_tree::proofs::ExpressionEquations::variants))]
+fn positional(arg: &Arg) -> Option<&ExprForm>
+    ensures { option_map (λ f. v.view_form f.now) result ≡ argument_in (t.arg (v.view_arg arg.now) t.no_args) }
+{
+    match arg {
+        Arg::Plain(value) => Some(&value.form),
+        Arg::Star(_) | Arg::Key(..) | Arg::Stars(_) => None,
+    }
 }
 
 /// Whether a name is `print`.
 fn is_print(name: Name, names: &Names) -> bool
-    requires { IsNameHeld names.now name }
-    ensures { result ≡ same_text (word names.now name) (codes "print") }
+    ensures { result ≡ is_print names.now name }
 {
-    names.text(name) == "print"
+    name.0 < names.len() && names.text(name) == "print"
 }
 
-/// What stands behind the end of a line.
-fn behind_line(tokens: &[Token]) -> Option<&[Token]>
-    ensures gives { option_map (λ rest. kinds rest.now) result ≡ behind_line (kinds tokens.now) }
-    ensures held { (names : List (List ℕ)) → AreHeld names (kinds tokens.now) → IfSome result (λ rest. AreHeld names (kinds rest.now)) }
-    ensures shorter { IfSome result (λ rest. length rest.now < length tokens.now) }
+/// The expression of the first form that a form is, where a script may write it.
+fn expression(form: &ExprForm, names: &Names) -> Option<Expr>
+    ensures gives { option_map (expression_view names.now) result ≡ allowed (expression_of names.now (v.view_form form.now)) }
+    ensures held { IfSome result (IsExpressionHeld names.now) }
 {
-    match tokens {
-        [
-            Token {
-                kind: TokenKind::Newline,
-                ..
-            },
-            rest @ ..,
-        ] => Some(rest),
+    match form {
+        ExprForm::Name(name) => name_of(*name, names),
+        ExprForm::Int(value @ 0..) => Some(Expr::Int(*value)),
+        ExprForm::Primary(object, trailers) => {
+            attribute_of(name(&object.form)?, attribute(trailers)?, names)
+        }
         _ => None,
     }
 }
 
-/// What stands behind a closing parenthesis and the end of a line.
-fn behind_call(tokens: &[Token]) -> Option<&[Token]>
-    ensures gives { option_map (λ rest. kinds rest.now) result ≡ behind_call (kinds tokens.now) }
-    ensures held { (names : List (List ℕ)) → AreHeld names (kinds tokens.now) → IfSome result (λ rest. AreHeld names (kinds rest.now)) }
-    ensures shorter { IfSome result (λ rest. length rest.now < length tokens.now) }
+/// The name that an expression is.
+fn name(form: &ExprForm) -> Option<Name>
+    ensures { result ≡ name_in (v.view_form form.now) }
 {
-    match tokens {
-        [
-            Token {
-                kind: TokenKind::RightParen,
-                ..
-            },
-            Token {
-                kind: TokenKind::Newline,
-                ..
-            },
-            rest @ ..,
-        ] => Some(rest),
+    match form {
+        ExprForm::Name(name) => Some(*name),
         _ => None,
     }
 }
 
-/// The expression at the front of some tokens, and what stands behind it.
-fn expression<'t>(tokens: &'t [Token], names: &Names) -> Option<(Expr, &'t [Token])>
-    requires held { AreHeld names.now (kinds tokens.now) }
-    ensures gives { option_map (λ r. (expression_view names.now r.0, kinds r.1.now)) result ≡ expression_at names.now (kinds tokens.now) }
-    ensures held { IfSome result (λ r. IsExpressionHeld names.now r.0 × AreHeld names.now (kinds r.1.now)) }
-    ensures shorter { IfSome result (λ r. length r.1.now < length tokens.now) }
+/// The attribute that is all that trails.
+fn attribute(trailers: &[Trailer]) -> Option<Name>
+    ensures { result ≡ attribute_in (v.trailers_of (map v.view_trailer trailers.now)) }
 {
-    match tokens {
-        [
-            Token {
-                kind: TokenKind::Name(name),
-                ..
-            },
-            rest @ ..,
-        ] => name_or_attribute(*name, rest, names),
-        [
-            Token {
-                kind: TokenKind::Int(value @ 0..),
-                ..
-            },
-            rest @ ..,
-        ] => Some((Expr::Int(*value), rest)),
-        _ => None,
-    }
-}
-
-/// A name, or the read of an attribute of what it names, of which the tokens follow the name.
-fn name_or_attribute<'t>(
-    name: Name,
-    tokens: &'t [Token],
-    names: &Names,
-) -> Option<(Expr, &'t [Token])>
-    requires name { IsNameHeld names.now name }
-    requires held { AreHeld names.now (kinds tokens.now) }
-    ensures gives { option_map (λ r. (expression_view names.now r.0, kinds r.1.now)) result
-        ≡ name_or_attribute names.now name (kinds tokens.now) (dotted_at (kinds tokens.now)) }
-    ensures held { IfSome result (λ r. IsExpressionHeld names.now r.0 × AreHeld names.now (kinds r.1.now)) }
-    ensures shorter { IfSome result (λ r. length r.1.now ≤ length tokens.now) }
-{
-    match dotted(tokens) {
-        Some((attribute, rest)) => Some((attribute_of(name, attribute, names)?, rest)),
-        None => Some((name_of(name, names)?, tokens)),
-    }
-}
-
-/// The name of an attribute behind a dot, and what stands behind it.
-fn dotted(tokens: &[Token]) -> Option<(Name, &[Token])>
-    ensures gives { option_map (λ r. (r.0, kinds r.1.now)) result ≡ dotted_at (kinds tokens.now) }
-    ensures held { (names : List (List ℕ)) → AreHeld names (kinds tokens.now)
-        → IfSome result (λ r. IsNameHeld names r.0 × AreHeld names (kinds r.1.now)) }
-    ensures shorter { IfSome result (λ r. length r.1.now ≤ length tokens.now) }
-{
-    match tokens {
-        [
-            Token {
-                kind: TokenKind::Dot,
-                ..
-            },
-            Token {
-                kind: TokenKind::Name(name),
-                ..
-            },
-            rest @ ..,
-        ] => Some((*name, rest)),
+    match trailers {
+        [Trailer::Attr(named, _)] => Some(named.name),
         _ => None,
     }
 }
 
 /// The read of an attribute of the object that `object` names, where a script may write it.
 fn attribute_of(object: Name, name: Name, names: &Names) -> Option<Expr>
-    requires object { IsNameHeld names.now object }
-    requires name { IsNameHeld names.now name }
-    ensures gives { option_map (expression_view names.now) result
-        ≡ (if is_written (source.attribute (word names.now object) (word names.now name))
-        then Some (source.attribute (word names.now object) (word names.now name)) else None) }
+    ensures gives { option_map (expression_view names.now) result ≡ allowed (Some (source.attribute (word names.now object) (word names.now name))) }
     ensures held { IfSome result (IsExpressionHeld names.now) }
 {
     if is_usable(object, names) && is_readable(name, names) {
@@ -306,9 +219,7 @@ fn attribute_of(object: Name, name: Name, names: &Names) -> Option<Expr>
 
 /// The read of what a name stands for, where a script may write it.
 fn name_of(name: Name, names: &Names) -> Option<Expr>
-    requires { IsNameHeld names.now name }
-    ensures gives { option_map (expression_view names.now) result
-        ≡ (if is_script_name (word names.now name) then Some (source.name (word names.now name)) else None) }
+    ensures gives { option_map (expression_view names.now) result ≡ allowed (Some (source.name (word names.now name))) }
     ensures held { IfSome result (IsExpressionHeld names.now) }
 {
     if is_usable(name, names) {
@@ -320,16 +231,16 @@ fn name_of(name: Name, names: &Names) -> Option<Expr>
 
 /// Whether a script may use a name.
 fn is_usable(name: Name, names: &Names) -> bool
-    requires { IsNameHeld names.now name }
-    ensures { result ≡ is_script_name (word names.now name) }
+    ensures usable { result ≡ is_script_name (word names.now name) }
+    ensures held { IsTrue result → IsNameHeld names.now name }
 {
-    is_script_name(names.text(name))
+    name.0 < names.len() && is_script_name(names.text(name))
 }
 
 /// Whether a script may read an attribute of this name.
 fn is_readable(name: Name, names: &Names) -> bool
-    requires { IsNameHeld names.now name }
-    ensures { result ≡ is_attribute_name (word names.now name) }
+    ensures readable { result ≡ is_attribute_name (word names.now name) }
+    ensures held { IsTrue result → IsNameHeld names.now name }
 {
-    is_attribute_name(names.text(name))
+    name.0 < names.len() && is_attribute_name(names.text(name))
 }

@@ -343,6 +343,8 @@ fn says_why_a_script_is_refused(rt: HostRuntime) -> Result<(), Fail> {
         ("x = 9223372036854775808", "line 1: bad number"),
         ("x = 'a\\q'", "line 1: bad escape"),
         ("x = 1 ? 2", "line 1: bad character"),
+        ("x = = 1", "line 1: syntax"),
+        ("def f():\n    x = = 1\ny = 1", "line 2: syntax"),
         ("x = 1 + 2", "not yet"),
         ("if True: pass", "not yet"),
     ] {
@@ -367,6 +369,7 @@ fn runs_a_script_in_whatever_spacing(rt: HostRuntime) -> Result<(), Fail> {
         "\u{feff}print ( root . title )",
         "# the title\r\n\r\n\u{ff58}=root\r\nprint(x.title) # here",
         "x = 9223372036854775807\nprint(\n  root.title\n)\n",
+        "x = (root); print((x.title),)",
     ] {
         let said = said_of(rt.alloc(), script.as_bytes())?;
         assert_eq!(rt;

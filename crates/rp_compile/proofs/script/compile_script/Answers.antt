@@ -6,7 +6,7 @@ pub returns-clause-rewritten : goal.returns-clause-rewritten
 returns-clause-rewritten c =
     let names = c.read_script.new.names in
     let rewritten = c.transform.ensures in
-    (map (statement_view names) c.in_ok-source.source.items, (c.in_ok-source.ensures.tree, record { same = rewritten.same names; guarded = rewritten.guarded }))
+    (map (statement_view names) c.in_ok-source.source.items, (c.in_ok-source.ensures.script, record { same = rewritten.same names; guarded = rewritten.guarded }))
 
 pub returns-clause-one : goal.returns-clause-one
 returns-clause-one c = λ source other. record {

@@ -1,57 +1,54 @@
-use Rattle.std.proofs.Common.{◌≡◌, ◌≤◌, ◌++◌, ◌∷◌, [], true, false, None, Some, length, map, ap, sym, ◌∙◌, subst, arith, rules, length-append}
+use Rattle.std.proofs.Common.{◌≡◌, ◌∙◌, ap, sym, subst, map, length, get_or, take, arith}
 use Rattle.std.specs.List.{All}
-use Rattle.std.proofs.lemmas.List.{length-map, map-append}
+use Rattle.std.proofs.lemmas.List.{length-map}
 use Rattle.std.proofs.lemmas.List.Elements.{All-push}
-use Rattle.rp_compile.specs.Reading.{forms, is_end, kinds, statement_at}
-use Rattle.rp_compile.specs.Script.{longest_script}
-use Rattle.rp_compile.specs.View.{IsStatementHeld, statement_view}
-use Rattle.rp_compile.proofs.Found.{statement_found}
-use Rattle.rp_compile.proofs.Trees.{forms_before, forms_before-push, goes_on-push, goes_on-stuck, one_at_end, tree_at_end, written-push}
+use Rattle.rp_tree.specs.StatementViews.{view_stmt}
+use Rattle.rp_compile.specs.View.{IsStatementHeld}
+use Rattle.rp_compile.proofs.Forms.{all_read, no_source, one_more, source_short, written_at, written_there}
+use Rattle.rp_compile.proofs.Lists.{take-all}
 use Rattle.rp_compile.proofs.source.statements.Goals as goal
 
-pub statements-preserved : goal.statements-preserved
-statements-preserved c =
-    let names = c.args.names.now in
-    let so_far = c.statements.invariant in
-    let items = c.statements.found.items in
-    let done = map (statement_view names) items in
-    let read = c.in-Some.statement in
-    let one = statement_view names read in
-    let left = kinds c.statements.rest.now in
-    let behind = kinds c.in-Some.behind.now in
-    let gives : statement_at names left ≡ Some (one, behind) = sym c.in-Some.ensures.gives in
-    let found = statement_found names left one behind gives in
-    let pushed : c.push.new.self.items ≡ items ++ read ∷ [] = c.in_ok-push.ensures.items in
-    let added : map (statement_view names) c.push.new.self.items ≡ done ++ one ∷ [] =
-    ap (map (statement_view names)) pushed ∙ map-append (statement_view names) items (read ∷ []) in
-    record {
-      written = rw added (written-push done one so_far.written found.written);
-      short = omega (arith, ap length pushed, length-append items (read ∷ []));
-      all_held = subst (All (IsStatementHeld names)) (sym pushed) (All-push (IsStatementHeld names) items read so_far.all_held c.in-Some.ensures.held.0);
-      held = c.in-Some.ensures.held.1;
-      spelled = so_far.spelled ∙ (ap (forms_before done) found.spelled ∙ (sym (forms_before-push done one (forms names behind)) ∙ ap (λ ss. forms_before ss (forms names behind)) (sym added)));
-      others = λ tree spells. rw added (goes_on-push names left behind done one tree gives (so_far.others tree spells));
-    }
-
-pub returns-clause-tree : goal.returns-clause-tree
-returns-clause-tree c =
-    let so_far = c.statements.invariant in
-    let names = c.args.names.now in
-    let items = c.statements.found.items in
-    let ends : is_end (kinds c.statements.rest.now) ≡ true = search rules in
-    let short : length (map (statement_view names) items) ≤ longest_script = omega (arith, so_far.short, length-map items (statement_view names)) in
-    tree_at_end names (kinds c.statements.rest.now) (map (statement_view names) items) _ ends so_far.written short so_far.spelled
-
-pub returns-clause-one : goal.returns-clause-one
-returns-clause-one c = λ tree spells.
-    let names = c.args.names.now in
-    let ends : is_end (kinds c.statements.rest.now) ≡ true = search rules in
-    one_at_end names (kinds c.statements.rest.now) (map (statement_view names) c.statements.found.items) tree ends (c.statements.invariant.others tree spells)
+pub returns-then-len-gt-LONGEST_SCRIPT-clause-refused :
+    goal.returns-then-len-gt-LONGEST_SCRIPT-clause-refused
+returns-then-len-gt-LONGEST_SCRIPT-clause-refused c = λ source is.
+    let items = c.args.tree.now.body.items in
+    let short = source_short c.args.names.now (map view_stmt items) source is in
+    let same = length-map items view_stmt in
+    omega (arith, short, same, c.if-len-gt-LONGEST_SCRIPT.true, c.len.ensures, c.args.tree.now.body.ok.0)
 
 pub returns-in_default-clause-refused : goal.returns-in_default-clause-refused
-returns-in_default-clause-refused c = λ tree spells.
+returns-in_default-clause-refused c =
     let names = c.args.names.now in
-    let left = kinds c.statements.rest.now in
-    let goes : is_end left ≡ false = search rules in
-    let none : statement_at names left ≡ None = sym c.in_default.ensures.gives in
-    goes_on-stuck names left (map (statement_view names) c.statements.found.items) tree goes none (c.statements.invariant.others tree spells)
+    let items = c.args.tree.now.body.items in
+    let i = c.loop-stmt.stmt-index in
+    let x = c.stmt-item.result in
+    let same = length-map items view_stmt in
+    let listed = ap length c.deref-stmt-items.ensures.value in
+    let at : x ≡ get_or items i x = c.stmt-item.is ∙ ap (λ xs. get_or xs i x) c.deref-stmt-items.ensures.value in
+    no_source names (map view_stmt items) i (view_stmt x) (omega (arith, same, listed, c.loop-stmt-test.true))
+    (written_there names items i x c.deref.result.now c.deref.ensures at ∙ sym c.in_default.ensures.gives)
+
+pub loop-stmt-preserved : goal.loop-stmt-preserved
+loop-stmt-preserved c =
+    let names = c.args.names.now in
+    let items = c.args.tree.now.body.items in
+    let i = c.loop-stmt.stmt-index in
+    let x = c.stmt-item.result in
+    let made = c.in-Some.statement in
+    let so_far = c.loop-stmt.invariant in
+    let listed = ap length c.deref-stmt-items.ensures.value in
+    let at : x ≡ get_or items i x = c.stmt-item.is ∙ ap (λ xs. get_or xs i x) c.deref-stmt-items.ensures.value in
+    record {
+      written = one_more names items i x c.deref.result.now c.loop-stmt.found.items c.push.new.self.items made (omega (arith, listed, c.loop-stmt-test.true)) c.deref.ensures at
+          c.in-Some.ensures.gives so_far.written c.in_ok-push.ensures.items;
+      held = subst (All (IsStatementHeld names)) (sym c.in_ok-push.ensures.items) (All-push (IsStatementHeld names) c.loop-stmt.found.items made so_far.held c.in-Some.ensures.held);
+    }
+
+pub returns-clause-source : goal.returns-clause-source
+returns-clause-source c =
+    let names = c.args.names.now in
+    let items = c.args.tree.now.body.items in
+    let listed = ap length c.deref-stmt-items.ensures.value in
+    let whole : take c.loop-stmt.stmt-index items ≡ items = take-all items c.loop-stmt.stmt-index (omega (arith, listed, c.loop-stmt-test.false)) in
+    all_read names items c.loop-stmt.found.items (omega (arith, c.if-len-gt-LONGEST_SCRIPT.false, c.len.ensures, c.args.tree.now.body.ok.0))
+    (ap (λ xs. map (written_at names) (map view_stmt xs)) (sym whole) ∙ c.loop-stmt.invariant.written)

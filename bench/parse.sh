@@ -1,0 +1,91 @@
+#!/usr/bin/env bash
+# Nanoseconds per token of reading scripts of 250,000 and 1,000,000 tokens into trees, beside CPython's ast.parse on the same
+# text, as ratios; the growth from the one to the other; and the bytes that a tree takes per token. Processor time, the least of
+# some runs: rpy as a process that repeats a block so often, reads its tokens and parses them; CPython within its process.
+cd "$(dirname "${BASH_SOURCE[0]}")/.." || exit 2
+# Without words the loops do nothing; building them proves them too.
+[ -x crates/rp_bench/out/rp_bench ] || (cd crates/rp_bench && rt run >/dev/null </dev/null)
+exec python3 - <<'PYTHON'
+import ast
+import io
+import os
+import sys
+import time
+import tokenize
+
+BENCH = "crates/rp_bench/out/rp_bench"
+
+BLOCK = '''def visit(node, depth):
+    # Counts what stands below a node, and notes the longest title.
+    total = 0
+    if node.kind == "folder" and depth < 64:
+        for child in node.values():
+            total += visit(child, depth + 1)
+        if total > node.limit:
+            raise ValueError("too many items: " + str(total))
+    elif node.kind != 'link':
+        total = total + len(node.title) * 2 - 0x10
+    else:
+        rows = [node.title, node.owner, (depth, total, None)]
+        table = {"name": node.name, "size": node.size, "rows": rows}
+        while total % 7 != 0:
+            total -= 1
+    return total
+
+
+result = visit(root.documents, 0)
+print("result", result, root.title[1:-1], not result)
+names = sorted(root.keys())
+for name in names:
+    item = root[name]
+    item.count = item.count + 1
+    item.title = 'Item ' + name + ' of "' + root.title + '"\\n'
+
+'''
+
+
+def tokens_of(text):
+    """The number of tokens of a text: comments and empty lines give none, the last token ends the text."""
+    found = tokenize.generate_tokens(io.StringIO(text).readline)
+    return sum(1 for token in found if token.type not in (tokenize.COMMENT, tokenize.NL, tokenize.ENDMARKER))
+
+
+def process(what, blocks):
+    """Processor seconds and peak bytes of a process."""
+    child = os.spawnv(os.P_NOWAIT, BENCH, [BENCH, what, str(blocks), BLOCK])
+    _, status, used = os.wait4(child, 0)
+    if status != 0:
+        sys.exit(f"{what}: status {status}")
+    return used.ru_utime + used.ru_stime, used.ru_maxrss * 1024
+
+
+def rpy(what, blocks, times=5):
+    runs = [process(what, blocks) for _ in range(times)]
+    return min(run[0] for run in runs), min(run[1] for run in runs)
+
+
+def python(text, times=3):
+    spent = []
+    for _ in range(times):
+        start = time.process_time()
+        ast.parse(text)
+        spent.append(time.process_time() - start)
+    return min(spent)
+
+
+per_block = tokens_of(BLOCK)
+spent = []
+for wanted in (250_000, 1_000_000):
+    blocks = wanted // per_block
+    count = blocks * per_block
+    empty, _ = rpy("tokens", 0)
+    reading, before = rpy("tokens", blocks)
+    whole, after = rpy("parse", blocks)
+    theirs = python(BLOCK * blocks)
+    spent.append((whole - reading) / count)
+    print(
+        f"{count} tokens: rpy {(whole - empty) / count * 1e9:.0f} ns per token, of them parsing {(whole - reading) / count * 1e9:.0f}; "
+        f"ast.parse {theirs / count * 1e9:.0f}, ratio {theirs / (whole - empty):.1f}; a tree takes {(after - before) / count:.0f} bytes per token"
+    )
+print(f"for four times the tokens, parsing takes {spent[1] / spent[0] * 4:.1f} times as long")
+PYTHON

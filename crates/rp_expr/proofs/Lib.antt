@@ -1,0 +1,15 @@
+pub mod Marks
+pub mod Basics
+pub mod Targets
+pub mod Sound
+pub mod Takes
+pub mod Loops
+pub mod Views
+pub mod Texts
+pub mod Follow
+pub mod Nest
+pub mod Complete
+pub mod Turns
+pub mod Depth
+pub mod Repeats
+pub mod Laws

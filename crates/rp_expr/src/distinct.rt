@@ -1,0 +1,100 @@
+ghost use Rattle.std.specs.Prelude.{◌≡◌, ◌++◌, Some, map, option_to_list};
+ghost use Rattle.rp_tree.specs.ExpressionViews as v;
+ghost use Rattle.rp_expr.specs.Expressions as g;
+ghost use Rattle.rp_expr.specs.Gives.{Gives};
+
+use crate::fault::Fault;
+use indexmap::IndexSet;
+use rp_base::Name;
+use rp_tree::{Arg, Expr, Named, Params};
+use std::alloc::Global;
+
+/// Whether no name stands twice.
+fn are_distinct(alloc: Global, names: &[Name]) -> Result<bool, Fault>
+    ensures { Gives (λ b. b) result (Some (g.distinct names.now)) }
+{
+    let mut seen = IndexSet::new(alloc);
+    'names: for name in names {
+        let (_, is_new) = seen.insert_full(*name)?;
+        if !is_new {
+            return Ok(false);
+        }
+    }
+    Ok(true)
+}
+
+/// Whether no two arguments have one name.
+pub fn has_distinct_keys(alloc: Global, args: &[Arg]) -> Result<bool, Fault>
+    ensures { Gives (λ b. b) result (Some (g.distinct (g.key_names (v.args_of (map v.view_arg args.now))))) }
+{
+    let names = key_names(alloc, args)?;
+    are_distinct(alloc, &names)
+}
+
+fn key_names(alloc: Global, args: &[Arg]) -> Result<Vec<Name>, Fault>
+    ensures { Gives (λ x. x.items) result (Some (g.key_names (v.args_of (map v.view_arg args.now)))) }
+{
+    let mut names = Vec::new(alloc);
+    'arguments: for argument in args {
+        if let Some(name) = key_name(argument) {
+            names.push(name)?;
+        }
+    }
+    Ok(names)
+}
+
+#[tactic(auto, using(rp_tree::proofs::ExpressionEquations::variants))]
+fn key_name(arg: &Arg) -> Option<Name>
+    ensures { option_to_list result ≡ g.key_name (v.view_arg arg.now) }
+{
+    match arg {
+        Arg::Key(name, _) => Some(*name),
+        Arg::Plain(_) | Arg::Star(_) | Arg::Stars(_) => None,
+    }
+}
+
+/// Whether no two parameters have one name.
+///
+/// # Errors
+/// `Memory` where a growth was refused.
+pub fn has_distinct_names(alloc: Global, params: &Params) -> Result<bool, Fault>
+    ensures { Gives (λ b. b) result (Some (g.distinct (g.parameter_names (v.view_params params.now)))) }
+{
+    let names = parameter_names(alloc, params)?;
+    are_distinct(alloc, &names)
+}
+
+/// The names of parameters, in order.
+///
+/// # Errors
+/// `Memory` where a growth was refused.
+pub fn parameter_names(alloc: Global, params: &Params) -> Result<Vec<Name>, Fault>
+    ensures { Gives (λ x. x.items) result (Some (g.parameter_names (v.view_params params.now))) }
+{
+    let names = plain_names(alloc, &params.plain)?;
+    let names = with_named(names, params.list)?;
+    with_named(names, params.dict)
+}
+
+fn with_named(names: Vec<Name>, named: Option<Named>) -> Result<Vec<Name>, Fault>
+    ensures { Gives (λ x. x.items) result (Some (names.items ++ g.named_names named)) }
+{
+    let mut names = names;
+    match named {
+        None => Ok(names),
+        Some(named) => {
+            names.push(named.name)?;
+            Ok(names)
+        }
+    }
+}
+
+fn plain_names(alloc: Global, plain: &[(Named, Option<Expr>)]) -> Result<Vec<Name>, Fault>
+    ensures { Gives (λ x. x.items) result (Some (g.plain_names (v.plain_of (map v.view_plain plain.now)))) }
+{
+    let mut names = Vec::new(alloc);
+    'plain: for parameter in plain {
+        names.push(parameter.0.name)?;
+    }
+    Ok(names)
+}

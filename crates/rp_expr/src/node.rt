@@ -1,0 +1,45 @@
+ghost use Rattle.std.specs.Prelude.{Some};
+ghost use Rattle.rp_tree.specs.Expressions as t;
+ghost use Rattle.rp_tree.specs.ExpressionViews.{view_expr, view_form};
+ghost use Rattle.rp_expr.specs.Gives.{Gives};
+ghost use Rattle.rp_expr.specs.Kinds.{first};
+ghost use Rattle.rp_expr.specs.Reading as r;
+
+use crate::fault::Fault;
+use rp_base::Line;
+use rp_token::{Token, TokenKind};
+use rp_tree::{Expr, ExprForm, Named};
+use std::alloc::Global;
+
+/// What is read at the front of some tokens, and the tokens behind it.
+pub type Read<'a, T> = Result<(T, &'a [Token]), Fault>;
+
+/// An expression of this form.
+pub fn node(alloc: Global, line: Line, form: ExprForm) -> Result<Expr, Fault>
+    ensures { Gives view_expr result (Some (t.node line (view_form form))) }
+{
+    let form = Box::new(alloc, form)?;
+    Ok(Expr { line, form })
+}
+
+/// The name at the front of some tokens, with its line, and the tokens behind it.
+///
+/// # Errors
+/// `Syntax` where no name comes.
+pub fn name(tokens: &[Token]) -> Read<'_, Named>
+    ensures { Gives (λ x. (x.0, x.1.now)) result (r.name_by (first tokens.now) tokens.now) }
+{
+    match tokens {
+        [] => Err(Fault::Syntax),
+        [token, rest @ ..] => match token.kind {
+            TokenKind::Name(name) => Ok((
+                Named {
+                    name,
+                    line: token.line,
+                },
+                rest,
+            )),
+            _ => Err(Fault::Syntax),
+        },
+    }
+}

@@ -1,0 +1,54 @@
+//! The grammar of statements: tokens to the tree of a script, or the line of the first fault.
+#![tactic(auto)]
+
+ghost use Rattle.std.specs.Prelude.{◌≡◌, ◌≢◌, IfErr, IfOk, MatchResult};
+ghost use Rattle.rp_token.specs.Laws.{IsWithin};
+ghost use Rattle.rp_tree.specs.Statements.{Stmts};
+ghost use Rattle.rp_tree.specs.StatementViews.{view_tree};
+ghost use Rattle.rp_expr.specs.Kinds.{Tokens, line_at};
+ghost use Rattle.rp_parse.specs.Program.{IsLongestGood, Spells};
+
+mod blocks;
+#[cfg(test)]
+mod case_tests;
+mod compound;
+mod context;
+mod fault;
+mod lines;
+mod look;
+#[cfg(test)]
+mod shown;
+mod simple_statements;
+#[cfg(test)]
+mod tests;
+
+use blocks::program;
+pub use fault::ParseFault;
+use fault::Stop;
+use rp_expr::look::line_at;
+use rp_token::Token;
+use rp_tree::Tree;
+use std::alloc::Global;
+
+/// The tree of a script (Python Language Reference, File input). No place of the tokens stands within more than 450
+/// open brackets; those of a text open at most 200.
+///
+/// The tree has height at most 200, and is the only one that the tokens spell.
+///
+/// # Errors
+/// `Syntax` where the tokens spell no such tree. Its line is that of the token behind the longest front that can be
+/// ended to a whole script. `Memory` where a growth was refused.
+pub fn parse(alloc: Global, tokens: &[Token]) -> Result<Tree, ParseFault>
+    requires shallow { IsWithin 450 0 tokens.now }
+    ensures spelled { IfOk result (λ tree. Spells (view_tree tree) tokens.now) }
+    ensures only { (tree : Stmts) → Spells tree tokens.now → MatchResult result (λ t. view_tree t ≡ tree) (λ e. e ≡ ParseFault.Memory) }
+    ensures one { (a b : Stmts) → Spells a tokens.now → Spells b tokens.now → a ≡ b }
+    ensures syntax { IfErr result (λ e. e ≢ ParseFault.Memory → (front : Tokens) × (rest : Tokens) × (e ≡ ParseFault.Syntax (line_at rest)) × IsLongestGood front rest tokens.now) }
+{
+    match program(alloc, tokens) {
+        Ok((body, _)) => Ok(Tree { body }),
+        Err(Stop::Memory) => Err(ParseFault::Memory),
+        Err(Stop::Syntax(None)) => Err(ParseFault::Syntax(line_at(tokens))),
+        Err(Stop::Syntax(Some(place))) => Err(ParseFault::Syntax(line_at(place))),
+    }
+}

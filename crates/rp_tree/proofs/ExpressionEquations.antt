@@ -1,0 +1,184 @@
+-- One equation for each level of the program's trees: which value it stands for, from those of its parts.
+use Rattle.std.proofs.Common.{◌≡◌, ℕ, ℤ, List, map, Option, option_map, Vec, Global, Box, rules}
+use Rattle.rp_base.specs.declared.value.Name.{Name}
+use Rattle.rp_base.specs.declared.operator.BinOp.{BinOp}
+use Rattle.rp_base.specs.declared.operator.UnOp.{UnOp}
+use Rattle.rp_tree.specs.declared.parts.Named.{Named}
+use Rattle.rp_tree.specs.declared.parts.Guard.{Guard}
+use Rattle.rp_tree.specs.declared.parts.Const.{Const}
+use Rattle.rp_tree.specs.declared.parts.Test.{Test}
+use Rattle.rp_tree.specs.declared.expr.Expr.{Expr, out-Expr}
+use Rattle.rp_tree.specs.declared.expr.Clause.{Clause}
+use Rattle.rp_tree.specs.declared.expr.Params.{Params}
+use Rattle.rp_tree.specs.declared.expr.Walk.{Walk}
+use Rattle.rp_tree.specs.declared.expr.ExprForm.{ExprForm}
+use Rattle.rp_tree.specs.declared.expr.Place.{Place}
+use Rattle.rp_tree.specs.declared.expr.Target.{Target}
+use Rattle.rp_tree.specs.declared.expr.Trailer.{Trailer}
+use Rattle.rp_tree.specs.declared.expr.Arg.{Arg}
+use Rattle.rp_tree.specs.declared.expr.ExprForm.TheVariants as form
+use Rattle.rp_tree.specs.declared.expr.Place.TheVariants as place
+use Rattle.rp_tree.specs.declared.expr.Target.TheVariants as target
+use Rattle.rp_tree.specs.declared.expr.Trailer.TheVariants as trailer
+use Rattle.rp_tree.specs.declared.expr.Arg.TheVariants as arg
+use Rattle.rp_tree.specs.declared.expr.Arg.TheFolds.{the_lemmas}
+use Rattle.rp_tree.specs.declared.expr.Arg.TheOpen as o
+use Rattle.rp_tree.specs.declared.expr.Arg.TheViews.{roll-Params, out-Params, roll-Expr, roll-Clause, out-Clause, roll-Walk, out-Walk}
+use Rattle.rp_tree.specs.Expressions as t
+use Rattle.rp_tree.specs.ExpressionViews.{view_expr, view_form, view_arg, view_place, view_target, view_trailer, view_clause, view_params, view_walk, view_pair, view_test, view_op, view_plain, exprs_of, maybe_of, pairs_of, tests_of, ops_of, clauses_of, targets_of, plain_of, trailers_of, args_of}
+
+pub form_name : (n : Name) → view_form (form.Name n) ≡ t.name n
+form_name n = search (rules, the_lemmas)
+
+pub form_int : (n : ℤ) → view_form (form.Int n) ≡ t.int n
+form_int n = search (rules, the_lemmas)
+
+pub form_text : (s : List ℕ) → view_form (form.Text s) ≡ t.text s
+form_text s = search (rules, the_lemmas)
+
+pub form_const : (c : Const) → view_form (form.Const c) ≡ t.const c
+form_const c = search (rules, the_lemmas)
+
+pub form_tuple : (v : Vec Expr Global) → view_form (form.Tuple v) ≡ t.tuple (exprs_of (map view_expr v.items))
+form_tuple v = search (rules, the_lemmas)
+
+pub form_list : (v : Vec Expr Global) → view_form (form.List v) ≡ t.list (exprs_of (map view_expr v.items))
+form_list v = search (rules, the_lemmas)
+
+pub form_dict : (v : Vec (Expr × Expr) Global) → view_form (form.Dict v) ≡ t.dict (pairs_of (map view_pair v.items))
+form_dict v = search (rules, the_lemmas)
+
+pub form_list_of : (e : Expr) (v : Vec Clause Global) → view_form (form.ListOf e v) ≡ t.list_of (view_expr e) (clauses_of (map view_clause v.items))
+form_list_of e v = search (rules, the_lemmas)
+
+pub form_dict_of : (k e : Expr) (v : Vec Clause Global) → view_form (form.DictOf k e v) ≡ t.dict_of (view_expr k) (view_expr e) (clauses_of (map view_clause v.items))
+form_dict_of k e v = search (rules, the_lemmas)
+
+pub form_lambda : (p : Box Params Global) (e : Expr) → view_form (form.Lambda p e) ≡ t.lambda (view_params p.value) (view_expr e)
+form_lambda p e = search (rules, the_lemmas)
+
+pub form_cond : (a b c : Expr) → view_form (form.Cond a b c) ≡ t.cond (view_expr a) (view_expr b) (view_expr c)
+form_cond a b c = search (rules, the_lemmas)
+
+pub form_or : (v : Vec Expr Global) → view_form (form.Or v) ≡ t.or (exprs_of (map view_expr v.items))
+form_or v = search (rules, the_lemmas)
+
+pub form_and : (v : Vec Expr Global) → view_form (form.And v) ≡ t.and (exprs_of (map view_expr v.items))
+form_and v = search (rules, the_lemmas)
+
+pub form_not : (e : Expr) → view_form (form.Not e) ≡ t.not (view_expr e)
+form_not e = search (rules, the_lemmas)
+
+pub form_compare : (e : Expr) (v : Vec (Test × Expr) Global) → view_form (form.Compare e v) ≡ t.compare (view_expr e) (tests_of (map view_test v.items))
+form_compare e v = search (rules, the_lemmas)
+
+pub form_chain : (e : Expr) (v : Vec (BinOp × Expr) Global) → view_form (form.Chain e v) ≡ t.chain (view_expr e) (ops_of (map view_op v.items))
+form_chain e v = search (rules, the_lemmas)
+
+pub form_unary : (u : UnOp) (e : Expr) → view_form (form.Unary u e) ≡ t.unary u (view_expr e)
+form_unary u e = search (rules, the_lemmas)
+
+pub form_power : (a b : Expr) → view_form (form.Power a b) ≡ t.power (view_expr a) (view_expr b)
+form_power a b = search (rules, the_lemmas)
+
+pub form_primary : (e : Expr) (v : Vec Trailer Global) → view_form (form.Primary e v) ≡ t.primary (view_expr e) (trailers_of (map view_trailer v.items))
+form_primary e v = search (rules, the_lemmas)
+
+pub place_name : (n : Named) → view_place (place.Name n) ≡ t.to_name n
+place_name n = search (rules, the_lemmas)
+
+pub place_attr : (e : Expr) (n : Named) (g : Option Guard) → view_place (place.Attr e n g) ≡ t.to_attr (view_expr e) n g
+place_attr e n g = search (rules, the_lemmas)
+
+pub place_item : (e i : Expr) (g : Option Guard) → view_place (place.Item e i g) ≡ t.to_item (view_expr e) (view_expr i) g
+place_item e i g = search (rules, the_lemmas)
+
+pub target_place : (p : Place) → view_target (target.Place p) ≡ t.to_place (view_place p)
+target_place p = search (rules, the_lemmas)
+
+pub target_group : (v : Vec Target Global) → view_target (target.Group v) ≡ t.group (targets_of (map view_target v.items))
+target_group v = search (rules, the_lemmas)
+
+pub trailer_attr : (n : Named) (g : Option Guard) → view_trailer (trailer.Attr n g) ≡ t.attr n g
+trailer_attr n g = search (rules, the_lemmas)
+
+pub trailer_item : (e : Expr) (g : Option Guard) → view_trailer (trailer.Item e g) ≡ t.item (view_expr e) g
+trailer_item e g = search (rules, the_lemmas)
+
+pub trailer_slice : (a b c : Option Expr) (g : Option Guard) → view_trailer (trailer.Slice a b c g) ≡ t.slice (maybe_of (option_map view_expr a)) (maybe_of (option_map view_expr b)) (maybe_of (option_map view_expr c)) g
+trailer_slice a b c g = search (rules, the_lemmas)
+
+pub trailer_call : (v : Vec Arg Global) (g : Option Guard) → view_trailer (trailer.Call v g) ≡ t.call (args_of (map view_arg v.items)) g
+trailer_call v g = search (rules, the_lemmas)
+
+pub arg_plain : (e : Expr) → view_arg (arg.Plain e) ≡ t.value (view_expr e)
+arg_plain e = search (rules, the_lemmas)
+
+pub arg_star : (e : Expr) → view_arg (arg.Star e) ≡ t.star (view_expr e)
+arg_star e = search (rules, the_lemmas)
+
+pub arg_key : (n : Name) (e : Expr) → view_arg (arg.Key n e) ≡ t.key n (view_expr e)
+arg_key n e = search (rules, the_lemmas)
+
+pub arg_stars : (e : Expr) → view_arg (arg.Stars e) ≡ t.stars (view_expr e)
+arg_stars e = search (rules, the_lemmas)
+
+pub expr_out : (x : Expr) → view_expr x ≡ t.node (out-Expr x).line (view_form (out-Expr x).form.value)
+expr_out x = search (rules, the_lemmas)
+
+pub clause_out : (x : Clause) → view_clause x ≡ t.a_clause (view_walk (out-Clause x).walk) (exprs_of (map view_expr (out-Clause x).tests.items))
+clause_out x = search (rules, the_lemmas)
+
+pub walk_out : (x : Walk) → view_walk x ≡ t.a_walk (view_target (out-Walk x).target) (view_expr (out-Walk x).of) (out-Walk x).guard
+walk_out x = search (rules, the_lemmas)
+
+pub params_out : (x : Params) → view_params x ≡ t.params (plain_of (map view_plain (out-Params x).plain.items)) (out-Params x).list (out-Params x).dict
+params_out x = search (rules, the_lemmas)
+
+pub expr_roll : (x : o.Expr-F Arg ExprForm Place Target Trailer Clause Expr Params Walk) → view_expr (roll-Expr x) ≡ t.node x.line (view_form x.form.value)
+expr_roll x = search (rules, the_lemmas)
+
+pub clause_roll : (x : o.Clause-F Arg ExprForm Place Target Trailer Clause Expr Params Walk) → view_clause (roll-Clause x) ≡ t.a_clause (view_walk x.walk) (exprs_of (map view_expr x.tests.items))
+clause_roll x = search (rules, the_lemmas)
+
+pub walk_roll : (x : o.Walk-F Arg ExprForm Place Target Trailer Clause Expr Params Walk) → view_walk (roll-Walk x) ≡ t.a_walk (view_target x.target) (view_expr x.of) x.guard
+walk_roll x = search (rules, the_lemmas)
+
+pub params_roll : (x : o.Params-F Arg ExprForm Place Target Trailer Clause Expr Params Walk) → view_params (roll-Params x) ≡ t.params (plain_of (map view_plain x.plain.items)) x.list x.dict
+params_roll x = search (rules, the_lemmas)
+
+-- the variants of the enums
+pub ruleset variants = (
+  form_name,
+  form_int,
+  form_text,
+  form_const,
+  form_tuple,
+  form_list,
+  form_dict,
+  form_list_of,
+  form_dict_of,
+  form_lambda,
+  form_cond,
+  form_or,
+  form_and,
+  form_not,
+  form_compare,
+  form_chain,
+  form_unary,
+  form_power,
+  form_primary,
+  place_name,
+  place_attr,
+  place_item,
+  target_place,
+  target_group,
+  trailer_attr,
+  trailer_item,
+  trailer_slice,
+  trailer_call,
+  arg_plain,
+  arg_star,
+  arg_key,
+  arg_stars,
+)

@@ -1,0 +1,5 @@
+# The sum of the numbers below root.size.
+total = 0
+for i in range(root.size):
+    total += i
+print(total)
