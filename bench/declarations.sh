@@ -3,10 +3,8 @@
 # quarter of each, beside Python's module tomllib, which only reads the same file: the ratio, and the growth. Then the
 # nanoseconds of one `decide` of a permission whose answer is kept, and of one `row` of a class with 100 names.
 # Processor time, the least of some runs, less the time of a process with nothing to do.
-cd "$(dirname "${BASH_SOURCE[0]}")/.." || exit 2
+. "$(dirname "${BASH_SOURCE[0]}")/loops.sh"
 ./rpy >/dev/null
-# Without words the loops do nothing; building them proves them too.
-[ -x crates/rp_bench/out/rp_bench ] || (cd crates/rp_bench && rt run >/dev/null </dev/null)
 exec python3 - <<'PYTHON'
 import os
 import resource

@@ -2,9 +2,7 @@
 # Nanoseconds per token of reading scripts of 250,000 and 1,000,000 tokens into trees, beside CPython's ast.parse on the same
 # text, as ratios; the growth from the one to the other; and the bytes that a tree takes per token. Processor time, the least of
 # some runs: rpy as a process that repeats a block so often, reads its tokens and parses them; CPython within its process.
-cd "$(dirname "${BASH_SOURCE[0]}")/.." || exit 2
-# Without words the loops do nothing; building them proves them too.
-[ -x crates/rp_bench/out/rp_bench ] || (cd crates/rp_bench && rt run >/dev/null </dev/null)
+. "$(dirname "${BASH_SOURCE[0]}")/loops.sh"
 exec python3 - <<'PYTHON'
 import ast
 import io
@@ -13,11 +11,7 @@ import sys
 import time
 import tokenize
 
-sys.dont_write_bytecode = True
-sys.path.insert(0, "bench")
-from script_block import BLOCK
-
-BENCH = "crates/rp_bench/out/rp_bench"
+from script_block import BENCH, BLOCK
 
 
 def tokens_of(text):

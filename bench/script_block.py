@@ -1,4 +1,6 @@
-"""A piece of a script with many forms of the language. The scripts that bench/tokens.sh and bench/parse.sh time repeat it."""
+"""A piece of a script with many forms of the language, and the program that reads it so often: bench/tokens.sh and bench/parse.sh."""
+
+BENCH = "crates/rp_bench/out/rp_bench"
 
 BLOCK = '''def visit(node, depth):
     # Counts what stands below a node, and notes the longest title.

@@ -3,9 +3,7 @@
 # from 1 to 4 MB and the ratio of the two. Processor time, the least of some runs: rpy's tokens as a process that repeats a
 # block so often, less its time with no block; the module within Python and printing nothing, which is fairer to it than
 # `python3 -m tokenize`, which takes more than twice as long.
-cd "$(dirname "${BASH_SOURCE[0]}")/.." || exit 2
-# Without words the loops do nothing; building them proves them too.
-[ -x crates/rp_bench/out/rp_bench ] || (cd crates/rp_bench && rt run >/dev/null </dev/null)
+. "$(dirname "${BASH_SOURCE[0]}")/loops.sh"
 exec python3 - <<'PYTHON'
 import io
 import resource
@@ -14,11 +12,7 @@ import sys
 import time
 import tokenize
 
-sys.dont_write_bytecode = True
-sys.path.insert(0, "bench")
-from script_block import BLOCK
-
-BENCH = "crates/rp_bench/out/rp_bench"
+from script_block import BENCH, BLOCK
 
 
 def children():
