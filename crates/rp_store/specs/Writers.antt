@@ -15,6 +15,14 @@ abbrev pub pushed : Value → Content → Content
 pushed value (list xs) = list (xs ++ value ∷ [])
 pushed value c = c
 
+abbrev pub extended : List Value → Content → Content
+extended values (list xs) = list (xs ++ values)
+extended values c = c
+
+abbrev pub with_elements : List Value → Content → Content
+with_elements values (list xs) = list values
+with_elements values c = c
+
 abbrev pub inserted : ℕ → Value → Content → Content
 inserted i value (list xs) = list (insert xs i value)
 inserted i value c = c

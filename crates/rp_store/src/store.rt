@@ -62,7 +62,7 @@ impl Store {
     ghost use Rattle.rp_store.specs.Key.{key_form};
     ghost use Rattle.rp_store.specs.Parts.{IsClass, IsDict, IsInstance, IsList};
     ghost use Rattle.rp_store.specs.Store.{IsOver, added, grown, made, written};
-    ghost use Rattle.rp_store.specs.Writers.{inserted, pushed, with_element, with_field, with_method, with_rock, with_slot, without_element, without_entry, without_field, without_methods};
+    ghost use Rattle.rp_store.specs.Writers.{extended, inserted, pushed, with_element, with_elements, with_field, with_method, with_rock, with_slot, without_element, without_entry, without_field, without_methods};
 
     /// The empty store, in which so many cells may be used. It takes no memory yet.
     pub fn new(alloc: Global, limit: u64) -> Store
@@ -236,6 +236,35 @@ impl Store {
         self.slots[at.0].object.push(value)?;
         self.used += 1;
         Ok(())
+    }
+
+    /// Puts values at the end of a list, for one cell each.
+    ///
+    /// # Errors
+    /// As `push`, of all their cells.
+    pub fn extend(&mut self, at: Oid, values: Vec<Value>) -> Result<(), StoreFault>
+        requires held { IsHeld self.old.heap at }
+        requires list { Names self.old.heap IsList at }
+        ensures extended { OnOk result (self.new ≡ grown self.old at (extended values.items) (length values.items)) }
+        ensures cells { (result ≡ Err StoreFault.Cells) ↔ IsOver self.old (length values.items) }
+        ensures same { OnErr result (self.new ≡ self.old) }
+    {
+        let cells = values.len() as u64;
+        if self.is_over(cells) {
+            return Err(StoreFault::Cells);
+        }
+        self.slots[at.0].object.extend(values)?;
+        self.used += cells;
+        Ok(())
+    }
+
+    /// Puts other values in place of all those of a list. It costs nothing: the caller charges what it makes.
+    pub fn set_elements(&mut self, at: Oid, values: Vec<Value>)
+        requires held { IsHeld self.old.heap at }
+        requires list { Names self.old.heap IsList at }
+        ensures { self.new ≡ written self.old at (with_elements values.items) }
+    {
+        self.slots[at.0].object.set_elements(values);
     }
 
     /// Puts a value before the i-th of a list, or at its end where i is its length, for one cell.

@@ -1,0 +1,127 @@
+#!/usr/bin/env bash
+# Nanoseconds of the plain operators on values, beside CPython's for the same operation in the same run, as ratios: adding numbers,
+# joining texts, items of a list, appending, reading and setting keys of dicts of 10 and of 1,000,000 entries, and showing a list
+# of 1,000 numbers. Before that, the bytes that a store takes for each cell, filled with lists, dicts and instances of some sizes.
+# Processor time, the least of some runs, less that of the same process or loop with nothing to do.
+cd "$(dirname "${BASH_SOURCE[0]}")/.." || exit 2
+[ -x crates/rp_bench_ops/out/rp_bench_ops ] || (cd crates/rp_bench_ops && rt run >/dev/null </dev/null)
+exec python3 - <<'PYTHON'
+import os
+import sys
+import time
+
+BENCH = "crates/rp_bench_ops/out/rp_bench_ops"
+
+CELLS = 1_000_000
+
+
+def process(*words):
+    """Processor seconds and peak bytes of a process."""
+    child = os.spawnv(os.P_NOWAIT, BENCH, [BENCH, *map(str, words)])
+    _, status, used = os.wait4(child, 0)
+    if status != 0:
+        sys.exit(f"{words}: status {status}")
+    return used.ru_utime + used.ru_stime, used.ru_maxrss * 1024
+
+
+def rpy(what, turns, times=5):
+    idle = min(process(what, 0)[0] for _ in range(times))
+    busy = min(process(what, turns)[0] for _ in range(times))
+    return (busy - idle) / turns
+
+
+def spent(loop, turns, times=5):
+    best = None
+    for _ in range(times):
+        start = time.process_time()
+        loop(turns)
+        used = time.process_time() - start
+        best = used if best is None else min(best, used)
+    return best / turns
+
+
+def empty(turns):
+    for i in range(turns):
+        pass
+
+
+def add(turns):
+    for i in range(turns):
+        i + 1
+
+
+def join(turns):
+    s, t = "0123456789", "abcdefghij"
+    for i in range(turns):
+        s + t
+
+
+def get_item(turns):
+    xs = list(range(1000))
+    for i in range(turns):
+        xs[i % 1000]
+
+
+def append(turns):
+    xs = []
+    for i in range(turns):
+        xs.append(i)
+
+
+def get_key(entries):
+    d = {i: i for i in range(entries)}
+
+    def loop(turns):
+        for i in range(turns):
+            d[i % entries]
+
+    return loop
+
+
+def set_key(entries):
+    d = {i: i for i in range(entries)}
+
+    def loop(turns):
+        for i in range(turns):
+            d[i % entries] = 1
+
+    return loop
+
+
+def remainders(turns):
+    for i in range(turns):
+        i % 1000
+
+
+def show(turns):
+    xs = list(range(1000))
+    for _ in range(turns):
+        str(xs)
+
+
+# What a process takes is measured before this one is large: a child begins with a copy of it.
+base = process("list", 0, 0)[1]
+per_cell = []
+for what in ("list", "dict", "instance"):
+    for entries in (0, 1, 2, 3, 5, 9):
+        per_cell.append((process(what, CELLS, entries)[1] - base) / CELLS)
+        print(f"{what}s of {entries}: {per_cell[-1]:.0f} bytes a cell")
+print(f"on average: {sum(per_cell) / len(per_cell):.0f} bytes a cell, at most {max(per_cell):.0f}")
+
+TURNS = 2_000_000
+LOOPS = [
+    ("add", "add", TURNS, add, empty),
+    ("join of texts", "join", TURNS, join, empty),
+    ("list item", "get_item", TURNS, get_item, remainders),
+    ("append", "append", TURNS, append, empty),
+    ("get at 10", "get_key_10", TURNS, get_key(10), remainders),
+    ("get at 1,000,000", "get_key_1000000", TURNS, get_key(1_000_000), remainders),
+    ("set at 10", "set_key_10", TURNS, set_key(10), remainders),
+    ("set at 1,000,000", "set_key_1000000", TURNS, set_key(1_000_000), remainders),
+    ("show of 1,000 numbers", "show", 2_000, show, empty),
+]
+for title, what, turns, loop, idle in LOOPS:
+    ours = rpy(what, turns) * 1e9
+    theirs = (spent(loop, turns) - spent(idle, turns)) * 1e9
+    print(f"{title}: rpy {ours:.1f} ns, CPython {theirs:.1f} ns, ratio {theirs / ours:.1f}")
+PYTHON

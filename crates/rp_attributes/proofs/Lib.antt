@@ -1,0 +1,6 @@
+mod AttributeExamples
+mod FieldShapes
+mod Found
+mod InstanceHeap
+mod MethodNames
+mod Places

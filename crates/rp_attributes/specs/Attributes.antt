@@ -1,0 +1,129 @@
+-- Attributes: the fields and methods of instances, and the built-in methods of lists, tuples, dicts and texts (Python Language
+-- Reference, Attribute references; Python Standard Library, Built-in types).
+use Rattle.std.specs.Prelude.{ℕ, List, [], ◌∷◌, find, slice_index_or, Option, Some, None}
+use Rattle.std.specs.Option.{option_map_or}
+use Rattle.rp_base.specs.declared.kind.Kind.TheVariants.{AttributeError}
+use Rattle.rp_base.specs.declared.native.NativeId.{NativeId}
+use Rattle.rp_base.specs.declared.native.NativeId.TheVariants as native
+use Rattle.rp_base.specs.declared.value.Name.{Name}
+use Rattle.rp_base.specs.declared.value.Oid.{Oid}
+use Rattle.rp_base.specs.declared.value.Rock.{Rock}
+use Rattle.rp_base.specs.declared.value.Rock.TheVariants as rock
+use Rattle.rp_base.specs.declared.value.Side.{Side}
+use Rattle.rp_base.specs.declared.value.Value.{Value}
+use Rattle.rp_base.specs.declared.value.Value.TheVariants as value
+use Rattle.rp_base.specs.Native.{native_name}
+use Rattle.rp_base.specs.Same.{same_text}
+use Rattle.rp_store.specs.Cost.{cell_if_new}
+use Rattle.rp_store.specs.Heap.{content_at, field_at, method_at, owner_at}
+use Rattle.rp_store.specs.declared.object.Callee.{Callee}
+use Rattle.rp_store.specs.declared.object.Callee.TheVariants as callee
+use Rattle.rp_store.specs.Object as object
+use Rattle.rp_store.specs.Object.{Content}
+use Rattle.rp_store.specs.Writers.{with_field, without_field}
+use Rattle.rp_ops.specs.Binary.{new_object}
+use Rattle.rp_ops.specs.Operand.{lent}
+use Rattle.rp_ops.specs.Outcome.{State, Outcome, gives, raises, on_value, charged, with_change}
+
+abbrev pub list_methods : List NativeId
+list_methods = native.Append ∷ native.Extend ∷ native.Insert ∷ native.Pop ∷ native.Remove ∷ native.Index ∷ native.Count ∷ native.Reverse ∷ []
+
+abbrev pub tuple_methods : List NativeId
+tuple_methods = native.Index ∷ native.Count ∷ []
+
+abbrev pub dict_methods : List NativeId
+dict_methods = native.Get ∷ native.Keys ∷ native.Values ∷ native.Items ∷ native.Pop ∷ native.SetDefault ∷ native.Update ∷ native.Copy ∷ []
+
+abbrev pub text_methods : List NativeId
+text_methods = native.Join ∷ native.Split ∷ native.Strip ∷ native.StartsWith ∷ native.EndsWith ∷ native.Find ∷ native.Replace ∷ native.Count ∷ native.IsDigit ∷ []
+
+-- the built-in method of that name among some
+abbrev pub method_named : List NativeId → List ℕ → Option NativeId
+method_named ids word = find (λ id. same_text (native_name id) word) ids
+
+-- the word of a name, where the names are these words
+abbrev pub word_of : List (List ℕ) → Name → List ℕ
+word_of names name = slice_index_or names name.0 []
+
+abbrev pub no_attribute : {A : Type 0} → List ℕ → State → Outcome A
+no_attribute word s = raises AttributeError word s
+
+-- a bound method, made for the owner of its receiver
+abbrev pub bound : Side → Value → Option Callee → List ℕ → State → Outcome Value
+bound owner receiver (Some called) word s = new_object owner (object.method receiver called) s
+bound owner receiver None word s = no_attribute word s
+
+abbrev pub native_callee : Option NativeId → Option Callee
+native_callee (Some id) = Some (callee.Native id)
+native_callee None = None
+
+abbrev pub function_callee : Option Oid → Option Callee
+function_callee (Some at) = Some (callee.Function at)
+function_callee None = None
+
+-- the methods of an object, but for an instance's fields: those of its class, or the built-in ones of its kind
+abbrev pub method_of : Content → Name → List ℕ → State → Option Callee
+method_of (object.list xs) name word s = native_callee (method_named list_methods word)
+method_of (object.tuple xs) name word s = native_callee (method_named tuple_methods word)
+method_of (object.dict es) name word s = native_callee (method_named dict_methods word)
+method_of (object.instance of fs) name word s = function_callee (method_at s.store.heap of name)
+method_of c name word s = None
+
+-- the side that owns the object at a place
+abbrev pub owner_of : Oid → State → Side
+owner_of at s = option_map_or (λ side. side) (owner_at s.store.heap at) (record { 0 = 0 })
+
+-- the field of an instance, else a method bound to the object, which keeps it plain
+abbrev pub object_attribute : Oid → Option Value → Option Callee → List ℕ → State → Outcome Value
+object_attribute at (Some v) called word s = gives v s
+object_attribute at None called word s = bound (owner_of at s) (value.Ref at) called word s
+
+abbrev pub attribute_at : Oid → Name → List ℕ → State → Outcome Value
+attribute_at at name word s =
+    option_map_or (λ c. object_attribute at (field_at s.store.heap at name) (method_of c name word s) word s) (content_at s.store.heap at) (no_attribute word s)
+
+-- a text has built-in methods, which are bound for the side of the running code
+abbrev pub rock_attribute : Side → Rock → List ℕ → State → Outcome Value
+rock_attribute side (rock.Text t) word s = bound side (value.Rock (rock.Text t)) (native_callee (method_named text_methods word)) word s
+rock_attribute side r word s = no_attribute word s
+
+-- `a.name`, where the name is that word; what is got through a proxy is lent
+abbrev pub attribute : Side → Value → Name → List ℕ → State → Outcome Value
+attribute side (value.Rock r) name word s = rock_attribute side r word s
+attribute side (value.Ref at) name word s = attribute_at at name word s
+attribute side (value.Prox at) name word s = on_value (attribute_at at name word s) (λ v s. gives (lent v) s)
+
+-- storing and deleting: only instances take attributes, and a new field costs a cell
+
+abbrev pub changes : Oid → (Content → Content) → State → Outcome (Unit {0})
+changes at change s = gives tt (with_change s at change)
+
+abbrev pub content_set : Oid → Content → Name → List ℕ → Value → State → Outcome (Unit {0})
+content_set at (object.instance of fs) name word v s = charged (cell_if_new (field_at s.store.heap at name)) s (changes at (with_field name v))
+content_set at c name word v s = no_attribute word s
+
+abbrev pub field_deleted : Oid → Option Value → Name → List ℕ → State → Outcome (Unit {0})
+field_deleted at (Some v) name word s = changes at (without_field name) s
+field_deleted at None name word s = no_attribute word s
+
+abbrev pub content_del : Oid → Content → Name → List ℕ → State → Outcome (Unit {0})
+content_del at (object.instance of fs) name word s = field_deleted at (field_at s.store.heap at name) name word s
+content_del at c name word s = no_attribute word s
+
+abbrev pub set_at : Oid → Name → List ℕ → Value → State → Outcome (Unit {0})
+set_at at name word v s = option_map_or (λ c. content_set at c name word v s) (content_at s.store.heap at) (no_attribute word s)
+
+abbrev pub del_at : Oid → Name → List ℕ → State → Outcome (Unit {0})
+del_at at name word s = option_map_or (λ c. content_del at c name word s) (content_at s.store.heap at) (no_attribute word s)
+
+-- `a.name = v`
+abbrev pub set_attribute : Value → Name → List ℕ → Value → State → Outcome (Unit {0})
+set_attribute (value.Rock r) name word v s = no_attribute word s
+set_attribute (value.Ref at) name word v s = set_at at name word v s
+set_attribute (value.Prox at) name word v s = set_at at name word v s
+
+-- `del a.name`
+abbrev pub del_attribute : Value → Name → List ℕ → State → Outcome (Unit {0})
+del_attribute (value.Rock r) name word s = no_attribute word s
+del_attribute (value.Ref at) name word s = del_at at name word s
+del_attribute (value.Prox at) name word s = del_at at name word s

@@ -1,0 +1,134 @@
+ghost use Rattle.std.specs.Prelude.{◌≡◌, ℕ, IfOk, IfSome, OnErr, chars};
+ghost use Rattle.rp_attributes.specs.Attributes.{attribute, attribute_at, bound, rock_attribute, word_of};
+ghost use Rattle.rp_ops.specs.Operand.{lent};
+ghost use Rattle.rp_ops.specs.Outcome.{Meets, state_of};
+ghost use Rattle.rp_ops.specs.Shape.{KeepsShape};
+ghost use Rattle.rp_store.specs.Kept.{IsCallee, IsKept, IsReceiver, IsSound};
+
+use crate::methods::{method_of, native, text_method};
+use crate::words::{no_attribute, word_of};
+use rp_base::{Name, Names, Oid, OpEnd, Rock, Side, Value};
+use rp_ops::new_object;
+use rp_store::{Callee, Object, Store};
+use std::alloc::Global;
+
+/// `a.name`, read by code of a side on a value whose access decision has been made (Python Language Reference, Attribute
+/// references): the field of an instance, else a method bound to the object. It is made for the owner of the object, or
+/// for the side where the value is a text, and costs a cell. What is got through a proxy is lent.
+///
+/// # Errors
+/// - `Raised` with `AttributeError`, whose text is the name, where there is no such attribute.
+/// - `StopCells` where the cell is over the limit.
+/// - `Memory` where a growth was refused.
+///
+/// The store is then as before.
+pub fn attribute(
+    alloc: Global,
+    store: &mut Store,
+    names: &Names,
+    side: Side,
+    a: &Value,
+    name: Name,
+) -> Result<Value, OpEnd>
+    requires kept { IsKept store.old.heap }
+    requires a { IsSound store.old.heap a.now }
+    ensures plain { (steps : ℕ) → Meets result (state_of store.new steps) (attribute side a.now name (word_of names.now name) (state_of store.old steps)) }
+    ensures kept { IsKept store.new.heap }
+    ensures sound { IfOk result (λ v. IsSound store.new.heap v) }
+    ensures shape { KeepsShape store.old.heap store.new.heap }
+    ensures same { OnErr result (store.new ≡ store.old) }
+{
+    let word = word_of(names, name);
+    match a {
+        Value::Rock(rock) => rock_attribute(alloc, store, side, rock, word),
+        Value::Ref(at) => attribute_at(alloc, store, *at, name, word),
+        Value::Prox(at) => {
+            let value = attribute_at(alloc, store, *at, name, word)?;
+            Ok(lent(value))
+        }
+    }
+}
+
+/// A text has built-in methods, other rocks have no attributes.
+fn rock_attribute(
+    alloc: Global,
+    store: &mut Store,
+    side: Side,
+    rock: &Rock,
+    word: &str,
+) -> Result<Value, OpEnd>
+    requires kept { IsKept store.old.heap }
+    ensures plain { (steps : ℕ) → Meets result (state_of store.new steps) (rock_attribute side rock.now (chars word.now) (state_of store.old steps)) }
+    ensures kept { IsKept store.new.heap }
+    ensures sound { IfOk result (λ v. IsSound store.new.heap v) }
+    ensures shape { KeepsShape store.old.heap store.new.heap }
+    ensures same { OnErr result (store.new ≡ store.old) }
+{
+    match rock {
+        Rock::Text(text) => {
+            let receiver = Value::Rock(Rock::Text(text.copy()?));
+            let callee = native(text_method(word));
+            bind(alloc, store, side, receiver, callee, word)
+        }
+        _ => Err(no_attribute(alloc, word)),
+    }
+}
+
+/// The field of the object at a place, else a method bound to it.
+fn attribute_at(
+    alloc: Global,
+    store: &mut Store,
+    at: Oid,
+    name: Name,
+    word: &str,
+) -> Result<Value, OpEnd>
+    requires kept { IsKept store.old.heap }
+    requires sound { IsSound store.old.heap (Value.Ref at) }
+    ensures plain { (steps : ℕ) → Meets result (state_of store.new steps) (attribute_at at name (chars word.now) (state_of store.old steps)) }
+    ensures kept { IsKept store.new.heap }
+    ensures sound { IfOk result (λ v. IsSound store.new.heap v) }
+    ensures shape { KeepsShape store.old.heap store.new.heap }
+    ensures same { OnErr result (store.new ≡ store.old) }
+{
+    if let Some(value) = store.object(at).field(name) {
+        return Ok(value.copy()?);
+    }
+    let callee = method_of(store, at, name, word);
+    let owner = store.owner(at);
+    bind(alloc, store, owner, Value::Ref(at), callee, word)
+}
+
+/// A bound method, made for a side.
+fn bind(
+    alloc: Global,
+    store: &mut Store,
+    owner: Side,
+    receiver: Value,
+    callee: Option<Callee>,
+    word: &str,
+) -> Result<Value, OpEnd>
+    requires kept { IsKept store.old.heap }
+    requires sound { IsSound store.old.heap receiver }
+    requires receiver { IsReceiver store.old.heap owner receiver }
+    requires callee { IfSome callee (IsCallee store.old.heap) }
+    ensures plain { (steps : ℕ) → Meets result (state_of store.new steps) (bound owner receiver callee (chars word.now) (state_of store.old steps)) }
+    ensures kept { IsKept store.new.heap }
+    ensures sound { IfOk result (λ v. IsSound store.new.heap v) }
+    ensures shape { KeepsShape store.old.heap store.new.heap }
+    ensures same { OnErr result (store.new ≡ store.old) }
+{
+    match callee {
+        Some(callee) => new_object(store, owner, Object::Method { receiver, callee }),
+        None => Err(no_attribute(alloc, word)),
+    }
+}
+
+/// What is got through a proxy is lent (zope.security, proxies).
+fn lent(value: Value) -> Value
+    ensures { result ≡ lent value }
+{
+    match value {
+        Value::Ref(at) => Value::Prox(at),
+        other => other,
+    }
+}

@@ -1,0 +1,14 @@
+//! Attributes: reading, storing and deleting, on values whose access decisions have been made.
+#![tactic(auto)]
+
+mod attribute_writers;
+mod attributes;
+#[cfg(test)]
+mod instance_tests;
+mod methods;
+#[cfg(test)]
+mod tests;
+mod words;
+
+pub use attribute_writers::{del_attribute, set_attribute};
+pub use attributes::attribute;

@@ -1,0 +1,5 @@
+mod CompareExamples
+mod Parts
+mod Rounds
+mod Sought
+mod Turned

@@ -1,0 +1,15 @@
+//! The comparisons of values: equality, order and membership, on values whose access decisions have been made.
+#![tactic(auto)]
+
+mod equality;
+#[cfg(test)]
+mod fixtures;
+mod membership;
+mod order;
+mod rocks;
+#[cfg(test)]
+mod tests;
+
+pub use equality::equal;
+pub use membership::contains;
+pub use order::compare;

@@ -1,0 +1,111 @@
+ghost use Rattle.std.specs.Prelude.{◌≡◌, is_some};
+ghost use Rattle.rp_compare.specs.Membership.{contains, found_in, is_text_part, object_contains, rock_contains};
+ghost use Rattle.rp_ops.specs.Keys.{entry_in, key_named};
+ghost use Rattle.rp_ops.specs.Outcome.{Meets, State, gives, on_found, state_of};
+ghost use Rattle.rp_store.specs.Heap.{IsHeld};
+ghost use Rattle.rp_store.specs.Kept.{AreSound, IsKept, IsSound};
+
+use crate::equality::equal;
+use rp_base::{Meter, Oid, OpEnd, Rock, Text, Value};
+use rp_dict::Dict;
+use rp_ops::{Refusal, step};
+use rp_store::{Key, Object, Store, key_of};
+use std::alloc::Global;
+
+/// `a in of` (Python Language Reference, Membership test operations): in a list or a tuple by equality, where each
+/// element takes a step, up to the first that is equal; in a dict by key; in a text as a part of it.
+///
+/// # Errors
+/// - `Raised` with `TypeError`, where the second value is no container, or is a text and the first is none, or is a
+///   dict and the first can be no key; or with `RecursionError`, where containers that are compared lie more than 200 deep
+///   within one another.
+/// - `StopSteps` where no step is left.
+/// - `Memory` where there is none for the text of the exception, or the count of a text's owners is full.
+pub fn contains(
+    alloc: Global,
+    store: &Store,
+    meter: &mut Meter,
+    a: &Value,
+    of: &Value,
+) -> Result<bool, OpEnd>
+    requires kept { IsKept store.now.heap }
+    requires a { IsSound store.now.heap a.now }
+    requires b { IsSound store.now.heap of.now }
+    ensures { Meets result (state_of store.now meter.new.left) (contains a.now of.now (state_of store.now meter.old.left)) }
+{
+    match of {
+        Value::Rock(rock) => rock_contains(alloc, rock, a),
+        Value::Ref(at) => object_contains(alloc, store, meter, *at, a),
+        Value::Prox(at) => object_contains(alloc, store, meter, *at, a),
+    }
+}
+
+fn rock_contains(alloc: Global, rock: &Rock, a: &Value) -> Result<bool, OpEnd>
+    ensures { (s : State) → Meets result s (rock_contains rock.now a.now s) }
+{
+    match (rock, a) {
+        (Rock::Text(text), Value::Rock(Rock::Text(part))) => Ok(has_part(text, part)),
+        _ => Err(Refusal::Operand.end(alloc)),
+    }
+}
+
+fn has_part(text: &Text, part: &Text) -> bool
+    ensures { result ≡ is_text_part part.now text.now }
+{
+    text.as_str().contains(part.as_str())
+}
+
+fn object_contains(
+    alloc: Global,
+    store: &Store,
+    meter: &mut Meter,
+    at: Oid,
+    a: &Value,
+) -> Result<bool, OpEnd>
+    requires kept { IsKept store.now.heap }
+    requires at { IsHeld store.now.heap at }
+    requires a { IsSound store.now.heap a.now }
+    ensures { Meets result (state_of store.now meter.new.left) (object_contains at a.now (state_of store.now meter.old.left)) }
+{
+    match store.object(at) {
+        Object::List(elements) => is_among(alloc, store, meter, a, elements),
+        Object::Tuple(elements) => is_among(alloc, store, meter, a, elements),
+        Object::Dict(entries) => has_key(alloc, entries, a),
+        _ => Err(Refusal::Operand.end(alloc)),
+    }
+}
+
+/// Whether a value is equal to one of the elements.
+fn is_among(
+    alloc: Global,
+    store: &Store,
+    meter: &mut Meter,
+    a: &Value,
+    elements: &[Value],
+) -> Result<bool, OpEnd>
+    requires kept { IsKept store.now.heap }
+    requires a { IsSound store.now.heap a.now }
+    requires elements { AreSound store.now.heap elements.now }
+    ensures { Meets result (state_of store.now meter.new.left) (found_in a.now elements.now (state_of store.now meter.old.left)) }
+{
+    for element in elements {
+        step(meter)?;
+        if equal(alloc, store, meter, a, element)? {
+            return Ok(true);
+        }
+    }
+    Ok(false)
+}
+
+/// Whether a dict has a value as a key.
+fn has_key(alloc: Global, entries: &Dict<Key, (Rock, Value)>, a: &Value) -> Result<bool, OpEnd>
+    ensures { (s : State) → Meets result s (on_found (key_named a.now) s (λ r s. gives (is_some (entry_in entries.now r)) s)) }
+{
+    let Value::Rock(rock) = a else {
+        return Err(Refusal::Key.end(alloc));
+    };
+    match key_of(rock)? {
+        Some(key) => Ok(entries.get(&key).is_some()),
+        None => Err(Refusal::Key.end(alloc)),
+    }
+}

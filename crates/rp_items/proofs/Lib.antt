@@ -1,0 +1,5 @@
+mod Collected
+mod Found
+mod ItemExamples
+mod SlicePlaces
+mod Sliced

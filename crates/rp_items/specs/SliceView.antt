@@ -1,0 +1,58 @@
+-- The parts and the places of a slice, as the code keeps them.
+use Rattle.std.specs.Prelude.{◌≡◌, ℕ, ◌+◌, ◌-◌, ◌*◌, ◌<◌, ◌≤◌, true, false, length, List, slice_get, slice_index_or, filter_map, unsigned_abs, Result, Ok, Err, if◌then◌else◌}
+use Rattle.std.specs.List.{range_with_len}
+use Rattle.rp_base.specs.declared.value.Raised.{Raised}
+use Rattle.rp_base.specs.declared.value.Rock.TheVariants as rock
+use Rattle.rp_base.specs.declared.value.Value.{Value}
+use Rattle.rp_base.specs.declared.value.Value.TheVariants as value
+use Rattle.rp_items.specs.Slices.{Span, count, place, span_of}
+use Rattle.rp_ops.specs.Refused.{raised_by}
+use Rattle.rp_ops.specs.declared.refusal.Refusal.{Refusal}
+use Rattle.rp_items.specs.declared.spans.Places.{Places}
+use Rattle.rp_items.specs.declared.spans.Span.{Span as Kept}
+
+-- the i-th part of a slice
+abbrev pub part_at : List Value → ℕ → Value
+part_at parts i = slice_index_or parts i (value.Rock rock.Nil)
+
+abbrev pub span_seen : Kept → Span
+span_seen p = span_of p.from p.to p.step
+
+abbrev pub described_span : Result Kept Refusal → Result Span Raised
+described_span (Ok p) = Ok (span_seen p)
+described_span (Err r) = Err (raised_by r)
+
+abbrev pub place_at : Places → ℕ → ℕ
+place_at p m = if p.backward then p.first - m * p.step else p.first + m * p.step
+
+-- each place is one of so many elements, and no step goes below the first of them
+abbrev pub AreWithin : ℕ → Places → Type 0
+AreWithin n p = (m : ℕ) → m < p.count → (p.backward ≡ true → m * p.step ≤ p.first) × (place_at p m < n)
+
+-- they are the places of a slice of so many elements
+abbrev pub AreOf : ℕ → Span → Places → Type 0
+AreOf n s p = (p.count ≡ count n s) × ((m : ℕ) → m < p.count → unsigned_abs (place n s m) ≡ place_at p m)
+
+-- the elements at the places
+abbrev pub taken : {A : Type 0} → Places → List A → List A
+taken p xs = filter_map (λ m. slice_get xs (place_at p m)) (range_with_len 0 p.count)
+
+-- the same places, each behind the last
+abbrev pub lowest : Places → ℕ
+lowest p = if p.backward then p.first - (p.count - 1) * p.step else p.first
+
+abbrev pub ascending : Places → Places
+ascending p = record { first = lowest p; step = p.step; backward = false; count = p.count }
+
+-- where what is at the places stands among just those, each behind the last
+abbrev pub order_first : Places → ℕ
+order_first p = if p.backward then p.count - 1 else 0
+
+abbrev pub order : Places → Places
+order p = record { first = order_first p; step = 1; backward = p.backward; count = p.count }
+
+-- so many characters were passed, and these are those at the places among them
+abbrev pub IsCollected : List ℕ → Places → ℕ → List ℕ → Type 0
+IsCollected cs p at items =
+    (items ≡ filter_map (λ m. slice_get cs (place_at p m)) (range_with_len 0 (length items))) × (length items ≤ p.count)
+    × (length items < p.count → at ≤ place_at p (length items))

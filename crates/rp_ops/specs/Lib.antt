@@ -1,0 +1,12 @@
+pub mod Outcome
+pub mod Numbers
+pub mod Operand
+pub mod Refused
+pub mod Keys
+pub mod Binary
+pub mod Depth
+pub mod Walk
+pub mod Inplace
+pub mod Growth
+pub mod View
+pub mod Shape

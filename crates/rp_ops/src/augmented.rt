@@ -1,0 +1,212 @@
+ghost use Rattle.std.specs.Prelude.{◌≡◌, ◌-◌, ℕ, [], None, Some, IfOk};
+ghost use Rattle.std.specs.Option.{option_map_or};
+ghost use Rattle.rp_store.specs.Heap.{IsHeld, Names, content_at};
+ghost use Rattle.rp_store.specs.Kept.{AreSound, IsKept, IsSound};
+ghost use Rattle.rp_store.specs.Parts.{IsList};
+ghost use Rattle.rp_ops.specs.Inplace.{extends, inplace, repeats_list};
+ghost use Rattle.rp_ops.specs.Outcome.{Meets, state_of};
+ghost use Rattle.rp_ops.specs.Shape.{KeepsShape};
+ghost use Rattle.rp_ops.specs.View.{grows, held_by, list_place, place_if_list};
+
+use crate::binary_operators::{binary, wrong_operand};
+use crate::cells::charge_copies;
+use crate::operand::{Elements, elements_at, operand_of};
+use crate::sequences::{copied, handed, times};
+use crate::walk::elements;
+use rp_base::{BinOp, Meter, Oid, OpEnd, Side, Value};
+use rp_store::{Object, Store, StoreFault};
+use std::alloc::Global;
+
+/// `a op= b`, done by code of a side on values whose access decisions have been made, and the value that is stored back
+/// (Python Language Reference, Augmented assignment statements). `+=` on a list walks b and extends the list, for a cell
+/// for each element; `*=` repeats it in place, for a cell for each element and each time but the first. All else is done
+/// as `binary` does it.
+///
+/// # Errors
+/// - As `binary`, and as `elements` where b is walked; the list is then as before.
+/// - `StopCells` where the cells of the growth are over the limit; the list is then as before.
+pub fn inplace(
+    alloc: Global,
+    store: &mut Store,
+    meter: &mut Meter,
+    side: Side,
+    op: BinOp,
+    a: &Value,
+    b: &Value,
+) -> Result<Value, OpEnd>
+    requires kept { IsKept store.old.heap }
+    requires a { IsSound store.old.heap a.now }
+    requires b { IsSound store.old.heap b.now }
+    ensures plain { Meets result (state_of store.new meter.new.left) (inplace side op a.now b.now (state_of store.old meter.old.left)) }
+    ensures kept { IsKept store.new.heap }
+    ensures sound { IfOk result (λ v. IsSound store.new.heap v) }
+    ensures shape { KeepsShape store.old.heap store.new.heap }
+{
+    match op {
+        BinOp::Add => add_inplace(alloc, store, meter, side, a, b),
+        BinOp::Mul => multiply_inplace(alloc, store, meter, side, a, b),
+        _ => binary(alloc, store, meter, side, op, a, b),
+    }
+}
+
+fn add_inplace(
+    alloc: Global,
+    store: &mut Store,
+    meter: &mut Meter,
+    side: Side,
+    a: &Value,
+    b: &Value,
+) -> Result<Value, OpEnd>
+    requires kept { IsKept store.old.heap }
+    requires a { IsSound store.old.heap a.now }
+    requires b { IsSound store.old.heap b.now }
+    ensures plain { Meets result (state_of store.new meter.new.left) (inplace side BinOp.Add a.now b.now (state_of store.old meter.old.left)) }
+    ensures kept { IsKept store.new.heap }
+    ensures sound { IfOk result (λ v. IsSound store.new.heap v) }
+    ensures shape { KeepsShape store.old.heap store.new.heap }
+{
+    match list_place(store, a) {
+        Some(at) => extend(alloc, store, meter, a, at, b),
+        None => binary(alloc, store, meter, side, BinOp::Add, a, b),
+    }
+}
+
+fn multiply_inplace(
+    alloc: Global,
+    store: &mut Store,
+    meter: &mut Meter,
+    side: Side,
+    a: &Value,
+    b: &Value,
+) -> Result<Value, OpEnd>
+    requires kept { IsKept store.old.heap }
+    requires a { IsSound store.old.heap a.now }
+    requires b { IsSound store.old.heap b.now }
+    ensures plain { Meets result (state_of store.new meter.new.left) (inplace side BinOp.Mul a.now b.now (state_of store.old meter.old.left)) }
+    ensures kept { IsKept store.new.heap }
+    ensures sound { IfOk result (λ v. IsSound store.new.heap v) }
+    ensures shape { KeepsShape store.old.heap store.new.heap }
+{
+    match list_place(store, a) {
+        Some(at) => repeat_in_place(alloc, store, a, at, operand_of(store, b).number()),
+        None => binary(alloc, store, meter, side, BinOp::Mul, a, b),
+    }
+}
+
+/// The place of the list that a value names, plainly or through a proxy.
+fn list_place(store: &Store, a: &Value) -> Option<Oid>
+    requires { IsSound store.now.heap a.now }
+    ensures { result ≡ list_place store.now.heap a.now }
+{
+    match a {
+        Value::Rock(_) => None,
+        Value::Ref(at) => place_if_list(store, *at),
+        Value::Prox(at) => place_if_list(store, *at),
+    }
+}
+
+fn place_if_list(store: &Store, at: Oid) -> Option<Oid>
+    requires { IsHeld store.now.heap at }
+    ensures { result ≡ option_map_or (place_if_list at) (content_at store.now.heap at) None }
+{
+    match store.object(at) {
+        Object::List(_) => Some(at),
+        _ => None,
+    }
+}
+
+/// Puts what walking a value gives at the end of a list.
+fn extend(
+    alloc: Global,
+    store: &mut Store,
+    meter: &mut Meter,
+    a: &Value,
+    at: Oid,
+    b: &Value,
+) -> Result<Value, OpEnd>
+    requires kept { IsKept store.old.heap }
+    requires list { Names store.old.heap IsList at }
+    requires a { IsSound store.old.heap a.now }
+    requires b { IsSound store.old.heap b.now }
+    ensures plain { Meets result (state_of store.new meter.new.left) (extends a.now at b.now (state_of store.old meter.old.left)) }
+    ensures kept { IsKept store.new.heap }
+    ensures sound { IfOk result (λ v. IsSound store.new.heap v) }
+    ensures shape { KeepsShape store.old.heap store.new.heap }
+{
+    let same = handed(a, false)?;
+    let values = elements(alloc, store, meter, b)?;
+    put_last(store, same, at, values)
+}
+
+/// Puts values at the end of a list, for a cell each, and answers the value that names it.
+fn put_last(store: &mut Store, same: Value, at: Oid, values: Vec<Value>) -> Result<Value, OpEnd>
+    requires kept { IsKept store.old.heap }
+    requires list { Names store.old.heap IsList at }
+    requires same { IsSound store.old.heap same }
+    requires values { AreSound store.old.heap values.items }
+    ensures plain { (steps : ℕ) → Meets result (state_of store.new steps) (grows same at values.items (state_of store.old steps)) }
+    ensures kept { IsKept store.new.heap }
+    ensures sound { IfOk result (λ v. IsSound store.new.heap v) }
+    ensures shape { KeepsShape store.old.heap store.new.heap }
+{
+    match store.extend(at, values) {
+        Ok(()) => Ok(same),
+        Err(StoreFault::Cells) => Err(OpEnd::StopCells),
+        Err(StoreFault::Memory) => Err(OpEnd::Memory),
+    }
+}
+
+/// Repeats the elements of a list in place, as they are.
+fn repeat_in_place(
+    alloc: Global,
+    store: &mut Store,
+    a: &Value,
+    at: Oid,
+    n: Option<i64>,
+) -> Result<Value, OpEnd>
+    requires kept { IsKept store.old.heap }
+    requires list { Names store.old.heap IsList at }
+    requires a { IsSound store.old.heap a.now }
+    ensures plain { (steps : ℕ) → Meets result (state_of store.new steps) (repeats_list a.now at (option_map_or held_by (content_at store.old.heap at) []) n (state_of store.old steps)) }
+    ensures kept { IsKept store.new.heap }
+    ensures sound { IfOk result (λ v. IsSound store.new.heap v) }
+    ensures shape { KeepsShape store.old.heap store.new.heap }
+{
+    match n {
+        Some(n) => set_repeated(alloc, store, a, at, n),
+        None => wrong_operand(alloc),
+    }
+}
+
+fn set_repeated(
+    alloc: Global,
+    store: &mut Store,
+    a: &Value,
+    at: Oid,
+    n: i64,
+) -> Result<Value, OpEnd>
+    requires kept { IsKept store.old.heap }
+    requires list { Names store.old.heap IsList at }
+    requires a { IsSound store.old.heap a.now }
+    ensures plain { (steps : ℕ) → Meets result (state_of store.new steps) (repeats_list a.now at (option_map_or held_by (content_at store.old.heap at) []) (Some n) (state_of store.old steps)) }
+    ensures kept { IsKept store.new.heap }
+    ensures sound { IfOk result (λ v. IsSound store.new.heap v) }
+    ensures shape { KeepsShape store.old.heap store.new.heap }
+{
+    let same = handed(a, false)?;
+    let copies = times(n);
+    let more = but_first(copies);
+    let size = elements_at(store, at).len();
+    charge_copies(store, 0, more, size as u64)?;
+    let x = Elements { at, lent: false };
+    let values = copied(alloc, store, x, copies as usize)?;
+    store.set_elements(at, values);
+    Ok(same)
+}
+
+/// How many of so many copies are made where the first is there.
+fn but_first(copies: u64) -> u64
+    ensures { result ≡ copies - 1 }
+{
+    copies.saturating_sub(1)
+}

@@ -1,0 +1,4 @@
+mod Escapes
+mod Lines
+mod ShowExamples
+mod Turns
