@@ -1,7 +1,7 @@
 #!/usr/bin/env bash
 # Nanoseconds of the plain operators on values, beside CPython's for the same operation in the same run, as ratios: adding numbers,
-# joining texts, items of a list, appending, reading and setting keys of dicts of 10 and of 1,000,000 entries, and showing a list
-# of 1,000 numbers. Before that, the bytes that a store takes for each cell, filled with lists, dicts and instances of some sizes.
+# joining texts, items of a list, appending, reading and setting keys of dicts of 10 and of 1,000,000 entries, one key next to
+# the last and far from it, and showing a list of 1,000 numbers. Before that, the bytes that a store takes for each cell, filled with lists, dicts and instances of some sizes.
 # Processor time, the least of some runs, less that of the same process or loop with nothing to do.
 cd "$(dirname "${BASH_SOURCE[0]}")/.." || exit 2
 [ -x crates/rp_bench_ops/out/rp_bench_ops ] || (cd crates/rp_bench_ops && rt run >/dev/null </dev/null)
@@ -13,6 +13,8 @@ import time
 BENCH = "crates/rp_bench_ops/out/rp_bench_ops"
 
 CELLS = 1_000_000
+MILLION = 1_000_000
+FAR = 618_033
 
 
 def process(*words):
@@ -68,22 +70,35 @@ def append(turns):
         xs.append(i)
 
 
-def get_key(entries):
+def get_key(entries, stride):
     d = {i: i for i in range(entries)}
 
     def loop(turns):
+        k = 0
         for i in range(turns):
-            d[i % entries]
+            d[k]
+            k = (k + stride) % entries
 
     return loop
 
 
-def set_key(entries):
+def set_key(entries, stride):
     d = {i: i for i in range(entries)}
 
     def loop(turns):
+        k = 0
         for i in range(turns):
-            d[i % entries] = 1
+            d[k] = 1
+            k = (k + stride) % entries
+
+    return loop
+
+
+def keys(entries, stride):
+    def loop(turns):
+        k = 0
+        for i in range(turns):
+            k = (k + stride) % entries
 
     return loop
 
@@ -114,10 +129,12 @@ LOOPS = [
     ("join of texts", "join", TURNS, join, empty),
     ("list item", "get_item", TURNS, get_item, remainders),
     ("append", "append", TURNS, append, empty),
-    ("get at 10", "get_key_10", TURNS, get_key(10), remainders),
-    ("get at 1,000,000", "get_key_1000000", TURNS, get_key(1_000_000), remainders),
-    ("set at 10", "set_key_10", TURNS, set_key(10), remainders),
-    ("set at 1,000,000", "set_key_1000000", TURNS, set_key(1_000_000), remainders),
+    ("get at 10", "get_key_10", TURNS, get_key(10, 1), keys(10, 1)),
+    ("get at 1,000,000", "get_key_1000000", TURNS, get_key(MILLION, 1), keys(MILLION, 1)),
+    ("get far at 1,000,000", "get_far_key_1000000", TURNS, get_key(MILLION, FAR), keys(MILLION, FAR)),
+    ("set at 10", "set_key_10", TURNS, set_key(10, 1), keys(10, 1)),
+    ("set at 1,000,000", "set_key_1000000", TURNS, set_key(MILLION, 1), keys(MILLION, 1)),
+    ("set far at 1,000,000", "set_far_key_1000000", TURNS, set_key(MILLION, FAR), keys(MILLION, FAR)),
     ("show of 1,000 numbers", "show", 2_000, show, empty),
 ]
 for title, what, turns, loop, idle in LOOPS:

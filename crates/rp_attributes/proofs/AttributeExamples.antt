@@ -1,4 +1,5 @@
--- Examples of the definitions, whose values are those of CPython, and of zope.security where references are lent.
+-- Examples of the definitions. What instances, lists, tuples, dicts and texts give is CPython's, and of zope.security where references
+-- are lent; owners, cells, the texts of exceptions, and that classes have no attributes and texts no `upper`, are rules of this program.
 use Rattle.std.proofs.Common.{◌≡◌, ℕ, pos, true, List, [], ◌∷◌, ◌++◌, codes, Some, None, refl}
 use lib.Utf8.{encode}
 use Rattle.rp_base.specs.declared.kind.Kind.TheVariants.{AttributeError}
@@ -14,7 +15,7 @@ use Rattle.rp_store.specs.Heap.{Owned}
 use Rattle.rp_store.specs.Object as object
 use Rattle.rp_store.specs.Object.{Content}
 use Rattle.rp_store.specs.declared.object.Callee.TheVariants as callee
-use Rattle.rp_ops.specs.Outcome.{Outcome, State, ends, gives, no_cell, raises}
+use Rattle.rp_ops.specs.Outcome.{State, ends, gives, no_cell, raises}
 use Rattle.rp_attributes.specs.Attributes.{attribute, del_attribute, dict_methods, list_methods, method_named, set_attribute, text_methods, tuple_methods, word_of}
 
 abbrev side : ℕ → Side

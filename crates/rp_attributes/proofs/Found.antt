@@ -2,14 +2,14 @@
 use Rattle.std.proofs.Common.{◌≡◌, ℕ, zero, suc, List, [], ◌∷◌, Option, Some, None, slice_get, subst}
 use Rattle.std.specs.List.{All}
 use Rattle.std.specs.Map.{lookup}
-use Rattle.std.specs.Option.{IfSome, option_map, option_map_or}
+use Rattle.std.specs.Option.{IfSome, option_map}
 use Rattle.std.proofs.lemmas.List.Elements.{All-head, All-tail}
 use Rattle.std.proofs.lemmas.Map.Entries.{All-lookup}
 use Rattle.rp_base.specs.declared.value.Name.{Name}
 use Rattle.rp_base.specs.declared.value.Oid.{Oid}
 use Rattle.rp_base.specs.declared.value.Side.{Side}
 use Rattle.rp_base.specs.declared.value.Value.{Value}
-use Rattle.rp_store.specs.Heap.{Owned, IsHeld, Names, content_at, field_at, method_at}
+use Rattle.rp_store.specs.Heap.{Owned, IsHeld, Names, content_at}
 use Rattle.rp_store.specs.Kept.{Holds, IsKept, IsSound}
 use Rattle.rp_store.specs.Key.{same_name}
 use Rattle.rp_store.specs.Object.{Content, list, tuple, dict, instance, class, function, method, scope}

@@ -1,10 +1,9 @@
 -- A heap with a scope, a function, its class and an instance is kept.
-use Rattle.std.proofs.Common.{◌≡◌, false, List, [], ◌∷◌, ◌++◌, Option, None, refl, sym, ap, subst, ◌∙◌}
+use Rattle.std.proofs.Common.{◌≡◌, false, List, [], ◌∷◌, ◌++◌, None, refl, sym, ap, subst, ◌∙◌}
 use Rattle.std.specs.List.{All}
 use Rattle.std.proofs.lemmas.List.Elements.{All-cons, All-nil, All-weaker}
 use Rattle.rp_base.specs.declared.value.Name.{Name}
 use Rattle.rp_base.specs.declared.value.Oid.{Oid}
-use Rattle.rp_base.specs.declared.value.Side.{Side}
 use Rattle.rp_base.specs.declared.value.Value.{Value}
 use Rattle.rp_store.specs.Heap.{Owned, Names}
 use Rattle.rp_store.specs.Kept.{Holds, IsKept, IsSound}
@@ -42,14 +41,12 @@ pub four_added : (h₀ h₁ h₂ h₃ h₄ : List Owned) (a b c d : Owned) → h
 four_added h₀ h₁ h₂ h₃ h₄ a b c d e₀ e₁ e₂ e₃ e₄ =
     e₄ ∙ ap (λ h. h ++ d ∷ []) (e₃ ∙ ap (λ h. h ++ c ∷ []) (e₂ ∙ ap (λ h. h ++ b ∷ []) (e₁ ∙ ap (λ h. h ++ a ∷ []) e₀)))
 
-pub IsKept-added : (ms : List (Name × Oid)) (fs : List (Name × Value)) (slots : List (Option Value)) (defaults : List Value) (heap : List Owned)
-    → All (λ m. m.1 ≡ record { 0 = 1 }) ms → All (λ f. IsSound [] f.1) fs → slots ≡ [] → defaults ≡ []
-    → heap ≡ script (scope None None slots) ∷ script (function None (record { 0 = 1 }) 0 (record { 0 = 0 }) defaults)
-    ∷ script (class (record { 0 = 0 }) false ms) ∷ script (instance (record { 0 = 2 }) fs) ∷ []
+pub IsKept-added : (ms : List (Name × Oid)) (fs : List (Name × Value)) (top code : Content) (heap : List Owned)
+    → All (λ m. m.1 ≡ record { 0 = 1 }) ms → All (λ f. IsSound [] f.1) fs → top ≡ scope None None [] → code ≡ function None (record { 0 = 1 }) 0 (record { 0 = 0 }) []
+    → heap ≡ script top ∷ script code ∷ script (class (record { 0 = 0 }) false ms) ∷ script (instance (record { 0 = 2 }) fs) ∷ []
     → IsKept heap
-IsKept-added ms fs slots defaults heap functions sound no_slot no_default e =
+IsKept-added ms fs top code heap functions sound is_scope is_function e =
     let rest : List Owned = script (class (record { 0 = 0 }) false ms) ∷ script (instance (record { 0 = 2 }) fs) ∷ [] in
     subst IsKept
-    (sym (e ∙ ap (λ (xs : List (Option Value)). script (scope None None xs) ∷ script (function None (record { 0 = 1 }) 0 (record { 0 = 0 }) defaults) ∷ rest) no_slot
-    ∙ ap (λ (ds : List Value). script (scope None None []) ∷ script (function None (record { 0 = 1 }) 0 (record { 0 = 0 }) ds) ∷ rest) no_default))
+    (sym (e ∙ ap (λ (c : Content). script c ∷ script code ∷ rest) is_scope ∙ ap (λ (c : Content). script (scope None None []) ∷ script c ∷ rest) is_function))
     (IsKept-instance_heap ms fs functions sound)

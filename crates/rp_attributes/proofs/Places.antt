@@ -1,7 +1,7 @@
 -- Attributes of the object at a place, by what it holds.
-use Rattle.std.proofs.Common.{◌≡◌, ℕ, Bool, true, false, true≢false, List, Option, Some, None, IsSomeAnd, Err, refl, sym, ap, ◌∙◌}
+use Rattle.std.proofs.Common.{◌≡◌, ℕ, true, false, true≢false, List, Option, Some, None, IsSomeAnd, Err, slice_get, refl, sym, ap, ◌∙◌}
 use Rattle.std.specs.Map.{lookup}
-use Rattle.std.specs.Option.{is_some, option_and_then, option_map_or}
+use Rattle.std.specs.Option.{is_some, option_and_then, option_map, option_map_or}
 use Rattle.rp_base.specs.declared.value.Name.{Name}
 use Rattle.rp_base.specs.declared.value.Oid.{Oid}
 use Rattle.rp_base.specs.declared.value.Side.{Side}
@@ -13,25 +13,37 @@ use Rattle.rp_store.specs.Key.{same_name}
 use Rattle.rp_store.specs.Object.{Content, list, tuple, dict, instance, class, function, method, scope}
 use Rattle.rp_store.specs.Parts.{IsInstance, fields}
 use Rattle.rp_store.specs.Writers.{without_field}
-use Rattle.rp_ops.specs.Outcome.{Meets, Outcome, Raises, State, ends, raised}
+use Rattle.rp_ops.specs.Outcome.{Meets, Outcome, Raises, State, ends, gives, raised}
 use Rattle.rp_base.specs.declared.value.OpEnd.{OpEnd}
 use Rattle.rp_base.specs.declared.value.OpEnd.TheVariants as end
 use Rattle.rp_base.specs.declared.value.Raised.{Raised}
-use Rattle.rp_attributes.specs.Attributes.{attribute_at, bound, changes, content_del, del_at, field_deleted, method_of, no_attribute, object_attribute}
+use Rattle.rp_attributes.specs.Attributes.{attribute_at, bound, changes, content_del, del_at, field_deleted, field_or_method, method_of, no_attribute, object_attribute}
 
 module _ (at : Oid) (name : Name) (word : List ℕ) (s : State) where
-  held_attribute : (c : Content) → content_at s.store.heap at ≡ Some c
-      → attribute_at at name word s ≡ object_attribute at (lookup (same_name name) (fields c)) (method_of c name word s) word s
-  held_attribute c e = rw e refl
+  -- there is such a field
+  pub attribute_at-field : (c : Content) (v : Value) → content_at s.store.heap at ≡ Some c → lookup (same_name name) (fields c) ≡ Some v → attribute_at at name word s ≡ gives v s
+  attribute_at-field c v e found = by (slice_get s.store.heap at.0) e where
+    by : (x : Option Owned) → option_map (λ o. o.content) x ≡ Some c → option_map_or (λ o. object_attribute at o name word s) x (no_attribute word s) ≡ gives v s
+    by None e = absurd (cc)
+    by (Some o) e =
+        let same : o.content ≡ c = cc in
+        ap (λ (x : Option Value). field_or_method o.owner at x (method_of o.content name word s) word s) (ap (λ (d : Content). lookup (same_name name) (fields d)) same ∙ found)
 
   -- there is no such field: a method is bound
   pub attribute_at-method : (c : Content) (called : Option Callee) (owner : Side) → content_at s.store.heap at ≡ Some c → lookup (same_name name) (fields c) ≡ None
       → called ≡ option_and_then (λ c. method_of c name word s) (content_at s.store.heap at) → owner_at s.store.heap at ≡ Some owner
       → attribute_at at name word s ≡ bound owner (value.Ref at) called word s
-  attribute_at-method c called owner e none m o =
-      held_attribute c e ∙ ap (λ (x : Option Value). object_attribute at x (method_of c name word s) word s) none
-      ∙ ap (λ (x : Option Side). bound (option_map_or (λ side. side) x (record { 0 = 0 })) (value.Ref at) (method_of c name word s) word s) o
-      ∙ ap (λ (x : Option Callee). bound owner (value.Ref at) x word s) (sym (m ∙ ap (option_and_then (λ c. method_of c name word s)) e))
+  attribute_at-method c called owner e none m mine = by (slice_get s.store.heap at.0) e m mine where
+    by : (x : Option Owned) → option_map (λ o. o.content) x ≡ Some c → called ≡ option_and_then (λ c. method_of c name word s) (option_map (λ o. o.content) x)
+        → option_map (λ o. o.owner) x ≡ Some owner
+        → option_map_or (λ o. object_attribute at o name word s) x (no_attribute word s) ≡ bound owner (value.Ref at) called word s
+    by None e m mine = absurd (cc)
+    by (Some o) e m mine =
+        let same : o.content ≡ c = cc in
+        let by_owner : o.owner ≡ owner = cc in
+        ap (λ (x : Option Value). field_or_method o.owner at x (method_of o.content name word s) word s) (ap (λ (d : Content). lookup (same_name name) (fields d)) same ∙ none)
+        ∙ ap (λ (side : Side). bound side (value.Ref at) (method_of o.content name word s) word s) by_owner
+        ∙ ap (λ (x : Option Callee). bound owner (value.Ref at) x word s) (sym m)
 
   missing : (o : Option Content) → field_at s.store.heap at name ≡ None
       → option_map_or (λ c. content_del at c name word s) o (no_attribute word s) ≡ no_attribute word s

@@ -1,7 +1,10 @@
 -- Attributes: the fields and methods of instances, and the built-in methods of lists, tuples, dicts and texts (Python Language
--- Reference, Attribute references; Python Standard Library, Built-in types).
-use Rattle.std.specs.Prelude.{ℕ, List, [], ◌∷◌, find, slice_index_or, Option, Some, None}
-use Rattle.std.specs.Option.{option_map_or}
+-- Reference, Attribute references; Python Standard Library, Built-in types). Other way: a built-in method is the first of a list whose
+-- name is the list of characters asked for, and fields and methods are looked up in lists of pairs. The code compares names by their
+-- bytes, searches dicts that may be hashed, and changes the store in place.
+use Rattle.std.specs.Prelude.{ℕ, List, [], ◌∷◌, find, slice_get, slice_index_or, Option, Some, None}
+use Rattle.std.specs.Map.{lookup}
+use Rattle.std.specs.Option.{option_map, option_map_or}
 use Rattle.rp_base.specs.declared.kind.Kind.TheVariants.{AttributeError}
 use Rattle.rp_base.specs.declared.native.NativeId.{NativeId}
 use Rattle.rp_base.specs.declared.native.NativeId.TheVariants as native
@@ -15,11 +18,13 @@ use Rattle.rp_base.specs.declared.value.Value.TheVariants as value
 use Rattle.rp_base.specs.Native.{native_name}
 use Rattle.rp_base.specs.Same.{same_text}
 use Rattle.rp_store.specs.Cost.{cell_if_new}
-use Rattle.rp_store.specs.Heap.{content_at, field_at, method_at, owner_at}
+use Rattle.rp_store.specs.Heap.{Owned, content_at, field_at, method_at}
+use Rattle.rp_store.specs.Key.{same_name}
 use Rattle.rp_store.specs.declared.object.Callee.{Callee}
 use Rattle.rp_store.specs.declared.object.Callee.TheVariants as callee
 use Rattle.rp_store.specs.Object as object
 use Rattle.rp_store.specs.Object.{Content}
+use Rattle.rp_store.specs.Parts.{fields}
 use Rattle.rp_store.specs.Writers.{with_field, without_field}
 use Rattle.rp_ops.specs.Binary.{new_object}
 use Rattle.rp_ops.specs.Operand.{lent}
@@ -53,38 +58,28 @@ abbrev pub bound : Side → Value → Option Callee → List ℕ → State → O
 bound owner receiver (Some called) word s = new_object owner (object.method receiver called) s
 bound owner receiver None word s = no_attribute word s
 
-abbrev pub native_callee : Option NativeId → Option Callee
-native_callee (Some id) = Some (callee.Native id)
-native_callee None = None
-
-abbrev pub function_callee : Option Oid → Option Callee
-function_callee (Some at) = Some (callee.Function at)
-function_callee None = None
-
--- the methods of an object, but for an instance's fields: those of its class, or the built-in ones of its kind
+-- what is called by the method of that name: a function of an instance's class, or a built-in method of the object's kind
 abbrev pub method_of : Content → Name → List ℕ → State → Option Callee
-method_of (object.list xs) name word s = native_callee (method_named list_methods word)
-method_of (object.tuple xs) name word s = native_callee (method_named tuple_methods word)
-method_of (object.dict es) name word s = native_callee (method_named dict_methods word)
-method_of (object.instance of fs) name word s = function_callee (method_at s.store.heap of name)
+method_of (object.list xs) name word s = option_map callee.Native (method_named list_methods word)
+method_of (object.tuple xs) name word s = option_map callee.Native (method_named tuple_methods word)
+method_of (object.dict es) name word s = option_map callee.Native (method_named dict_methods word)
+method_of (object.instance of fs) name word s = option_map callee.Function (method_at s.store.heap of name)
 method_of c name word s = None
 
--- the side that owns the object at a place
-abbrev pub owner_of : Oid → State → Side
-owner_of at s = option_map_or (λ side. side) (owner_at s.store.heap at) (record { 0 = 0 })
+-- the field of an instance, else a method bound to the object at a place for its owner, which keeps the object plain
+abbrev pub field_or_method : Side → Oid → Option Value → Option Callee → List ℕ → State → Outcome Value
+field_or_method owner at (Some v) called word s = gives v s
+field_or_method owner at None called word s = bound owner (value.Ref at) called word s
 
--- the field of an instance, else a method bound to the object, which keeps it plain
-abbrev pub object_attribute : Oid → Option Value → Option Callee → List ℕ → State → Outcome Value
-object_attribute at (Some v) called word s = gives v s
-object_attribute at None called word s = bound (owner_of at s) (value.Ref at) called word s
+abbrev pub object_attribute : Oid → Owned → Name → List ℕ → State → Outcome Value
+object_attribute at o name word s = field_or_method o.owner at (lookup (same_name name) (fields o.content)) (method_of o.content name word s) word s
 
 abbrev pub attribute_at : Oid → Name → List ℕ → State → Outcome Value
-attribute_at at name word s =
-    option_map_or (λ c. object_attribute at (field_at s.store.heap at name) (method_of c name word s) word s) (content_at s.store.heap at) (no_attribute word s)
+attribute_at at name word s = option_map_or (λ o. object_attribute at o name word s) (slice_get s.store.heap at.0) (no_attribute word s)
 
 -- a text has built-in methods, which are bound for the side of the running code
 abbrev pub rock_attribute : Side → Rock → List ℕ → State → Outcome Value
-rock_attribute side (rock.Text t) word s = bound side (value.Rock (rock.Text t)) (native_callee (method_named text_methods word)) word s
+rock_attribute side (rock.Text t) word s = bound side (value.Rock (rock.Text t)) (option_map callee.Native (method_named text_methods word)) word s
 rock_attribute side r word s = no_attribute word s
 
 -- `a.name`, where the name is that word; what is got through a proxy is lent

@@ -18,7 +18,7 @@ use std::alloc::Global;
 /// # Errors
 /// - `Raised` with `AttributeError`, whose text is the name, where `a` is no instance.
 /// - `StopCells` where the cell is over the limit.
-/// - `Memory` where a growth was refused.
+/// - `Memory` where a growth was refused, or there is none for the text of the exception.
 ///
 /// The store is then as before.
 pub fn set_attribute(
@@ -50,7 +50,7 @@ pub fn set_attribute(
 ///
 /// # Errors
 /// - `Raised` with `AttributeError`, whose text is the name, where `a` is no instance or has no such field.
-/// - `Memory` where there is none for the text.
+/// - `Memory` where there is none for the text of the exception.
 ///
 /// The store is then as before.
 pub fn del_attribute(

@@ -1,9 +1,10 @@
-ghost use Rattle.std.specs.Prelude.{◌≡◌, [], All, IfOk, List};
-ghost use Rattle.rp_store.specs.Heap.{Owned};
+ghost use Rattle.std.specs.Prelude.{◌≡◌, [], All, IfOk, List, None};
 ghost use Rattle.rp_base.specs.declared.value.Value.{Value as Plain};
+ghost use Rattle.rp_store.specs.Heap.{Owned};
 ghost use Rattle.rp_store.specs.Kept.{IsKept, IsSound};
+ghost use Rattle.rp_store.specs.Object.{content_of, function, scope};
 
-use crate::tests::{Got, Receiver, done, ended, receiver_of};
+use crate::tests::{Got, Receiver, done, ended, named, receiver_of};
 use crate::{attribute, del_attribute, set_attribute};
 use rp_base::{Memory, Name, Names, Oid, OpEnd, Rock, Side, Value};
 use rp_dict::Dict;
@@ -13,9 +14,6 @@ use std::alloc::Global;
 const INDEX: Name = Name(52);
 
 const COUNT: Name = Name(53);
-
-/// A name that stands for no word.
-const NONE: Name = Name(1000);
 
 fn word(name: Name) -> &'static str {
     match name.0 {
@@ -50,8 +48,32 @@ fn methods(alloc: Global, name: Option<Name>) -> Result<Dict<Name, Oid>, Memory>
     Ok(methods)
 }
 
-/// A store of so many cells in which a script has a class at place 2, with this method, and its instance at place 3, with
-/// this field.
+/// An empty scope without a parent.
+fn scope_object(alloc: Global) -> Object
+    ensures { content_of result ≡ scope None None [] }
+{
+    Object::Scope {
+        block: None,
+        parent: None,
+        slots: Vec::new(alloc),
+    }
+}
+
+/// A function of a script, in the scope at place 0.
+fn function_object(alloc: Global) -> Object
+    ensures { content_of result ≡ function None (record { 0 = 1 }) 0 (record { 0 = 0 }) [] }
+{
+    Object::Function {
+        name: None,
+        unit: Side(1),
+        block: 0,
+        scope: Oid(0),
+        defaults: Vec::new(alloc),
+    }
+}
+
+/// A store of so many cells in which a script has a function at place 1, a class at place 2, with this method, and its
+/// instance at place 3, with this field.
 fn instance(
     alloc: Global,
     cells: u64,
@@ -59,45 +81,26 @@ fn instance(
     method: Option<Name>,
 ) -> Result<Store, OpEnd>
     ensures kept { IfOk result (λ s. IsKept s.heap) }
+    ensures function { IfOk result (λ s. IsSound s.heap (Value.Ref (record { 0 = 1 }))) }
     ensures class { IfOk result (λ s. IsSound s.heap (Value.Ref (record { 0 = 2 }))) }
     ensures instance { IfOk result (λ s. IsSound s.heap (Value.Ref (record { 0 = 3 }))) }
 {
     let methods = methods(alloc, method)?;
     let fields = fields(alloc, field)?;
+    let class = Object::Class {
+        name: Name(0),
+        declared: false,
+        methods,
+    };
+    let instance = Object::Instance {
+        class: Oid(2),
+        fields,
+    };
     let mut store = Store::new(alloc, cells);
-    store.add(
-        Side(1),
-        Object::Scope {
-            block: None,
-            parent: None,
-            slots: Vec::new(alloc),
-        },
-    )?;
-    store.add(
-        Side(1),
-        Object::Function {
-            name: None,
-            unit: Side(1),
-            block: 0,
-            scope: Oid(0),
-            defaults: Vec::new(alloc),
-        },
-    )?;
-    store.add(
-        Side(1),
-        Object::Class {
-            name: Name(0),
-            declared: false,
-            methods,
-        },
-    )?;
-    store.add(
-        Side(1),
-        Object::Instance {
-            class: Oid(2),
-            fields,
-        },
-    )?;
+    store.add(Side(1), scope_object(alloc))?;
+    store.add(Side(1), function_object(alloc))?;
+    store.add(Side(1), class)?;
+    store.add(Side(1), instance)?;
     Ok(store)
 }
 
@@ -186,7 +189,6 @@ fn a_field_is_read_before_a_method(rt: HostRuntime) {
     assert!(rt; reads_as(alloc, 0, (None, index), false, INDEX, Got::Cells, 0));
     assert!(rt; reads_as(alloc, 1, (None, index), false, COUNT, Got::Missing, 0));
     assert!(rt; reads_as(alloc, 1, (index, index), true, COUNT, Got::Missing, 0));
-    assert!(rt; reads_as(alloc, 1, (index, index), false, NONE, Got::Missing, 0));
 }
 
 /// Whether the object at place 4 is the method of the instance's class, the script's, and keeps its receiver plain.
@@ -308,13 +310,13 @@ fn refuses(alloc: Global, store: &mut Store, a: &Value) -> Result<bool, OpEnd>
     Ok(was_set == Got::Missing && was_deleted == Got::Missing && store.used() == used)
 }
 
-fn class_refuses(alloc: Global) -> Result<bool, OpEnd> {
+fn class_refuses(alloc: Global, lent: bool) -> Result<bool, OpEnd> {
     let mut store = instance(alloc, 1, None, Some(INDEX))?;
-    refuses(alloc, &mut store, &Value::Ref(Oid(2)))
+    refuses(alloc, &mut store, &named(Oid(2), lent))
 }
 
-fn receiver_refuses(alloc: Global, kind: Receiver) -> Result<bool, OpEnd> {
-    let (mut store, value) = receiver_of(alloc, kind)?;
+fn receiver_refuses(alloc: Global, kind: Receiver, lent: bool) -> Result<bool, OpEnd> {
+    let (mut store, value) = receiver_of(alloc, kind, lent)?;
     refuses(alloc, &mut store, &value)
 }
 
@@ -326,7 +328,8 @@ fn number_refuses(alloc: Global) -> Result<bool, OpEnd> {
 #[test]
 fn only_instances_take_attributes(rt: HostRuntime) {
     let alloc = rt.alloc();
-    assert!(rt; matches!(class_refuses(alloc), Ok(true)));
+    assert!(rt; matches!(class_refuses(alloc, false), Ok(true)));
+    assert!(rt; matches!(class_refuses(alloc, true), Ok(true)));
     assert!(rt; matches!(number_refuses(alloc), Ok(true)));
     for kind in [
         Receiver::List,
@@ -334,6 +337,44 @@ fn only_instances_take_attributes(rt: HostRuntime) {
         Receiver::Dict,
         Receiver::Text,
     ] {
-        assert!(rt; matches!(receiver_refuses(alloc, kind), Ok(true)));
+        assert!(rt; matches!(receiver_refuses(alloc, kind, false), Ok(true)));
+        assert!(rt; matches!(receiver_refuses(alloc, kind, true), Ok(true)));
+    }
+}
+
+/// Whether a value has no attribute of the name that the instance and its class have.
+fn has_none(alloc: Global, store: &mut Store, a: &Value) -> Result<bool, OpEnd>
+    requires kept { IsKept store.old.heap }
+    requires a { IsSound store.old.heap a.now }
+{
+    let (names, used) = (Names::new(alloc)?, store.used());
+    let read = get(alloc, store, &names, a, INDEX);
+    Ok(read == Got::Missing && store.used() == used)
+}
+
+fn function_has_none(alloc: Global, lent: bool) -> Result<bool, OpEnd> {
+    let mut store = instance(alloc, 9, Some(INDEX), Some(INDEX))?;
+    has_none(alloc, &mut store, &named(Oid(1), lent))
+}
+
+fn class_has_none(alloc: Global, lent: bool) -> Result<bool, OpEnd> {
+    let mut store = instance(alloc, 9, Some(INDEX), Some(INDEX))?;
+    has_none(alloc, &mut store, &named(Oid(2), lent))
+}
+
+fn method_has_none(alloc: Global, lent: bool) -> Result<bool, OpEnd> {
+    let mut store = instance(alloc, 9, None, Some(INDEX))?;
+    let (names, a) = (Names::new(alloc)?, reference(lent));
+    let method = attribute(alloc, &mut store, &names, Side(2), &a, INDEX)?;
+    has_none(alloc, &mut store, &method)
+}
+
+#[test]
+fn classes_functions_and_methods_have_no_attributes(rt: HostRuntime) {
+    let alloc = rt.alloc();
+    for lent in [false, true] {
+        assert!(rt; matches!(function_has_none(alloc, lent), Ok(true)));
+        assert!(rt; matches!(class_has_none(alloc, lent), Ok(true)));
+        assert!(rt; matches!(method_has_none(alloc, lent), Ok(true)));
     }
 }

@@ -1,8 +1,8 @@
 ghost use Rattle.std.specs.Prelude.{◌≡◌, ℕ, IfSome, chars};
-ghost use Rattle.std.specs.Option.{option_and_then};
+ghost use Rattle.std.specs.Option.{option_and_then, option_map};
 ghost use Rattle.rp_base.specs.Native.{native_name};
 ghost use Rattle.rp_base.specs.Same.{same_text};
-ghost use Rattle.rp_attributes.specs.Attributes.{dict_methods, function_callee, list_methods, method_named, method_of, native_callee, text_methods, tuple_methods};
+ghost use Rattle.rp_attributes.specs.Attributes.{dict_methods, list_methods, method_named, method_of, text_methods, tuple_methods};
 ghost use Rattle.rp_ops.specs.Outcome.{state_of};
 ghost use Rattle.rp_store.specs.Heap.{IsHeld, content_at, method_at};
 ghost use Rattle.rp_store.specs.Kept.{IsCallee, IsKept};
@@ -105,7 +105,7 @@ pub(crate) fn method_of(store: &Store, at: Oid, name: Name, word: &str) -> Optio
 fn class_method(store: &Store, class: Oid, name: Name) -> Option<Callee>
     requires kept { IsKept store.now.heap }
     requires held { IsHeld store.now.heap class }
-    ensures method { result ≡ function_callee (method_at store.now.heap class name) }
+    ensures method { result ≡ option_map (λ at. Callee.Function at) (method_at store.now.heap class name) }
     ensures callee { IfSome result (IsCallee store.now.heap) }
 {
     match store.object(class).method(name) {
@@ -115,7 +115,7 @@ fn class_method(store: &Store, class: Oid, name: Name) -> Option<Callee>
 }
 
 pub(crate) fn native(method: Option<NativeId>) -> Option<Callee>
-    ensures { result ≡ native_callee method }
+    ensures { result ≡ option_map (λ id. Callee.Native id) method }
 {
     match method {
         Some(id) => Some(Callee::Native(id)),

@@ -76,6 +76,9 @@ fn run<R: Env + AllocGlobal>(rt: &R) -> Result<(), Failure> {
     }
 }
 
+/// So far one key is behind the last where they are not next to each other. It has no divisor in common with 1,000,000.
+const FAR: i64 = 618_033;
+
 /// Does an operation so many times.
 fn operate(alloc: Global, what: &str, turns: u64) -> Result<(), Failure> {
     match what {
@@ -83,10 +86,12 @@ fn operate(alloc: Global, what: &str, turns: u64) -> Result<(), Failure> {
         "join" => operators::join(alloc, turns),
         "get_item" => operators::get_item(alloc, turns),
         "append" => operators::append(alloc, turns),
-        "get_key_10" => operators::get_key(alloc, 10, turns),
-        "get_key_1000000" => operators::get_key(alloc, 1_000_000, turns),
-        "set_key_10" => operators::set_key(alloc, 10, turns),
-        "set_key_1000000" => operators::set_key(alloc, 1_000_000, turns),
+        "get_key_10" => operators::get_key(alloc, 10, 1, turns),
+        "get_key_1000000" => operators::get_key(alloc, 1_000_000, 1, turns),
+        "get_far_key_1000000" => operators::get_key(alloc, 1_000_000, FAR, turns),
+        "set_key_10" => operators::set_key(alloc, 10, 1, turns),
+        "set_key_1000000" => operators::set_key(alloc, 1_000_000, 1, turns),
+        "set_far_key_1000000" => operators::set_key(alloc, 1_000_000, FAR, turns),
         "show" => operators::show_list(alloc, turns),
         _ => Ok(()),
     }

@@ -68,8 +68,8 @@ pub(crate) fn append(alloc: Global, turns: u64) -> Result<(), Failure> {
     Ok(())
 }
 
-/// `d[k]`, on a dict of so many entries, each in turn.
-pub(crate) fn get_key(alloc: Global, entries: i64, turns: u64) -> Result<(), Failure> {
+/// `d[k]`, on a dict of so many entries: of the numbers below that, each so far behind the last.
+pub(crate) fn get_key(alloc: Global, entries: i64, stride: i64, turns: u64) -> Result<(), Failure> {
     let mut store = dict_of(alloc, entries)?;
     let mut key = 0;
     for _ in 0..turns {
@@ -77,18 +77,18 @@ pub(crate) fn get_key(alloc: Global, entries: i64, turns: u64) -> Result<(), Fai
             return Err(Failure::Answer);
         };
         item(alloc, &mut store, &dict, &Value::Rock(Rock::Int(key)))?;
-        key = next(key, entries);
+        key = next(key, stride, entries);
     }
     Ok(())
 }
 
-/// `d[k] = 1`, on a dict that has the keys.
-pub(crate) fn set_key(alloc: Global, entries: i64, turns: u64) -> Result<(), Failure> {
+/// `d[k] = 1`, on a dict that has the keys, in the same order.
+pub(crate) fn set_key(alloc: Global, entries: i64, stride: i64, turns: u64) -> Result<(), Failure> {
     let mut store = dict_of(alloc, entries)?;
     let mut key = 0;
     for _ in 0..turns {
         set(alloc, &mut store, key, 1)?;
-        key = next(key, entries);
+        key = next(key, stride, entries);
     }
     Ok(())
 }
@@ -113,9 +113,13 @@ fn small(turn: u64) -> i64 {
 }
 
 /// The next key of a dict of the numbers below one.
-fn next(key: i64, entries: i64) -> i64 {
-    let next = key.wrapping_add(1);
-    if next < entries { next } else { 0 }
+fn next(key: i64, stride: i64, entries: i64) -> i64 {
+    let next = key.wrapping_add(stride);
+    if next < entries {
+        next
+    } else {
+        next.wrapping_sub(entries)
+    }
 }
 
 /// The numbers below one.

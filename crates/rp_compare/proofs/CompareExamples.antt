@@ -1,9 +1,9 @@
--- Examples of the definitions, whose values are those of CPython.
+-- Examples of the definitions. The answers are those of CPython, but for exception values, which are equal by kind and text here; the
+-- steps, the depth and the texts of exceptions are own.
 use Rattle.std.proofs.Common.{◌≡◌, ℕ, ◌^◌, ◌-◌, ℤ, pos, negsuc, neg_ℤ, Bool, true, false, List, [], ◌∷◌, map, codes, refl}
 use Rattle.rp_base.specs.declared.kind.Kind.TheVariants.{RecursionError, TypeError, ValueError}
 use Rattle.rp_base.specs.declared.native.NativeId.TheVariants.{Len, Abs}
 use Rattle.rp_base.specs.declared.operator.CmpOp.TheVariants.{Lt, Le, Gt, Ge, Eq, Ne}
-use Rattle.rp_base.specs.declared.value.Oid.{Oid}
 use Rattle.rp_base.specs.declared.value.Rock.{Rock}
 use Rattle.rp_base.specs.declared.value.Rock.TheVariants as rock
 use Rattle.rp_base.specs.declared.value.Value.{Value}

@@ -1,6 +1,5 @@
 -- Texts by their bytes: their order, and one as a part of another.
-use Rattle.std.proofs.Common.{◌≡◌, ℕ, ◌==◌, Bool, true, false, ◌&&◌, ◌||◌, ◌⊎◌, inl, inr, ◌↔◌, List, [], ◌∷◌, ◌++◌, chars, encode_utf8_all, eq-eqb, refl, sym, ap, ◌∙◌, arith, is_lt, nat_cmp}
-use Rattle.std.specs.Bool.{MatchBool}
+use Rattle.std.proofs.Common.{◌≡◌, ℕ, ◌==◌, Bool, true, false, ◌⊎◌, inl, inr, ◌↔◌, List, [], ◌∷◌, ◌++◌, chars, encode_utf8_all, eq-eqb, refl, sym, ap, ◌∙◌, arith, is_lt, nat_cmp}
 use Rattle.std.specs.Cmp.Lexicographic.{slice_cmp}
 use Rattle.std.specs.Str.{IsUtf8}
 use Rattle.std.specs.Str.Iter.{HasSubslice}
@@ -11,7 +10,7 @@ use Rattle.std.proofs.lemmas.Str.{encodes-chars}
 use Rattle.rp_compare.specs.Membership.{begins, is_part, is_text_part}
 use Rattle.rp_compare.specs.Order.{list_less}
 
--- the order that is tested is that of dictionaries
+-- the order that is tested is the lexicographic one
 pub list_less-cmp : (xs ys : List ℕ) → is_lt (slice_cmp nat_cmp xs ys) ≡ list_less xs ys
 list_less-cmp xs ys = same_from_slice_cmp nat_cmp is_lt list_less refl (λ _ _. refl) (λ _ _. refl) (λ x y xs ys o h. grind (arith, nat_tests)) xs ys (slice_cmp nat_cmp xs ys) refl
 

@@ -1,5 +1,5 @@
 -- One round of a walk over two lists or two dicts, and its end.
-use Rattle.std.proofs.Common.{◌≡◌, ◌≢◌, ◌⊎◌, inl, inr, ℕ, zero, suc, ◌+◌, ◌-◌, ◌<◌, Bool, true, false, List, [], ◌∷◌, length, Option, Some, None, Result, Ok, Err, IsErrAnd, Bor, drop, drop-cons, get_or, slice_get, if◌then◌else◌, refl, sym, ap, ◌∙◌, subst, eq-eqb, add-one, arith}
+use Rattle.std.proofs.Common.{◌≡◌, ◌≢◌, ◌⊎◌, inl, inr, ℕ, zero, suc, ◌+◌, ◌-◌, Bool, true, false, List, [], ◌∷◌, length, Option, Some, None, Result, Ok, Err, IsErrAnd, Bor, drop, drop-cons, slice_get, if◌then◌else◌, refl, sym, ap, ◌∙◌, subst, eq-eqb, add-one, arith}
 use Rattle.std.specs.Map.{lookup}
 use Rattle.std.specs.List.{All}
 use Rattle.std.specs.Map.Iter.{deref_pair}

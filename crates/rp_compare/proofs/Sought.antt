@@ -1,5 +1,5 @@
 -- A look-up of a value as a key.
-use Rattle.std.proofs.Common.{◌≡◌, ℕ, suc, ◌+◌, ◌<◌, Bool, true, false, List, ◌∷◌, length, Option, Some, None, Ok, Bor, codes, drop, drop-cons, get_or, is_some, if◌then◌else◌, refl, sym, ap, ◌∙◌, add-one}
+use Rattle.std.proofs.Common.{◌≡◌, Option, Some, None, Ok, Bor, codes, is_some, refl, sym, ap, ◌∙◌}
 use Rattle.std.specs.Map.{lookup}
 use Rattle.std.specs.Option.{option_and_then, option_copied, option_map_or}
 use Rattle.rp_base.specs.declared.kind.Kind.TheVariants.{TypeError}
@@ -7,14 +7,10 @@ use Rattle.rp_base.specs.declared.value.Rock.{Rock}
 use Rattle.rp_base.specs.declared.value.Value.{Value}
 use Rattle.rp_base.specs.declared.value.Value.TheVariants as value
 use Rattle.rp_store.specs.Key.{key_form, same_key}
-use Rattle.rp_store.specs.Store.{Cells}
 use Rattle.rp_store.specs.declared.key.Key.{Key}
-use Rattle.rp_ops.specs.Depth.{deepest}
 use Rattle.rp_ops.specs.Keys.{entry_in, key_named}
 use Rattle.rp_ops.specs.Numbers.{refused}
-use Rattle.rp_ops.specs.Outcome.{State, Outcome, gives, on_found, on_value, state_of}
-use Rattle.rp_compare.specs.Equality.{equal}
-use Rattle.rp_compare.specs.Membership.{found_in}
+use Rattle.rp_ops.specs.Outcome.{State, gives, on_found}
 use Rattle.rp_compare.proofs.Rounds.{Entries}
 
 -- a value that can be a key is looked up

@@ -1,4 +1,6 @@
--- Equality of values (Python Language Reference, Value comparisons), with the steps that it takes.
+-- Equality of values (Python Language Reference, Value comparisons), with the steps that it takes. Other way: what containers hold is
+-- compared by a test that is handed in, none where it lies too deep, and goes down both lists at once, the dicts searched as lists
+-- of entries; the code counts the depth left down and loops, on a pair of iterators or an index, and asks the right dict for the key.
 use Rattle.std.specs.Prelude.{ℕ, zero, suc, ◌==◌, ℤ, Bool, true, false, ◌&&◌, List, [], ◌∷◌, length, Option, Some, None, if◌then◌else◌}
 use Rattle.std.specs.Map.{lookup}
 use Rattle.std.specs.Option.{option_map_or}

@@ -1,5 +1,6 @@
 -- Membership: in a list or a tuple by equality, in a dict by key, in a text as a part of it (Python Language Reference, Membership
--- test operations).
+-- test operations). Other way: a part is tried at each place of the text, one behind another, where the code asks std's search; a list
+-- is gone through by recursion, where the code loops; and a dict is searched as a list of entries.
 use Rattle.std.specs.Prelude.{ℕ, ◌==◌, Bool, true, false, ◌&&◌, ◌||◌, List, [], ◌∷◌, codes, encode_utf8_all, is_some, if◌then◌else◌}
 use Rattle.std.specs.Option.{option_map_or}
 use Rattle.rp_base.specs.declared.kind.Kind.TheVariants.{TypeError}

@@ -1,4 +1,5 @@
--- Order of numbers and of texts, and the comparison operators (Python Language Reference, Value comparisons).
+-- Order of numbers and of texts, and the comparison operators (Python Language Reference, Value comparisons). Other way: the order of
+-- texts is written out here, byte by byte, where the code compares the shared texts by the comparison of std.
 use Rattle.std.specs.Prelude.{ℕ, ◌==◌, nat_lt, ℤ, int_lt, Bool, true, false, ◌&&◌, ◌||◌, not, List, [], ◌∷◌, codes, encode_utf8_all, Option, Some, None}
 use Rattle.rp_base.specs.declared.kind.Kind.TheVariants.{TypeError}
 use Rattle.rp_base.specs.declared.operator.CmpOp.{CmpOp}
@@ -9,7 +10,7 @@ use Rattle.rp_ops.specs.Operand.{Operand, text, operand, number_of}
 use Rattle.rp_ops.specs.Outcome.{State, Outcome, gives, raises, on_value}
 use Rattle.rp_compare.specs.Equality.{equal}
 
--- in the order of dictionaries
+-- lexicographic order: by the first numbers that differ, and a front before what it begins
 abbrev pub list_less : List ℕ → List ℕ → Bool
 list_less xs [] = false
 list_less [] (y ∷ ys) = true

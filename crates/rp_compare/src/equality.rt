@@ -1,4 +1,4 @@
-ghost use Rattle.std.specs.Prelude.{◌≡◌, ◌<◌, IfErr, IfOk, None, Some};
+ghost use Rattle.std.specs.Prelude.{◌≡◌, ◌<◌, ◌≤◌, IfErr, IfOk, None, Some};
 ghost use Rattle.rp_compare.specs.Equality.{dicts_equal, elements_equal, equal, objects_equal, within};
 ghost use Rattle.rp_ops.specs.Depth.{deepest};
 ghost use Rattle.rp_ops.specs.Outcome.{Meets, Raises, state_of};
@@ -14,15 +14,18 @@ use rp_ops::{Refusal, step};
 use rp_store::{Key, Object, Store};
 use std::alloc::Global;
 
-/// So deep are containers compared within one another; the outermost one is at depth 1.
+/// The depth at which containers are compared at most; the outermost one is at depth 1.
 const DEEPEST: usize = 200;
 
 /// Whether two values are equal (Python Language Reference, Value comparisons): rocks by what they are, where True and
 /// False count as 1 and 0, an object with itself, and lists, tuples and dicts by what they hold. Each pair of elements,
-/// and of values at one key, takes a step, up to the first that is unequal.
+/// and of values at one key, takes a step, up to the first that is unequal; nothing is compared of containers that hold
+/// different numbers of elements. No answer gives a step back.
 ///
 /// # Errors
-/// - `Raised` with `RecursionError`, where containers lie more than 200 deep within one another.
+/// - `Raised` with `RecursionError` and the text `depth`, where two different lists, tuples or dicts are to be compared
+///   at depth 201, whatever they hold; the two values are at depth 1. An object with itself and containers of two kinds
+///   need no comparison at any depth.
 /// - `StopSteps` where no step is left.
 /// - `Memory` where there is none for the text of the exception.
 pub fn equal(
@@ -35,7 +38,8 @@ pub fn equal(
     requires kept { IsKept store.now.heap }
     requires a { IsSound store.now.heap a.now }
     requires b { IsSound store.now.heap b.now }
-    ensures { Meets result (state_of store.now meter.new.left) (equal deepest a.now b.now (state_of store.now meter.old.left)) }
+    ensures plain { Meets result (state_of store.now meter.new.left) (equal deepest a.now b.now (state_of store.now meter.old.left)) }
+    ensures fewer { meter.new.left ≤ meter.old.left }
 {
     equal_values(alloc, store, meter, DEEPEST, a, b)
 }
@@ -53,7 +57,8 @@ fn equal_values(
     requires kept { IsKept store.now.heap }
     requires a { IsSound store.now.heap a.now }
     requires b { IsSound store.now.heap b.now }
-    ensures { Meets result (state_of store.now meter.new.left) (equal depth a.now b.now (state_of store.now meter.old.left)) }
+    ensures plain { Meets result (state_of store.now meter.new.left) (equal depth a.now b.now (state_of store.now meter.old.left)) }
+    ensures fewer { meter.new.left ≤ meter.old.left }
 {
     match (a, b) {
         (Value::Rock(q), Value::Rock(r)) => Ok(equal_rocks(q, r)),
@@ -77,7 +82,8 @@ fn equal_objects(
     requires kept { IsKept store.now.heap }
     requires x { IsHeld store.now.heap x }
     requires y { IsHeld store.now.heap y }
-    ensures { Meets result (state_of store.now meter.new.left) (objects_equal (within depth) x y (state_of store.now meter.old.left)) }
+    ensures plain { Meets result (state_of store.now meter.new.left) (objects_equal (within depth) x y (state_of store.now meter.old.left)) }
+    ensures fewer { meter.new.left ≤ meter.old.left }
 {
     if x == y {
         return Ok(true);
@@ -122,7 +128,8 @@ fn equal_elements(
     requires kept { IsKept store.now.heap }
     requires xs { AreSound store.now.heap xs.now }
     requires ys { AreSound store.now.heap ys.now }
-    ensures { Meets result (state_of store.now meter.new.left) (elements_equal (equal depth) xs.now ys.now (state_of store.now meter.old.left)) }
+    ensures plain { Meets result (state_of store.now meter.new.left) (elements_equal (equal depth) xs.now ys.now (state_of store.now meter.old.left)) }
+    ensures fewer { meter.new.left ≤ meter.old.left }
 {
     if xs.len() != ys.len() {
         return Ok(false);
@@ -149,7 +156,8 @@ fn equal_entries(
     requires kept { IsKept store.now.heap }
     requires es { All (IsEntry store.now.heap) es.now }
     requires fs { All (IsEntry store.now.heap) fs.now }
-    ensures { Meets result (state_of store.now meter.new.left) (dicts_equal (equal depth) es.now fs.now (state_of store.now meter.old.left)) }
+    ensures plain { Meets result (state_of store.now meter.new.left) (dicts_equal (equal depth) es.now fs.now (state_of store.now meter.old.left)) }
+    ensures fewer { meter.new.left ≤ meter.old.left }
 {
     if es.len() != fs.len() {
         return Ok(false);

@@ -7,16 +7,21 @@ ghost use Rattle.rp_store.specs.Kept.{AreSound, Holds, IsEntry, IsKept, IsSound}
 ghost use Rattle.rp_store.specs.Object.{content_of};
 
 use crate::{compare, contains};
-use rp_base::{CmpOp, Kind, Memory, Meter, Oid, OpEnd, Rock, Side, Text, Value};
+use rp_base::{CmpOp, Kind, Memory, Meter, NativeId, Oid, OpEnd, Raised, Rock, Side, Text, Value};
 use rp_dict::Dict;
-use rp_store::{Key, Object, Store};
+use rp_store::{Callee, Key, Object, Store};
 use std::alloc::Global;
 
 /// How a comparison ended, and the steps that were left.
 #[derive(Clone, Copy, Debug, PartialEq, Eq)]
 pub(crate) enum Got {
     Answer(bool, u64),
-    Raised(Kind, u64),
+    /// A `TypeError` with the text `operand`.
+    Operand(u64),
+    /// A `TypeError` with the text `key`.
+    Key(u64),
+    /// A `RecursionError` with the text `depth`.
+    Depth(u64),
     NoStep,
     Other,
 }
@@ -24,9 +29,18 @@ pub(crate) enum Got {
 fn ended(answer: &Result<bool, OpEnd>, meter: Meter) -> Got {
     match answer {
         Ok(answer) => Got::Answer(*answer, meter.left),
-        Err(OpEnd::Raised(raised)) => Got::Raised(raised.kind, meter.left),
+        Err(OpEnd::Raised(raised)) => refused(raised, meter.left),
         Err(OpEnd::StopSteps) => Got::NoStep,
         Err(_) => Got::Other,
+    }
+}
+
+fn refused(raised: &Raised, left: u64) -> Got {
+    match raised.kind {
+        Kind::TypeError if raised.text.is("operand") => Got::Operand(left),
+        Kind::TypeError if raised.text.is("key") => Got::Key(left),
+        Kind::RecursionError if raised.text.is("depth") => Got::Depth(left),
+        _ => Got::Other,
     }
 }
 
@@ -57,7 +71,8 @@ pub(crate) fn sought(alloc: Global, store: &Store, steps: u64, a: &Value, of: &V
     ended(&answer, meter)
 }
 
-/// Whether there are only lists, tuples and dicts by numbers, which hold rocks and each other.
+/// Whether there are only lists, tuples, dicts by None, numbers and texts, which hold rocks and each other, and built-in
+/// methods of rocks.
 fn is_kept(store: &Store) -> bool
     ensures { IsTrue result → IsKept store.now.heap }
 {
@@ -76,6 +91,10 @@ fn is_held(store: &Store, object: &Object) -> bool
         Object::List(elements) => are_sound(store, elements),
         Object::Tuple(elements) => are_sound(store, elements),
         Object::Dict(entries) => are_entries(store, entries),
+        Object::Method {
+            receiver: Value::Rock(_),
+            callee: Callee::Native(_),
+        } => true,
         _ => false,
     }
 }
@@ -115,7 +134,9 @@ fn is_form(key: &Key, rock: &Rock) -> bool
     ensures { IsTrue result → key_form rock.now ≡ Some key.now }
 {
     match (key, rock) {
+        (Key::Nil, Rock::Nil) => true,
         (Key::Number(m), Rock::Int(n)) => *m == *n,
+        (Key::Text(key), Rock::Text(text)) => key.is(text.as_str()),
         _ => false,
     }
 }
@@ -130,7 +151,7 @@ fn is_sound(store: &Store, value: &Value) -> bool
     }
 }
 
-/// Whether there is a list, a tuple or a dict at a place.
+/// Whether there is a list, a tuple, a dict or a method at a place.
 fn is_plain(store: &Store, at: Oid) -> bool
     ensures plain { IsTrue result → IsSound store.now.heap (Value.Ref at) }
     ensures lent { IsTrue result → IsSound store.now.heap (Value.Prox at) }
@@ -139,7 +160,7 @@ fn is_plain(store: &Store, at: Oid) -> bool
         return false;
     }
     match store.object(at) {
-        Object::List(_) | Object::Tuple(_) | Object::Dict(_) => true,
+        Object::List(_) | Object::Tuple(_) | Object::Dict(_) | Object::Method { .. } => true,
         _ => false,
     }
 }
@@ -177,6 +198,31 @@ pub(crate) fn dict(
         entries.set(Key::Number(*key), (Rock::Int(*key), number(*n)))?;
     }
     Ok(Value::Ref(store.add(Side(1), Object::Dict(entries))?))
+}
+
+/// A reference to a new dict with one value, by 1.
+pub(crate) fn dict_of(alloc: Global, store: &mut Store, value: Value) -> Result<Value, Memory> {
+    let mut entries = Dict::new(alloc);
+    entries.set(Key::Number(1), (Rock::Int(1), value))?;
+    Ok(Value::Ref(store.add(Side(1), Object::Dict(entries))?))
+}
+
+/// A reference to a new dict with the keys None and `k`.
+pub(crate) fn keyed(alloc: Global, store: &mut Store) -> Result<Value, Memory> {
+    let mut entries = Dict::new(alloc);
+    entries.set(Key::Nil, (Rock::Nil, number(0)))?;
+    let key = Key::Text(Text::new(alloc, "k")?);
+    entries.set(key, (Rock::Text(Text::new(alloc, "k")?), number(1)))?;
+    Ok(Value::Ref(store.add(Side(1), Object::Dict(entries))?))
+}
+
+/// A reference to a new method of None.
+pub(crate) fn method(store: &mut Store) -> Result<Value, Memory> {
+    let method = Object::Method {
+        receiver: Value::Rock(Rock::Nil),
+        callee: Callee::Native(NativeId::Append),
+    };
+    Ok(Value::Ref(store.add(Side(1), method)?))
 }
 
 /// A reference to a new list that holds a list that holds a list, so many lists in all, the innermost empty.

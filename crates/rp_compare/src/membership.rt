@@ -1,4 +1,4 @@
-ghost use Rattle.std.specs.Prelude.{◌≡◌, is_some};
+ghost use Rattle.std.specs.Prelude.{◌≡◌, ◌≤◌, is_some};
 ghost use Rattle.rp_compare.specs.Membership.{contains, found_in, is_text_part, object_contains, rock_contains};
 ghost use Rattle.rp_ops.specs.Keys.{entry_in, key_named};
 ghost use Rattle.rp_ops.specs.Outcome.{Meets, State, gives, on_found, state_of};
@@ -13,12 +13,14 @@ use rp_store::{Key, Object, Store, key_of};
 use std::alloc::Global;
 
 /// `a in of` (Python Language Reference, Membership test operations): in a list or a tuple by equality, where each
-/// element takes a step, up to the first that is equal; in a dict by key; in a text as a part of it.
+/// element takes a step, up to the first that is equal; in a dict by key; in a text as a part of it. No answer gives a
+/// step back. An instance whose class has `__contains__` is for the caller to ask: this raises `operand` for each instance.
 ///
 /// # Errors
-/// - `Raised` with `TypeError`, where the second value is no container, or is a text and the first is none, or is a
-///   dict and the first can be no key; or with `RecursionError`, where containers that are compared lie more than 200 deep
-///   within one another.
+/// - `Raised` with `TypeError` and the text `operand`, where the second value is no list, tuple, dict or text, or is a text
+///   and the first is none; or with the text `key`, where it is a dict, be it empty, and the first can be no key.
+/// - `Raised` with `RecursionError` and the text `depth`, where `equal` raises it of the first value and an element, which
+///   are at depth 1.
 /// - `StopSteps` where no step is left.
 /// - `Memory` where there is none for the text of the exception, or the count of a text's owners is full.
 pub fn contains(
@@ -30,8 +32,9 @@ pub fn contains(
 ) -> Result<bool, OpEnd>
     requires kept { IsKept store.now.heap }
     requires a { IsSound store.now.heap a.now }
-    requires b { IsSound store.now.heap of.now }
-    ensures { Meets result (state_of store.now meter.new.left) (contains a.now of.now (state_of store.now meter.old.left)) }
+    requires of { IsSound store.now.heap of.now }
+    ensures plain { Meets result (state_of store.now meter.new.left) (contains a.now of.now (state_of store.now meter.old.left)) }
+    ensures fewer { meter.new.left ≤ meter.old.left }
 {
     match of {
         Value::Rock(rock) => rock_contains(alloc, rock, a),
@@ -65,7 +68,8 @@ fn object_contains(
     requires kept { IsKept store.now.heap }
     requires at { IsHeld store.now.heap at }
     requires a { IsSound store.now.heap a.now }
-    ensures { Meets result (state_of store.now meter.new.left) (object_contains at a.now (state_of store.now meter.old.left)) }
+    ensures plain { Meets result (state_of store.now meter.new.left) (object_contains at a.now (state_of store.now meter.old.left)) }
+    ensures fewer { meter.new.left ≤ meter.old.left }
 {
     match store.object(at) {
         Object::List(elements) => is_among(alloc, store, meter, a, elements),
@@ -86,7 +90,8 @@ fn is_among(
     requires kept { IsKept store.now.heap }
     requires a { IsSound store.now.heap a.now }
     requires elements { AreSound store.now.heap elements.now }
-    ensures { Meets result (state_of store.now meter.new.left) (found_in a.now elements.now (state_of store.now meter.old.left)) }
+    ensures plain { Meets result (state_of store.now meter.new.left) (found_in a.now elements.now (state_of store.now meter.old.left)) }
+    ensures fewer { meter.new.left ≤ meter.old.left }
 {
     for element in elements {
         step(meter)?;

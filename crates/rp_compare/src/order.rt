@@ -1,4 +1,4 @@
-ghost use Rattle.std.specs.Prelude.{◌≡◌};
+ghost use Rattle.std.specs.Prelude.{◌≡◌, ◌≤◌};
 ghost use Rattle.rp_compare.specs.Order.{compare, less, numbers_less, ordered, texts_less};
 ghost use Rattle.rp_ops.specs.Operand.{operand};
 ghost use Rattle.rp_ops.specs.Outcome.{Meets, State, state_of};
@@ -11,11 +11,11 @@ use rp_store::Store;
 use std::alloc::Global;
 
 /// `a op b` (Python Language Reference, Value comparisons). Numbers and truth values have an order by value, texts by
-/// their code points; all values can be equal, and equality takes the steps that `equal` takes.
+/// their code points; all values can be equal, and equality takes the steps that `equal` takes. No answer gives a step back.
 ///
 /// # Errors
-/// - `Raised` with `TypeError`, where values of these kinds have no order, or `RecursionError`, where containers that are
-///   tested for equality lie more than 200 deep within one another.
+/// - `Raised` with `TypeError` and the text `operand`, where values of these kinds have no order; or, of `==` and `!=`,
+///   with `RecursionError` and the text `depth`, where `equal` raises it.
 /// - `StopSteps` where no step is left.
 /// - `Memory` where there is none for the text of the exception.
 pub fn compare(
@@ -29,7 +29,8 @@ pub fn compare(
     requires kept { IsKept store.now.heap }
     requires a { IsSound store.now.heap a.now }
     requires b { IsSound store.now.heap b.now }
-    ensures { Meets result (state_of store.now meter.new.left) (compare op a.now b.now (state_of store.now meter.old.left)) }
+    ensures plain { Meets result (state_of store.now meter.new.left) (compare op a.now b.now (state_of store.now meter.old.left)) }
+    ensures fewer { meter.new.left ≤ meter.old.left }
 {
     match op {
         CmpOp::Eq => equal(alloc, store, meter, a, b),

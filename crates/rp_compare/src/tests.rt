@@ -1,4 +1,6 @@
-use crate::fixtures::{Got, compared, dict, knots, list, number, numbers, sought, text, tower};
+use crate::fixtures::{
+    Got, compared, dict, dict_of, keyed, knots, list, method, number, numbers, sought, text, tower,
+};
 use rp_base::{CmpOp, Kind, Memory, NativeId, Oid, Rock, Side, Text, Value};
 use rp_store::{Object, Store};
 use std::alloc::Global;
@@ -8,7 +10,7 @@ const YES: Got = Got::Answer(true, 0);
 
 const NO: Got = Got::Answer(false, 0);
 
-const WRONG: Got = Got::Raised(Kind::TypeError, 0);
+const WRONG: Got = Got::Operand(0);
 
 /// `x op y` of two rocks, with no step.
 fn on_rocks(alloc: Global, op: CmpOp, x: Rock, y: Rock) -> Got {
@@ -50,8 +52,10 @@ fn truth_values_count_as_1_and_0(rt: HostRuntime) {
     ] {
         let got = on_rocks(rt.alloc(), op, Rock::Truth(x), Rock::Int(y));
         assert_eq!(rt; got, want, "{x} {y}");
-        let back = on_rocks(rt.alloc(), CmpOp::Eq, Rock::Int(y), Rock::Truth(x));
-        assert_eq!(rt; back == YES, x as i64 == y, "{x} {y}");
+    }
+    for (x, y, want) in [(1, true, YES), (0, false, YES), (2, true, NO)] {
+        let got = on_rocks(rt.alloc(), CmpOp::Eq, Rock::Int(x), Rock::Truth(y));
+        assert_eq!(rt; got, want, "{x} {y}");
     }
 }
 
@@ -216,6 +220,57 @@ fn dicts_are_equal_in_any_order(rt: HostRuntime) -> Result<(), Fail> {
     Ok(())
 }
 
+/// Whether two dicts are equal, each with a list of a number, with five steps.
+fn on_dicts_of_lists(alloc: Global, m: i64, n: i64) -> Result<Got, Memory> {
+    let mut store = Store::new(alloc, 0);
+    let x = list(alloc, &mut store, &[m])?;
+    let x = dict_of(alloc, &mut store, x)?;
+    let y = list(alloc, &mut store, &[n])?;
+    let y = dict_of(alloc, &mut store, y)?;
+    Ok(compared(alloc, &store, 5, CmpOp::Eq, &x, &y))
+}
+
+#[test]
+fn containers_in_dicts_are_compared(rt: HostRuntime) -> Result<(), Fail> {
+    let alloc = rt.alloc();
+    assert_eq!(rt; on_dicts_of_lists(alloc, 2, 2)?, Got::Answer(true, 3));
+    assert_eq!(rt; on_dicts_of_lists(alloc, 2, 3)?, Got::Answer(false, 3));
+    Ok(())
+}
+
+/// Whether two methods of one value are equal, with no step.
+fn on_methods(alloc: Global, op: CmpOp) -> Result<Got, Memory> {
+    let mut store = Store::new(alloc, 0);
+    let x = method(&mut store)?;
+    let y = method(&mut store)?;
+    Ok(compared(alloc, &store, 0, op, &x, &y))
+}
+
+// CPython compares bound methods by what they call and for what; here two objects that are no containers are unequal.
+#[test]
+fn other_objects_are_equal_to_themselves(rt: HostRuntime) -> Result<(), Fail> {
+    let alloc = rt.alloc();
+    assert_eq!(rt; on_methods(alloc, CmpOp::Eq)?, NO);
+    assert_eq!(rt; on_methods(alloc, CmpOp::Ne)?, YES);
+    let mut store = Store::new(alloc, 0);
+    let x = method(&mut store)?;
+    assert_eq!(rt; compared(alloc, &store, 0, CmpOp::Eq, &x, &x), YES);
+    Ok(())
+}
+
+#[test]
+fn rocks_and_objects_are_unequal(rt: HostRuntime) -> Result<(), Fail> {
+    let alloc = rt.alloc();
+    let mut store = Store::new(alloc, 0);
+    let x = list(alloc, &mut store, &[1])?;
+    let (lent, y) = (Value::Prox(Oid(0)), number(1));
+    assert_eq!(rt; compared(alloc, &store, 0, CmpOp::Eq, &x, &y), NO);
+    assert_eq!(rt; compared(alloc, &store, 0, CmpOp::Eq, &y, &x), NO);
+    assert_eq!(rt; compared(alloc, &store, 0, CmpOp::Eq, &lent, &y), NO);
+    assert_eq!(rt; compared(alloc, &store, 0, CmpOp::Ne, &y, &lent), YES);
+    Ok(())
+}
+
 /// Whether two towers of lists are equal, with 300 steps.
 fn on_towers(alloc: Global, height: usize) -> Result<Got, Memory> {
     let mut store = Store::new(alloc, 0);
@@ -228,14 +283,8 @@ fn on_towers(alloc: Global, height: usize) -> Result<Got, Memory> {
 fn lists_are_compared_200_deep(rt: HostRuntime) -> Result<(), Fail> {
     let alloc = rt.alloc();
     assert_eq!(rt; on_towers(alloc, 200)?, Got::Answer(true, 101));
-    assert_eq!(rt;
-        on_towers(alloc, 201)?,
-        Got::Raised(Kind::RecursionError, 100)
-    );
-    assert_eq!(rt;
-        on_towers(alloc, 250)?,
-        Got::Raised(Kind::RecursionError, 100)
-    );
+    assert_eq!(rt; on_towers(alloc, 201)?, Got::Depth(100));
+    assert_eq!(rt; on_towers(alloc, 250)?, Got::Depth(100));
     Ok(())
 }
 
@@ -247,7 +296,7 @@ fn an_object_is_equal_to_itself(rt: HostRuntime) -> Result<(), Fail> {
     assert_eq!(rt; compared(alloc, &store, 0, CmpOp::Eq, &x, &x), YES);
     assert_eq!(rt; compared(alloc, &store, 0, CmpOp::Eq, &x, &lent), YES);
     assert_eq!(rt; compared(alloc, &store, 0, CmpOp::Ne, &lent, &lent), NO);
-    let deep = Got::Raised(Kind::RecursionError, 100);
+    let deep = Got::Depth(100);
     assert_eq!(rt; compared(alloc, &store, 300, CmpOp::Eq, &x, &y), deep);
     assert_eq!(rt; compared(alloc, &store, 300, CmpOp::Eq, &lent, &y), deep);
     assert_eq!(rt;
@@ -274,6 +323,35 @@ fn elements_are_sought_by_equality(rt: HostRuntime) -> Result<(), Fail> {
     Ok(())
 }
 
+/// A list and a tuple of 5 and 1, and the dict of 2 by 1; at the places 0 to 2.
+fn holders(alloc: Global) -> Result<Store, Memory> {
+    let mut store = Store::new(alloc, 0);
+    list(alloc, &mut store, &[5, 1])?;
+    store.add(Side(1), Object::Tuple(numbers(alloc, &[5, 1])?))?;
+    dict(alloc, &mut store, &[(1, 2)])?;
+    Ok(store)
+}
+
+#[test]
+fn lent_containers_are_searched_like_plain_ones(rt: HostRuntime) -> Result<(), Fail> {
+    let alloc = rt.alloc();
+    let store = holders(alloc)?;
+    for (at, n, want) in [
+        (0, 1, Got::Answer(true, 3)),
+        (0, 2, Got::Answer(false, 3)),
+        (1, 1, Got::Answer(true, 3)),
+        (1, 2, Got::Answer(false, 3)),
+        (2, 1, Got::Answer(true, 5)),
+        (2, 2, Got::Answer(false, 5)),
+    ] {
+        let got = sought(alloc, &store, 5, &number(n), &Value::Ref(Oid(at)));
+        assert_eq!(rt; got, want, "{at} {n}");
+        let got = sought(alloc, &store, 5, &number(n), &Value::Prox(Oid(at)));
+        assert_eq!(rt; got, want, "{at} {n}");
+    }
+    Ok(())
+}
+
 /// Whether a value is a key of the dict of 2 by 1, with no step.
 fn in_dict(alloc: Global, a: &Value) -> Result<Got, Memory> {
     let mut store = Store::new(alloc, 0);
@@ -288,9 +366,28 @@ fn keys_are_sought_in_dicts(rt: HostRuntime) -> Result<(), Fail> {
     assert_eq!(rt; in_dict(alloc, &number(1))?, YES);
     assert_eq!(rt; in_dict(alloc, &number(2))?, NO);
     assert_eq!(rt; in_dict(alloc, &text(alloc, "1")?)?, NO);
-    assert_eq!(rt; in_dict(alloc, &Value::Ref(Oid(0)))?, WRONG);
+    assert_eq!(rt; in_dict(alloc, &Value::Ref(Oid(0)))?, Got::Key(0));
     let kind = Value::Rock(Rock::Kind(Kind::KeyError));
-    assert_eq!(rt; in_dict(alloc, &kind)?, WRONG);
+    assert_eq!(rt; in_dict(alloc, &kind)?, Got::Key(0));
+    Ok(())
+}
+
+/// Whether a value is a key of a dict with the keys None and `k`, with no step.
+fn in_keyed(alloc: Global, a: Rock) -> Result<Got, Memory> {
+    let mut store = Store::new(alloc, 0);
+    let of = keyed(alloc, &mut store)?;
+    Ok(sought(alloc, &store, 0, &Value::Rock(a), &of))
+}
+
+#[test]
+fn none_and_texts_are_keys(rt: HostRuntime) -> Result<(), Fail> {
+    let alloc = rt.alloc();
+    assert_eq!(rt; in_keyed(alloc, Rock::Nil)?, YES);
+    assert_eq!(rt; in_keyed(alloc, Rock::Int(0))?, NO);
+    for (key, want) in [("k", YES), ("kk", NO), ("", NO)] {
+        let got = in_keyed(alloc, Rock::Text(Text::new(alloc, key)?))?;
+        assert_eq!(rt; got, want, "{key}");
+    }
     Ok(())
 }
 

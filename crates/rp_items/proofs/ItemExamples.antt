@@ -1,4 +1,5 @@
--- Examples of items and slices, whose values are those of CPython.
+-- Examples of items and slices. What is given, and the kinds of exceptions, are CPython's; cells, steps, lent references and the texts of
+-- exceptions other than those of keys are rules of this program.
 use Rattle.std.proofs.Common.{◌≡◌, ℕ, ℤ, pos, negsuc, true, List, [], ◌∷◌, codes, refl}
 use Rattle.std.specs.Fmt.{digits}
 use Rattle.rp_base.specs.declared.kind.Kind.TheVariants.{TypeError, IndexError, KeyError, ValueError}

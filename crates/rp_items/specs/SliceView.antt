@@ -1,4 +1,6 @@
--- The parts and the places of a slice, as the code keeps them.
+-- The parts and the places of a slice, as the code keeps them, for the clauses of its private functions. `part_at` alone stands in a
+-- public one, where it says which of the three parts is meant. Other way: the places of Slices are whole numbers that go on by the
+-- step; the code's are a first place, the size of the step, its direction and how many there are.
 use Rattle.std.specs.Prelude.{◌≡◌, ℕ, ◌+◌, ◌-◌, ◌*◌, ◌<◌, ◌≤◌, true, false, length, List, slice_get, slice_index_or, filter_map, unsigned_abs, Result, Ok, Err, if◌then◌else◌}
 use Rattle.std.specs.List.{range_with_len}
 use Rattle.rp_base.specs.declared.value.Raised.{Raised}

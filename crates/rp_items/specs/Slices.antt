@@ -1,4 +1,6 @@
--- Slices of lists, tuples and texts (Python Language Reference, Slicings; Python Standard Library, Common sequence operations).
+-- Slices of lists, tuples and texts (Python Language Reference, Slicings; Python Standard Library, Common sequence operations). Other
+-- way: bounds are whole numbers held between the least and the greatest, and each place i + mk is looked up in the list of what is
+-- sliced. The code bounds by cases within 64 bits, and collects the characters of a text from the front, also for a step below 0.
 use Rattle.std.specs.Prelude.{ℕ, ℤ, pos, negsuc, ◌+ℤ◌, ◌-ℤ◌, ◌*ℤ◌, unsigned_abs, int_lt, List, length, codes, filter_map, slice_get, Option, Some, None, Result, Ok, if◌then◌else◌}
 use Rattle.std.specs.Ordering.{int_eq}
 use Rattle.std.specs.Int.{div_ceil, int_min, int_max}
@@ -88,6 +90,7 @@ owner_of (value.Rock r) s = record { 0 = 0 }
 owner_of (value.Ref at) s = option_map_or (λ o. o) (owner_at s.store.heap at) (record { 0 = 0 })
 owner_of (value.Prox at) s = option_map_or (λ o. o) (owner_at s.store.heap at) (record { 0 = 0 })
 
--- `a[from:to:step]`, which is made by the owner of what is sliced
+-- `a[from:to:step]`, which is made by the owner of what is sliced; what is taken out of a lent list or tuple is lent in the new one, which
+-- is a decision of this program
 abbrev pub slice : Value → Value → Value → Value → State → Outcome Value
 slice a from to step s = operand_slice (owner_of a s) (operand s.store.heap a) (span_named from to step) s

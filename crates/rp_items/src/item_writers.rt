@@ -21,11 +21,14 @@ use std::alloc::Global;
 /// element of a list, or the value at a key of a dict, for one cell where the key is new. A held key stays as first
 /// written. It takes no step.
 ///
+/// An instance takes no items here: where its class has `__setitem__`, the caller calls that method instead.
+///
 /// # Errors
-/// - `Raised` with `TypeError`, where `a` is no list and no dict, or `i` is no index or no key, or `IndexError`, where `i`
-///   is outside the elements.
+/// - `Raised` with `TypeError`, whose text is `item` where `a` is no list and no dict, `index` where `i` is no index, or
+///   `key` where it can be no key, or with `IndexError` and the text `index`, where `i` is outside the elements.
 /// - `StopCells` where a cell for a new key is over the limit.
-/// - `Memory` where a growth was refused.
+/// - `Memory` where a growth was refused, there is none for the text of an exception, or the count of a text's owners is
+///   full.
 ///
 /// The store is then as before.
 pub fn set_item(
@@ -37,7 +40,6 @@ pub fn set_item(
 ) -> Result<(), OpEnd>
     requires kept { IsKept store.old.heap }
     requires a { IsSound store.old.heap a.now }
-    requires i { IsSound store.old.heap i.now }
     requires v { IsSound store.old.heap v }
     ensures plain { (steps : ℕ) → Meets result (state_of store.new steps) (set_item a.now i.now v (state_of store.old steps)) }
     ensures kept { IsKept store.new.heap }
@@ -154,6 +156,7 @@ fn put_entry(store: &mut Store, at: Oid, rock: &Rock, v: Value) -> Result<(), Op
     let key = rock.copy()?;
     match store.put(at, key, v) {
         Ok(()) => {
+            // For the proof alone, which learns here that the cells used are at most the limit.
             let _used = store.used();
             Ok(())
         }
@@ -165,16 +168,18 @@ fn put_entry(store: &mut Store, at: Oid, rock: &Rock, v: Value) -> Result<(), Op
 /// `del a[i]`, on values whose access decisions have been made (Python Language Reference, The del statement): takes an
 /// element out of a list, or a key out of a dict. It takes no step and uses no cell; cells are never given back.
 ///
+/// An instance gives up no items here: where its class has `__delitem__`, the caller calls that method instead.
+///
 /// # Errors
-/// - `Raised` with `TypeError`, where `a` is no list and no dict, or `i` is no index or no key, `IndexError`, where `i` is
-///   outside the elements, or `KeyError` with the key as it is shown, where the dict has no such key.
+/// - `Raised` with `TypeError`, whose text is `item` where `a` is no list and no dict, `index` where `i` is no index, or
+///   `key` where it can be no key, with `IndexError` and the text `index`, where `i` is outside the elements, or with
+///   `KeyError`, whose text is the key as it is shown inside a container, where the dict has no such key.
 /// - `Memory` where there is none for the text of an exception, or the count of a text's owners is full.
 ///
 /// The store is then as before.
 pub fn del_item(alloc: Global, store: &mut Store, a: &Value, i: &Value) -> Result<(), OpEnd>
     requires kept { IsKept store.old.heap }
     requires a { IsSound store.old.heap a.now }
-    requires i { IsSound store.old.heap i.now }
     ensures plain { (steps : ℕ) → Meets result (state_of store.new steps) (del_item a.now i.now (state_of store.old steps)) }
     ensures kept { IsKept store.new.heap }
     ensures same { OnErr result (store.new ≡ store.old) }

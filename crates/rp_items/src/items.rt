@@ -1,11 +1,10 @@
-ghost use Rattle.std.specs.Prelude.{◌≡◌, ◌∷◌, [], ℕ, List, All, length, map, slice_get, IfOk};
+ghost use Rattle.std.specs.Prelude.{◌≡◌, ℕ, List, All, length, map, IfOk};
 ghost use Rattle.std.specs.Option.{option_map_or};
 ghost use Rattle.rp_base.specs.declared.value.Side.{Side};
 ghost use Rattle.rp_store.specs.Heap.{IsHeld, Owned, content_at};
 ghost use Rattle.rp_store.specs.Kept.{AreSound, Holds, IsEntry, IsKept, IsSound};
 ghost use Rattle.rp_store.specs.Object.{content_of};
 ghost use Rattle.rp_store.specs.Parts.{entries};
-ghost use Rattle.rp_ops.specs.Binary.{new_text};
 ghost use Rattle.rp_ops.specs.Outcome.{Meets, Raises, State, on_found, state_of};
 ghost use Rattle.rp_ops.specs.View.{handed};
 ghost use Rattle.rp_show.specs.Shown.{shown_inside};
@@ -14,7 +13,7 @@ ghost use Rattle.rp_items.specs.Items.{character_at, content_item, elements_item
 use crate::letters::{character_of, length_of};
 use crate::places::place_named;
 use rp_base::{Kind, Oid, OpEnd, Raised, Rock, Text, Value};
-use rp_ops::{Refusal, handed, new_text};
+use rp_ops::{Refusal, handed, new_character};
 use rp_show::shown_inside;
 use rp_store::{Object, Store, key_of};
 use std::alloc::Global;
@@ -23,15 +22,17 @@ use std::alloc::Global;
 /// list or a tuple, a character of a text, which costs a cell for each of its bytes, or the value at a key of a dict.
 /// What is got through a proxy is lent. It takes no step.
 ///
+/// An instance has no items here: where its class has `__getitem__`, the caller calls that method instead.
+///
 /// # Errors
-/// - `Raised` with `TypeError`, where `a` has no items, or `i` is no index or no key, `IndexError`, where `i` is outside
-///   the elements, or `KeyError` with the key as it is shown, where the dict has no such key.
+/// - `Raised` with `TypeError`, whose text is `item` where `a` has no items, `index` where `i` is no index, or `key` where
+///   it can be no key, with `IndexError` and the text `index`, where `i` is outside the elements, or with `KeyError`,
+///   whose text is the key as it is shown inside a container, where the dict has no such key.
 /// - `StopCells` where the cells are over the limit; then the store is as before.
-/// - `Memory` where a growth was refused. Then cells may be used.
+/// - `Memory` where a growth was refused, or the count of a text's owners is full. Then cells may be used.
 pub fn item(alloc: Global, store: &mut Store, a: &Value, i: &Value) -> Result<Value, OpEnd>
     requires kept { IsKept store.old.heap }
     requires a { IsSound store.old.heap a.now }
-    requires i { IsSound store.old.heap i.now }
     ensures plain { (steps : ℕ) → Meets result (state_of store.new steps) (item a.now i.now (state_of store.old steps)) }
     ensures same { store.new.heap ≡ store.old.heap }
     ensures kept { IsKept store.new.heap }
@@ -77,16 +78,7 @@ fn character_at(alloc: Global, store: &mut Store, text: &Text, place: usize) -> 
     }
 }
 
-/// A text of one character, which costs a cell for each of its bytes.
-fn new_character(alloc: Global, store: &mut Store, letter: char) -> Result<Value, OpEnd>
-    ensures plain { (steps : ℕ) → Meets result (state_of store.new steps) (new_text (letter ∷ []) (state_of store.old steps)) }
-    ensures same { store.new.heap ≡ store.old.heap }
-    ensures sound { IfOk result (λ v. IsSound store.new.heap v) }
-{
-    let mut bytes = [0; 4];
-    new_text(alloc, store, letter.encode_utf8(&mut bytes))
-}
-
+#[inline(always)]
 fn object_item(alloc: Global, store: &Store, at: Oid, lent: bool, i: &Value) -> Result<Value, OpEnd>
     requires kept { IsKept store.now.heap }
     requires held { IsHeld store.now.heap at }
@@ -96,6 +88,7 @@ fn object_item(alloc: Global, store: &Store, at: Oid, lent: bool, i: &Value) -> 
     content_item(alloc, store.object(at), lent, i)
 }
 
+#[inline(always)]
 fn content_item(alloc: Global, object: &Object, lent: bool, i: &Value) -> Result<Value, OpEnd>
     ensures plain { (s : State) → Meets result s (content_item (handed lent) (content_of object.now) i.now s) }
     ensures sound { (heap : List Owned) (side : Side) → Holds heap side (content_of object.now) → IfOk result (λ v. IsSound heap v) }
@@ -108,6 +101,7 @@ fn content_item(alloc: Global, object: &Object, lent: bool, i: &Value) -> Result
     }
 }
 
+#[inline(always)]
 fn elements_item(alloc: Global, elements: &[Value], lent: bool, i: &Value) -> Result<Value, OpEnd>
     ensures plain { (s : State) → Meets result s (elements_item (map (handed lent) elements.now) i.now s) }
     ensures sound { (heap : List Owned) → AreSound heap elements.now → IfOk result (λ v. IsSound heap v) }

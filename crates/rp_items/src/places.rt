@@ -7,6 +7,7 @@ use rp_base::{Rock, Value};
 use rp_ops::Refusal;
 
 /// The number that a value is as an index; True and False count as 1 and 0.
+#[inline(always)]
 pub(crate) fn index_number(value: &Value) -> Option<i64>
     ensures { result ≡ index_number value.now }
 {
@@ -19,6 +20,7 @@ pub(crate) fn index_number(value: &Value) -> Option<i64>
 }
 
 /// The place that an index names in so many elements. One below 0 counts from the end.
+#[inline(always)]
 pub(crate) fn place_named(len: usize, i: &Value) -> Result<usize, Refusal>
     ensures named { described result ≡ place_named len i.now }
     ensures within { IfOk result (λ p. p < len) }
@@ -29,6 +31,7 @@ pub(crate) fn place_named(len: usize, i: &Value) -> Result<usize, Refusal>
     }
 }
 
+#[inline(always)]
 fn place(len: usize, i: i64) -> Result<usize, Refusal>
     ensures named { described result ≡ place_within len (from_end len i) }
     ensures within { IfOk result (λ p. p < len) }

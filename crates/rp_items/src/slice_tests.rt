@@ -1,5 +1,5 @@
 use crate::slice;
-use crate::tests::{Got, ended, listed, named, nested, raises, text};
+use crate::tests::{Got, ended, is_text, listed, named, nested, raises, text};
 use rp_base::{Kind, OpEnd, Rock, Side, Value};
 use rp_dict::Dict;
 use rp_ops::Sequence;
@@ -112,13 +112,6 @@ fn backward_slices_lie_between_their_bounds(rt: HostRuntime) {
     }
 }
 
-fn is_text(answer: &Result<Value, OpEnd>, want: &str) -> bool {
-    match answer {
-        Ok(Value::Rock(Rock::Text(text))) => text.is(want),
-        _ => false,
-    }
-}
-
 #[test]
 fn slices_of_texts_are_of_characters(rt: HostRuntime) {
     let alloc = rt.alloc();
@@ -152,34 +145,32 @@ fn slices_of_texts_cost_their_bytes(rt: HostRuntime) {
     assert_eq!(rt; ended(&none), Got::Text(0));
 }
 
-/// Whether a slice of [0, 1, 2, 3], a list of the third session, is a list of these numbers of the same owner, and the
-/// cells used.
-fn list_slice(
+/// Whether a slice of 0, 1, 2 and 3, a sequence of the third session, is one of these numbers of the same kind and owner,
+/// and the cells used.
+fn sequence_slice(
     alloc: Global,
     cells: u64,
+    of: (Sequence, bool),
     bounds: (Option<i64>, Option<i64>, Option<i64>),
     want: &[i64],
 ) -> Result<(bool, u64), OpEnd> {
-    let (mut store, list) = listed(alloc, cells, Side(3), Sequence::List, &[0, 1, 2, 3])?;
-    let value = slice(
-        alloc,
-        &mut store,
-        &list,
-        &parts(bounds.0, bounds.1, bounds.2),
-    )?;
-    Ok((is_owned(&store, &value, want), store.used()))
+    let (mut store, sequence) = listed(alloc, cells, Side(3), of, &[0, 1, 2, 3])?;
+    let parts = parts(bounds.0, bounds.1, bounds.2);
+    let value = slice(alloc, &mut store, &sequence, &parts)?;
+    Ok((is_owned(&store, &value, of.0, want), store.used()))
 }
 
-/// Whether a value is a plain reference to a list of these numbers, of the third session.
-fn is_owned(store: &Store, value: &Value, want: &[i64]) -> bool {
+/// Whether a value is a plain reference to a sequence of these numbers, of the third session.
+fn is_owned(store: &Store, value: &Value, kind: Sequence, want: &[i64]) -> bool {
     let Value::Ref(at) = value else {
         return false;
     };
     if at.0 >= store.len() || store.owner(*at) != Side(3) {
         return false;
     }
-    match store.object(*at) {
-        Object::List(elements) => are_numbers(elements, want),
+    match (kind, store.object(*at)) {
+        (Sequence::List, Object::List(elements)) => are_numbers(elements, want),
+        (Sequence::Tuple, Object::Tuple(elements)) => are_numbers(elements, want),
         _ => false,
     }
 }
@@ -196,17 +187,29 @@ fn is_number(value: &Value, n: i64) -> bool {
 }
 
 #[test]
-fn slices_of_lists_are_of_their_owner(rt: HostRuntime) {
+fn slices_of_lists_and_tuples_are_of_their_owner(rt: HostRuntime) {
     let alloc = rt.alloc();
     let whole = (None, None, Some(-1));
-    assert!(rt; matches!(list_slice(alloc, 5, whole, &[3, 2, 1, 0]), Ok((true, 5))));
-    assert!(rt; matches!(list_slice(alloc, 4, whole, &[]), Err(OpEnd::StopCells)));
     let middle = (Some(1), Some(3), None);
-    assert!(rt; matches!(list_slice(alloc, 9, middle, &[1, 2]), Ok((true, 3))));
     let down = (Some(3), Some(0), Some(-2));
-    assert!(rt; matches!(list_slice(alloc, 9, down, &[3, 1]), Ok((true, 3))));
     let behind = (Some(i64::MAX), None, Some(i64::MAX));
-    assert!(rt; matches!(list_slice(alloc, 1, behind, &[]), Ok((true, 1))));
+    for of in [
+        (Sequence::List, false),
+        (Sequence::List, true),
+        (Sequence::Tuple, false),
+        (Sequence::Tuple, true),
+    ] {
+        let reversed = sequence_slice(alloc, 5, of, whole, &[3, 2, 1, 0]);
+        assert!(rt; matches!(reversed, Ok((true, 5))));
+        let short = sequence_slice(alloc, 4, of, whole, &[]);
+        assert!(rt; matches!(short, Err(OpEnd::StopCells)));
+        let two = sequence_slice(alloc, 9, of, middle, &[1, 2]);
+        assert!(rt; matches!(two, Ok((true, 3))));
+        let second = sequence_slice(alloc, 9, of, down, &[3, 1]);
+        assert!(rt; matches!(second, Ok((true, 3))));
+        let none = sequence_slice(alloc, 1, of, behind, &[]);
+        assert!(rt; matches!(none, Ok((true, 1))));
+    }
 }
 
 /// Whether the one element of a slice of a list of one list is lent, where the list is seen through a proxy or plainly.

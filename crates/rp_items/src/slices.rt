@@ -19,15 +19,21 @@ use rp_ops::{Elements, Refusal, Sequence, add_sequence, charge, elements_at, han
 use rp_store::{Object, Store};
 use std::alloc::Global;
 
-/// `a[from:to:step]`, of parts that are numbers or None, on values whose access decisions have been made (Python Language
-/// Reference, Slicings). A slice of a list or a tuple is a new one, which the owner of what is sliced owns. It costs a cell
-/// for itself and one for each element; a new text costs a cell for each byte. What is got through a proxy is lent. It
-/// takes no step.
+/// `a[from:to:step]`, on values whose access decisions have been made (Python Language Reference, Slicings). A slice of a
+/// list or a tuple is a new one, which the owner of what is sliced owns. It costs a cell for itself and one for each
+/// element; a new text costs a cell for each byte. It takes no step.
+///
+/// The reference to the new list or tuple is plain, also where `a` is lent: it is the caller's to lend. Where `a` is lent,
+/// the elements of the new one are lent too, as what is got through it; that is a decision of this program.
+///
+/// An instance has no slices: `__getitem__` is called for one index alone.
 ///
 /// # Errors
-/// - `Raised` with `TypeError`, where `a` has no slices or a part is no number, or `ValueError`, where the step is 0.
+/// - `Raised` with `TypeError`, whose text is `item` where `a` is no text, list or tuple, or `index` where a part is
+///   neither a number nor a truth value nor None, or with `ValueError` and the text `slice`, where the step is 0.
 /// - `StopCells` where the cells are over the limit; then the store is as before.
-/// - `Memory` where a growth was refused. Then cells may be used, and no object is made.
+/// - `Memory` where a growth was refused, or the count of a text's owners is full. Then cells may be used, and no object is
+///   made.
 pub fn slice(
     alloc: Global,
     store: &mut Store,

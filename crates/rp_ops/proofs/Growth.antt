@@ -3,13 +3,10 @@ use Rattle.std.proofs.Common.{◌≡◌, ℕ, zero, suc, ◌<◌, Bool, true, fa
 use Rattle.std.specs.List.{All, repeat}
 use Rattle.std.specs.Option.{IfSome, option_map, option_map_or}
 use Rattle.std.proofs.lemmas.List.Elements.{All-append, All-cons, All-head, All-map, All-nil, All-tail, All-weaker}
-use Rattle.rp_base.specs.declared.value.Name.{Name}
 use Rattle.rp_base.specs.declared.value.Oid.{Oid}
-use Rattle.rp_base.specs.declared.value.Rock.{Rock}
 use Rattle.rp_base.specs.declared.value.Side.{Side}
 use Rattle.rp_base.specs.declared.value.Value.{Value}
 use Rattle.rp_base.specs.declared.value.Value.TheVariants as value
-use Rattle.rp_store.specs.declared.key.Key.{Key}
 use Rattle.rp_store.specs.declared.object.Callee.{Callee}
 use Rattle.rp_store.specs.declared.object.Callee.TheVariants as callee
 use Rattle.rp_store.specs.Heap.{Owned, IsHeld, Names, content_at, owner_at}

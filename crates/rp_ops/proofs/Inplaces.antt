@@ -1,5 +1,5 @@
 -- Augmented assignment, by what the first operand names.
-use Rattle.std.proofs.Common.{◌≡◌, ℕ, ◌+◌, ◌*◌, ◌-◌, ◌≤◌, ℤ, false, List, [], length, map, Option, Some, None, Result, Ok, Err, IfOk, IsErrAnd, IsSomeAnd, refl, sym, ap, subst, ◌∙◌, arith}
+use Rattle.std.proofs.Common.{◌≡◌, ℕ, ◌+◌, ◌*◌, ◌-◌, ◌≤◌, ℤ, false, List, [], length, Option, Some, None, Result, Ok, Err, IsErrAnd, IsSomeAnd, refl, sym, ap, subst, ◌∙◌, arith}
 use Rattle.std.proofs.lemmas.List.{map-id}
 use Rattle.std.specs.Option.{option_map_or}
 use Rattle.rp_base.specs.declared.operator.BinOp.{BinOp}
@@ -19,10 +19,9 @@ use Rattle.rp_ops.specs.Binary.{binary, repeated, times}
 use Rattle.rp_ops.specs.Growth.{Gains}
 use Rattle.rp_ops.specs.Inplace.{content_inplace, extends, inplace, list_inplace, repeats_list}
 use Rattle.rp_ops.specs.Operand.{number_of, operand}
-use Rattle.rp_ops.specs.Outcome.{Meets, Outcome, State, ends, gives, no_cell, on_value, state_of, with_change}
+use Rattle.rp_ops.specs.Outcome.{Meets, State, ends, gives, no_cell, state_of, with_change}
 use Rattle.rp_ops.specs.Shape.{KeepsShape}
 use Rattle.rp_ops.specs.View.{elements_of, held_by, list_place, place_if_list}
-use Rattle.rp_ops.specs.declared.operand.Elements.{Elements}
 use Rattle.rp_ops.proofs.Outcomes.{charged-over, charged-within, used}
 use Rattle.rp_ops.proofs.Shapes.{KeepsShape-grown}
 

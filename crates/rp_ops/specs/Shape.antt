@@ -1,7 +1,9 @@
--- What of a heap never changes: each object stays at its place, with its owner and kind. More objects may be added.
-use Rattle.std.specs.Prelude.{◌≡◌, List, [], ◌++◌, map, Option, None}
+-- Each object of a heap stays at its place, with its owner and kind, and tuples, functions and methods stay as they are. What a list or a dict holds, the
+-- fields of an instance, the methods of a class and the values in a scope may change, and any objects may be added. Two heaps are compared whole,
+-- without what may change; the code writes one part of one object.
+use Rattle.std.specs.Prelude.{◌≡◌, List, [], ◌++◌, map, None}
 use Rattle.rp_store.specs.Heap.{Owned}
-use Rattle.rp_store.specs.Object.{Content, list, tuple, dict, instance, class, function, method, scope}
+use Rattle.rp_store.specs.Object.{Content, list, dict, instance, class, scope}
 
 -- an object without what may change in it
 abbrev pub shape : Content → Content

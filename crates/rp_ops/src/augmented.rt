@@ -1,4 +1,4 @@
-ghost use Rattle.std.specs.Prelude.{◌≡◌, ◌-◌, ℕ, [], None, Some, IfOk};
+ghost use Rattle.std.specs.Prelude.{◌≡◌, ◌≤◌, ◌-◌, ℕ, [], None, Some, IfOk, OnErr};
 ghost use Rattle.std.specs.Option.{option_map_or};
 ghost use Rattle.rp_store.specs.Heap.{IsHeld, Names, content_at};
 ghost use Rattle.rp_store.specs.Kept.{AreSound, IsKept, IsSound};
@@ -18,13 +18,16 @@ use rp_store::{Object, Store, StoreFault};
 use std::alloc::Global;
 
 /// `a op= b`, done by code of a side on values whose access decisions have been made, and the value that is stored back
-/// (Python Language Reference, Augmented assignment statements). `+=` on a list walks b and extends the list, for a cell
-/// for each element; `*=` repeats it in place, for a cell for each element and each time but the first. All else is done
-/// as `binary` does it.
+/// (Python Language Reference, Augmented assignment statements). `+=` on a list walks b and then extends the list, for a
+/// cell for each element, so `x += x` doubles it; `*=` repeats it in place, for a cell for each element and each time but
+/// the first. All else is done as `binary` does it.
 ///
 /// # Errors
-/// - As `binary`, and as `elements` where b is walked; the list is then as before.
-/// - `StopCells` where the cells of the growth are over the limit; the list is then as before.
+/// - As `binary`, and as `elements` where b is walked.
+/// - `StopCells` where the cells of the growth are over the limit.
+///
+/// After each of them the objects are as before, the list too; what the walk has cost stays used. The steps left never
+/// rise.
 pub fn inplace(
     alloc: Global,
     store: &mut Store,
@@ -41,6 +44,8 @@ pub fn inplace(
     ensures kept { IsKept store.new.heap }
     ensures sound { IfOk result (λ v. IsSound store.new.heap v) }
     ensures shape { KeepsShape store.old.heap store.new.heap }
+    ensures same { OnErr result (store.new.heap ≡ store.old.heap) }
+    ensures fewer { meter.new.left ≤ meter.old.left }
 {
     match op {
         BinOp::Add => add_inplace(alloc, store, meter, side, a, b),
@@ -64,6 +69,8 @@ fn add_inplace(
     ensures kept { IsKept store.new.heap }
     ensures sound { IfOk result (λ v. IsSound store.new.heap v) }
     ensures shape { KeepsShape store.old.heap store.new.heap }
+    ensures same { OnErr result (store.new.heap ≡ store.old.heap) }
+    ensures fewer { meter.new.left ≤ meter.old.left }
 {
     match list_place(store, a) {
         Some(at) => extend(alloc, store, meter, a, at, b),
@@ -86,6 +93,8 @@ fn multiply_inplace(
     ensures kept { IsKept store.new.heap }
     ensures sound { IfOk result (λ v. IsSound store.new.heap v) }
     ensures shape { KeepsShape store.old.heap store.new.heap }
+    ensures same { OnErr result (store.new.heap ≡ store.old.heap) }
+    ensures fewer { meter.new.left ≤ meter.old.left }
 {
     match list_place(store, a) {
         Some(at) => repeat_in_place(alloc, store, a, at, operand_of(store, b).number()),
@@ -116,6 +125,9 @@ fn place_if_list(store: &Store, at: Oid) -> Option<Oid>
 }
 
 /// Puts what walking a value gives at the end of a list.
+///
+/// # Errors
+/// As `elements`, and as `put_last`. The objects are then as before.
 fn extend(
     alloc: Global,
     store: &mut Store,
@@ -132,6 +144,8 @@ fn extend(
     ensures kept { IsKept store.new.heap }
     ensures sound { IfOk result (λ v. IsSound store.new.heap v) }
     ensures shape { KeepsShape store.old.heap store.new.heap }
+    ensures same { OnErr result (store.new.heap ≡ store.old.heap) }
+    ensures fewer { meter.new.left ≤ meter.old.left }
 {
     let same = handed(a, false)?;
     let values = elements(alloc, store, meter, b)?;
@@ -139,6 +153,9 @@ fn extend(
 }
 
 /// Puts values at the end of a list, for a cell each, and answers the value that names it.
+///
+/// # Errors
+/// `StopCells` where they are over the limit, `Memory` where a growth was refused. The objects are then as before.
 fn put_last(store: &mut Store, same: Value, at: Oid, values: Vec<Value>) -> Result<Value, OpEnd>
     requires kept { IsKept store.old.heap }
     requires list { Names store.old.heap IsList at }
@@ -148,6 +165,7 @@ fn put_last(store: &mut Store, same: Value, at: Oid, values: Vec<Value>) -> Resu
     ensures kept { IsKept store.new.heap }
     ensures sound { IfOk result (λ v. IsSound store.new.heap v) }
     ensures shape { KeepsShape store.old.heap store.new.heap }
+    ensures same { OnErr result (store.new.heap ≡ store.old.heap) }
 {
     match store.extend(at, values) {
         Ok(()) => Ok(same),
@@ -157,6 +175,12 @@ fn put_last(store: &mut Store, same: Value, at: Oid, values: Vec<Value>) -> Resu
 }
 
 /// Repeats the elements of a list in place, as they are.
+///
+/// # Errors
+/// - `Raised` with `TypeError`, where there is no number of times.
+/// - `StopCells` where the cells of the copies are over the limit, `Memory` where a growth was refused.
+///
+/// The objects are then as before.
 fn repeat_in_place(
     alloc: Global,
     store: &mut Store,
@@ -171,6 +195,7 @@ fn repeat_in_place(
     ensures kept { IsKept store.new.heap }
     ensures sound { IfOk result (λ v. IsSound store.new.heap v) }
     ensures shape { KeepsShape store.old.heap store.new.heap }
+    ensures same { OnErr result (store.new.heap ≡ store.old.heap) }
 {
     match n {
         Some(n) => set_repeated(alloc, store, a, at, n),
@@ -192,6 +217,7 @@ fn set_repeated(
     ensures kept { IsKept store.new.heap }
     ensures sound { IfOk result (λ v. IsSound store.new.heap v) }
     ensures shape { KeepsShape store.old.heap store.new.heap }
+    ensures same { OnErr result (store.new.heap ≡ store.old.heap) }
 {
     let same = handed(a, false)?;
     let copies = times(n);

@@ -1,4 +1,4 @@
-ghost use Rattle.std.specs.Prelude.{◌≡◌, List, ℕ, IfOk};
+ghost use Rattle.std.specs.Prelude.{◌≡◌, List, ℕ, IfOk, OnErr};
 ghost use Rattle.rp_store.specs.Heap.{Owned};
 ghost use Rattle.rp_store.specs.Kept.{IsKept, IsSound};
 ghost use Rattle.rp_ops.specs.Binary.{arithmetic, binary, calculated, logical_of, operated, repeats, wrong_operand};
@@ -22,10 +22,13 @@ use std::alloc::Global;
 /// side's, one for itself and one for each element. It takes no step.
 ///
 /// # Errors
-/// - `Raised` with `TypeError`, where the operator does not take the operands, `ZeroDivisionError`, `OverflowError`, where
-///   the result is outside 64 bits, or `ValueError`, where an exponent or a count of bits is negative.
-/// - `StopCells` where the cells are over the limit; then the store is as before.
-/// - `Memory` where a growth was refused. Then cells may be used, and no object is made.
+/// - `Raised` with `TypeError`, where the operator does not take the operands (`|` takes no dicts), `ZeroDivisionError`,
+///   `OverflowError`, where the result is outside 64 bits, or `ValueError`, where an exponent, also of 0, or a count of
+///   bits is negative.
+/// - `StopCells` where the cells are over the limit; then none is used.
+/// - `Memory` where a growth was refused; then cells may be used.
+///
+/// After each of them the objects are as before, and none is made.
 pub fn binary(
     alloc: Global,
     store: &mut Store,
@@ -42,8 +45,12 @@ pub fn binary(
     ensures kept { IsKept store.new.heap }
     ensures sound { IfOk result (λ v. IsSound store.new.heap v) }
     ensures grown { Gains (IsSequenceOf side) store.old.heap store.new.heap }
+    ensures same { OnErr result (store.new.heap ≡ store.old.heap) }
     ensures steps { meter.new ≡ meter.old }
 {
+    if let (Value::Rock(Rock::Int(x)), Value::Rock(Rock::Int(y))) = (a, b) {
+        return number_value(alloc, computed(op, *x, *y));
+    }
     let x = operand_of(store, a);
     let y = operand_of(store, b);
     match op {
@@ -67,6 +74,7 @@ fn add(
     ensures kept { IsKept store.new.heap }
     ensures sound { IfOk result (λ v. IsSound store.new.heap v) }
     ensures grown { Gains (IsSequenceOf side) store.old.heap store.new.heap }
+    ensures same { OnErr result (store.new.heap ≡ store.old.heap) }
 {
     match (x, y) {
         (Operand::Text(x), Operand::Text(y)) => join_texts(alloc, store, x, y),
@@ -90,6 +98,7 @@ fn multiply(
     ensures kept { IsKept store.new.heap }
     ensures sound { IfOk result (λ v. IsSound store.new.heap v) }
     ensures grown { Gains (IsSequenceOf side) store.old.heap store.new.heap }
+    ensures same { OnErr result (store.new.heap ≡ store.old.heap) }
 {
     if x.is_sequence() {
         return repeat_operand(alloc, store, side, x, y.number());
@@ -114,6 +123,7 @@ fn repeat_operand(
     ensures kept { IsKept store.new.heap }
     ensures sound { IfOk result (λ v. IsSound store.new.heap v) }
     ensures grown { Gains (IsSequenceOf side) store.old.heap store.new.heap }
+    ensures same { OnErr result (store.new.heap ≡ store.old.heap) }
 {
     let Some(n) = n else {
         return wrong_operand(alloc);

@@ -4,6 +4,8 @@
 mod augmented;
 mod binary_operators;
 mod cells;
+#[cfg(test)]
+mod cost_tests;
 mod ends;
 mod made;
 mod numbers;

@@ -41,6 +41,8 @@ pub fn new_character(alloc: Global, store: &mut Store, letter: char) -> Result<V
     Ok(Value::Rock(Rock::Text(text)))
 }
 
+/// # Errors
+/// `Memory` where a growth was refused.
 fn text_of_character(alloc: Global, letter: char) -> Result<Text, Memory>
     ensures { IfOk result (λ t. t ≡ letter ∷ []) }
 {

@@ -5,7 +5,7 @@ ghost use Rattle.rp_store.specs.Object.{content_of};
 ghost use Rattle.rp_store.specs.Parts.{IsScope};
 
 use crate::sequences::{Sequence, add};
-use crate::tests::{Got, ended, on_rocks};
+use crate::tests::{Got, OPERAND, ended, on_rocks};
 use crate::{binary, truth};
 use rp_base::{BinOp, Kind, Memory, Meter, NativeId, Oid, OpEnd, Rock, Side, Text, Value};
 use rp_dict::Dict;
@@ -17,8 +17,8 @@ pub(crate) fn text(alloc: Global, text: &str) -> Result<Rock, Memory> {
     Ok(Rock::Text(Text::new(alloc, text)?))
 }
 
-/// What an operator gives of two rocks in a store of so many cells is a text of these characters.
-fn is_text(answer: &Result<Value, OpEnd>, want: &str) -> bool {
+/// Whether an operation gave a text of these characters.
+pub(crate) fn is_text(answer: &Result<Value, OpEnd>, want: &str) -> bool {
     match answer {
         Ok(Value::Rock(Rock::Text(text))) => text.is(want),
         _ => false,
@@ -53,7 +53,6 @@ fn texts_cost_their_bytes(rt: HostRuntime) -> Result<(), Fail> {
         (0, 1, Got::Cells),
         (0, 0, Got::Text(0)),
         (u64::MAX - 2, i64::MAX, Got::Cells),
-        (u64::MAX - 1, i64::MAX, Got::Other),
     ] {
         let x = text(alloc, "é")?;
         assert_eq!(rt;
@@ -116,7 +115,7 @@ pub(crate) fn holds(store: &Store, value: &Value, kind: Sequence, numbers: &[i64
     }
 }
 
-fn are_numbers(elements: &[Value], numbers: &[i64]) -> bool {
+pub(crate) fn are_numbers(elements: &[Value], numbers: &[i64]) -> bool {
     elements.len() == numbers.len() && elements.iter().zip(numbers).all(|(e, n)| is_number(e, *n))
 }
 
@@ -226,7 +225,6 @@ fn sequences_cost_a_cell_and_one_for_each_element(rt: HostRuntime) {
         (6, 3, Got::Cells),
         (1, 0, Got::Object),
         (0, 0, Got::Cells),
-        (u64::MAX, i64::MAX, Got::Other),
         (u64::MAX - 2, i64::MAX, Got::Cells),
     ] {
         assert_eq!(rt;
@@ -247,82 +245,110 @@ fn sequences_cost_a_cell_and_one_for_each_element(rt: HostRuntime) {
     assert_eq!(rt; nothing, Got::Object);
 }
 
+/// The cells are within the limit, and what they are for is larger than any memory.
 #[test]
-fn other_operands_are_refused(rt: HostRuntime) -> Result<(), Fail> {
+fn what_no_memory_holds_is_not_made(rt: HostRuntime) -> Result<(), Fail> {
     let alloc = rt.alloc();
-    let wrong = Got::Raised(Kind::TypeError);
-    assert_eq!(rt;
-        on_lists(alloc, 9, BinOp::Add, Sequence::Tuple, &[1], &[1]),
-        wrong
-    );
-    assert_eq!(rt;
-        on_lists(alloc, 9, BinOp::Mul, Sequence::List, &[1], &[1]),
-        wrong
-    );
-    assert_eq!(rt;
-        on_lists(alloc, 9, BinOp::Sub, Sequence::List, &[1], &[1]),
-        wrong
-    );
-    assert_eq!(rt; on_list(alloc, 9, BinOp::Add, &[1], Rock::Int(1)), wrong);
-    assert_eq!(rt; on_list(alloc, 9, BinOp::Mul, &[1], Rock::Nil), wrong);
-    assert_eq!(rt;
-        on_list(alloc, 9, BinOp::BitOr, &[1], Rock::Truth(true)),
-        wrong
-    );
-    let (x, y) = (text(alloc, "a")?, text(alloc, "a")?);
-    assert_eq!(rt; ended(&on_rocks(alloc, 9, BinOp::Mul, x, y)), wrong);
-    let x = text(alloc, "a")?;
-    assert_eq!(rt;
-        ended(&on_rocks(alloc, 9, BinOp::Add, x, Rock::Int(1))),
-        wrong
-    );
-    let kind = Rock::Kind(Kind::KeyError);
-    assert_eq!(rt;
-        ended(&on_rocks(alloc, 9, BinOp::Add, Rock::Int(1), kind)),
-        wrong
-    );
-    let native = Rock::Native(NativeId::Len);
-    assert_eq!(rt;
-        ended(&on_rocks(alloc, 9, BinOp::Pow, native, Rock::Nil)),
-        wrong
-    );
+    let most = Rock::Int(i64::MAX);
+    let x = text(alloc, "é")?;
+    let texts = on_rocks(alloc, u64::MAX - 1, BinOp::Mul, x, most);
+    assert_eq!(rt; ended(&texts), Got::Memory);
+    let most = Rock::Int(i64::MAX);
+    let list = on_list(alloc, u64::MAX, BinOp::Mul, &[1, 2], most);
+    assert_eq!(rt; list, Got::Memory);
     Ok(())
 }
 
-/// Whether the sum of a list of one list with itself hands out that list lent, seen through a proxy or plainly.
-fn hands_out_lent(alloc: Global, proxied: bool) -> Result<bool, OpEnd> {
-    let (mut store, outer) = nested(alloc)?;
-    if proxied {
-        return doubles_lent(alloc, &mut store, &Value::Prox(outer));
+#[test]
+fn sequences_take_no_other_sequences(rt: HostRuntime) {
+    for (op, other) in [
+        (BinOp::Add, Sequence::Tuple),
+        (BinOp::Mul, Sequence::List),
+        (BinOp::Mul, Sequence::Tuple),
+        (BinOp::Sub, Sequence::List),
+        (BinOp::BitOr, Sequence::List),
+    ] {
+        assert_eq!(rt; on_lists(rt.alloc(), 9, op, other, &[1], &[1]), OPERAND);
     }
-    doubles_lent(alloc, &mut store, &Value::Ref(outer))
 }
 
-/// Whether `x + x` is a list of the side, of two lent elements.
-fn doubles_lent(alloc: Global, store: &mut Store, x: &Value) -> Result<bool, OpEnd>
+#[test]
+fn sequences_take_no_other_rocks(rt: HostRuntime) -> Result<(), Fail> {
+    let alloc = rt.alloc();
+    for (op, y) in [
+        (BinOp::Add, Rock::Int(1)),
+        (BinOp::Mul, Rock::Nil),
+        (BinOp::BitOr, Rock::Truth(true)),
+        (BinOp::Mul, text(alloc, "a")?),
+    ] {
+        assert_eq!(rt; on_list(alloc, 9, op, &[1], y), OPERAND);
+    }
+    Ok(())
+}
+
+#[test]
+fn rocks_take_no_other_rocks(rt: HostRuntime) -> Result<(), Fail> {
+    let alloc = rt.alloc();
+    for (op, x, y) in [
+        (BinOp::Mul, text(alloc, "a")?, text(alloc, "a")?),
+        (BinOp::Add, text(alloc, "a")?, Rock::Int(1)),
+        (BinOp::FloorDiv, text(alloc, "a")?, Rock::Int(0)),
+        (BinOp::LShift, text(alloc, "a")?, Rock::Int(-1)),
+        (BinOp::Add, Rock::Int(1), Rock::Kind(Kind::KeyError)),
+        (BinOp::Pow, Rock::Native(NativeId::Len), Rock::Nil),
+    ] {
+        assert_eq!(rt; ended(&on_rocks(alloc, 9, op, x, y)), OPERAND);
+    }
+    Ok(())
+}
+
+/// Whether the sum of a list of one list with itself hands that list out lent where it is seen through a proxy, and
+/// plainly else.
+fn hands_out(alloc: Global, lent: bool) -> Result<bool, OpEnd> {
+    let (mut store, outer) = nested(alloc)?;
+    doubles(alloc, &mut store, &named(outer, lent), lent)
+}
+
+/// A value that names the object at a place, lent or plainly.
+pub(crate) fn named(at: Oid, lent: bool) -> Value
+    ensures { (heap : List Owned) → IsSound heap (Value.Ref at) → IsSound heap result }
+{
+    if lent {
+        Value::Prox(at)
+    } else {
+        Value::Ref(at)
+    }
+}
+
+/// Whether `x + x` is a list of the side, of two elements that name the object at place 0, lent or plainly.
+fn doubles(alloc: Global, store: &mut Store, x: &Value, lent: bool) -> Result<bool, OpEnd>
     requires kept { IsKept store.old.heap }
     requires sound { IsSound store.old.heap x.now }
 {
     let mut meter = Meter { left: 0 };
     match binary(alloc, store, &mut meter, Side(1), BinOp::Add, x, x)? {
         Value::Ref(at) if at.0 < store.len() && store.owner(at) == Side(1) => {
-            Ok(are_lent(store.object(at)))
+            Ok(name_first_twice(store.object(at), lent))
         }
         _ => Ok(false),
     }
 }
 
-fn are_lent(object: &Object) -> bool {
+fn name_first_twice(object: &Object, lent: bool) -> bool {
     match object {
-        Object::List(elements) => elements.len() == 2 && elements.iter().all(|e| is_lent(e, 0)),
+        Object::List(elements) => {
+            elements.len() == 2 && elements.iter().all(|e| names_first(e, lent))
+        }
         _ => false,
     }
 }
 
-pub(crate) fn is_lent(value: &Value, place: usize) -> bool {
+/// Whether a value names the object at place 0, lent or plainly.
+pub(crate) fn names_first(value: &Value, lent: bool) -> bool {
     match value {
-        Value::Prox(at) => at.0 == place,
-        _ => false,
+        Value::Prox(at) => lent && at.0 == 0,
+        Value::Ref(at) => !lent && at.0 == 0,
+        Value::Rock(_) => false,
     }
 }
 
@@ -343,8 +369,8 @@ pub(crate) fn nested(alloc: Global) -> Result<(Store, Oid), OpEnd>
 
 #[test]
 fn elements_of_a_lent_list_are_lent(rt: HostRuntime) {
-    assert!(rt; matches!(hands_out_lent(rt.alloc(), true), Ok(true)));
-    assert!(rt; matches!(hands_out_lent(rt.alloc(), false), Ok(false)));
+    assert!(rt; matches!(hands_out(rt.alloc(), true), Ok(true)));
+    assert!(rt; matches!(hands_out(rt.alloc(), false), Ok(true)));
 }
 
 /// Whether a rock counts as true.

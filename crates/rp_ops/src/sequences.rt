@@ -1,6 +1,5 @@
 ghost use Rattle.std.specs.Prelude.{◌≡◌, ◌∷◌, ◌++◌, ◌+◌, [], ℕ, length, IfErr, IfOk, OnErr, OnOk};
 ghost use Rattle.std.specs.List.{repeat};
-ghost use Rattle.rp_base.specs.declared.value.Oid.{Oid};
 ghost use Rattle.rp_store.specs.Heap.{IsHeld};
 ghost use Rattle.rp_store.specs.Kept.{AreSound, IsKept, IsSound};
 ghost use Rattle.rp_store.specs.Object.{content_of};
@@ -53,6 +52,7 @@ pub(crate) fn join(
     ensures kept { IsKept store.new.heap }
     ensures sound { IfOk result (λ v. IsSound store.new.heap v) }
     ensures grown { Gains (IsSequenceOf side) store.old.heap store.new.heap }
+    ensures same { OnErr result (store.new.heap ≡ store.old.heap) }
 {
     let cells = 1 + elements_at(store, x.at).len() + elements_at(store, y.at).len();
     charge(store, cells as u64)?;
@@ -79,6 +79,7 @@ pub(crate) fn repeat(
     ensures kept { IsKept store.new.heap }
     ensures sound { IfOk result (λ v. IsSound store.new.heap v) }
     ensures grown { Gains (IsSequenceOf side) store.old.heap store.new.heap }
+    ensures same { OnErr result (store.new.heap ≡ store.old.heap) }
 {
     let copies = times(n);
     let size = elements_at(store, x.at).len();
@@ -119,6 +120,9 @@ pub fn add(
 }
 
 /// The elements of two sequences.
+///
+/// # Errors
+/// As `append`.
 fn joined(alloc: Global, store: &Store, x: Elements, y: Elements) -> Result<Vec<Value>, Memory>
     requires x { IsHeld store.now.heap x.at }
     requires y { IsHeld store.now.heap y.at }
@@ -132,6 +136,9 @@ fn joined(alloc: Global, store: &Store, x: Elements, y: Elements) -> Result<Vec<
 }
 
 /// The elements of a sequence so many times over.
+///
+/// # Errors
+/// As `append`, and `Memory` where there are more elements than a vector can have.
 pub(crate) fn copied(
     alloc: Global,
     store: &Store,
@@ -154,6 +161,9 @@ pub(crate) fn copied(
 }
 
 /// Puts the elements of a sequence last.
+///
+/// # Errors
+/// `Memory` where a growth was refused, or the count of the owners of a text is full.
 pub(crate) fn append(store: &Store, x: Elements, all: &mut Vec<Value>) -> Result<(), Memory>
     requires { IsHeld store.now.heap x.at }
     ensures { OnOk result (all.new.items ≡ all.old.items ++ elements_of store.now.heap x) }
@@ -165,6 +175,9 @@ pub(crate) fn append(store: &Store, x: Elements, all: &mut Vec<Value>) -> Result
 }
 
 /// Puts a value last.
+///
+/// # Errors
+/// `Memory` where a growth was refused.
 pub(crate) fn put(values: &mut Vec<Value>, value: Value) -> Result<(), Memory>
     ensures { OnOk result (values.new.items ≡ values.old.items ++ value ∷ []) }
 {
@@ -172,7 +185,11 @@ pub(crate) fn put(values: &mut Vec<Value>, value: Value) -> Result<(), Memory>
     Ok(())
 }
 
-/// An element as it is handed out: lent, or as it is.
+/// An element as it is handed out: lent, or as it is. It allocates nothing.
+///
+/// # Errors
+/// `Memory` where the count of the owners of its text is full.
+#[inline(always)]
 pub fn handed(value: &Value, lent: bool) -> Result<Value, Memory>
     ensures { IfOk result (λ v. v ≡ handed lent value.now) }
 {

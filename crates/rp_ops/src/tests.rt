@@ -4,7 +4,7 @@ use rp_store::Store;
 use std::alloc::Global;
 use std::test::Fail;
 
-/// How an operation on rocks ended.
+/// How an operation ended.
 #[derive(Clone, Copy, Debug, PartialEq, Eq)]
 pub(crate) enum Got {
     Int(i64),
@@ -12,23 +12,49 @@ pub(crate) enum Got {
     /// A text of so many bytes.
     Text(usize),
     Object,
-    Raised(Kind),
+    /// An exception with this text.
+    Raised(Kind, &'static str),
     Steps,
     Cells,
+    Memory,
+    /// Another value.
     Other,
 }
 
 pub(crate) fn ended(answer: &Result<Value, OpEnd>) -> Got {
     match answer {
-        Ok(Value::Rock(Rock::Int(n))) => Got::Int(*n),
-        Ok(Value::Rock(Rock::Truth(truth))) => Got::Truth(*truth),
-        Ok(Value::Rock(Rock::Text(text))) => Got::Text(text.as_str().len()),
-        Ok(Value::Ref(_)) => Got::Object,
-        Err(OpEnd::Raised(raised)) => Got::Raised(raised.kind),
-        Err(OpEnd::StopSteps) => Got::Steps,
-        Err(OpEnd::StopCells) => Got::Cells,
+        Ok(value) => given(value),
+        Err(end) => ending(end),
+    }
+}
+
+fn given(value: &Value) -> Got {
+    match value {
+        Value::Rock(Rock::Int(n)) => Got::Int(*n),
+        Value::Rock(Rock::Truth(truth)) => Got::Truth(*truth),
+        Value::Rock(Rock::Text(text)) => Got::Text(text.as_str().len()),
+        Value::Ref(_) => Got::Object,
         _ => Got::Other,
     }
+}
+
+pub(crate) fn ending(end: &OpEnd) -> Got {
+    match end {
+        OpEnd::Raised(raised) => Got::Raised(raised.kind, known(&raised.text)),
+        OpEnd::StopSteps => Got::Steps,
+        OpEnd::StopCells => Got::Cells,
+        OpEnd::Memory => Got::Memory,
+    }
+}
+
+/// The text of an exception, where it is one that an operator gives.
+fn known(text: &Text) -> &'static str {
+    for word in ["int", "zero", "power", "shift", "operand", "iterate"] {
+        if text.is(word) {
+            return word;
+        }
+    }
+    "another text"
 }
 
 /// What an operator gives of two rocks, with no step and so many cells.
@@ -49,7 +75,15 @@ fn on_numbers(alloc: Global, op: BinOp, x: i64, y: i64) -> Got {
     ended(&on_rocks(alloc, 0, op, Rock::Int(x), Rock::Int(y)))
 }
 
-const OVERFLOW: Got = Got::Raised(Kind::OverflowError);
+const OVERFLOW: Got = Got::Raised(Kind::OverflowError, "int");
+
+const ZERO: Got = Got::Raised(Kind::ZeroDivisionError, "zero");
+
+const POWER: Got = Got::Raised(Kind::ValueError, "power");
+
+const SHIFT: Got = Got::Raised(Kind::ValueError, "shift");
+
+pub(crate) const OPERAND: Got = Got::Raised(Kind::TypeError, "operand");
 
 #[test]
 fn sums_and_products_end_at_64_bits(rt: HostRuntime) {
@@ -90,6 +124,8 @@ fn quotients_are_rounded_down(rt: HostRuntime) {
         (i64::MIN, 3, Got::Int(-3074457345618258603), Got::Int(1)),
         (i64::MAX, i64::MIN, Got::Int(-1), Got::Int(-1)),
         (i64::MIN, i64::MAX, Got::Int(-2), Got::Int(i64::MAX - 1)),
+        (1, 0, ZERO, ZERO),
+        (0, 0, ZERO, ZERO),
     ] {
         assert_eq!(rt;
             on_numbers(rt.alloc(), BinOp::FloorDiv, x, y),
@@ -98,9 +134,6 @@ fn quotients_are_rounded_down(rt: HostRuntime) {
         );
         assert_eq!(rt; on_numbers(rt.alloc(), BinOp::Mod, x, y), rest, "{x} {y}");
     }
-    let zero = Got::Raised(Kind::ZeroDivisionError);
-    assert_eq!(rt; on_numbers(rt.alloc(), BinOp::FloorDiv, 1, 0), zero);
-    assert_eq!(rt; on_numbers(rt.alloc(), BinOp::Mod, 0, 0), zero);
 }
 
 #[test]
@@ -119,7 +152,9 @@ fn powers_take_any_exponent_from_0(rt: HostRuntime) {
         (-1, i64::MAX, Got::Int(-1)),
         (-1, i64::MAX - 1, Got::Int(1)),
         (2, i64::MAX, OVERFLOW),
-        (2, -1, Got::Raised(Kind::ValueError)),
+        (2, -1, POWER),
+        (0, -1, POWER),
+        (1, i64::MIN, POWER),
     ] {
         assert_eq!(rt; on_numbers(rt.alloc(), BinOp::Pow, x, y), want, "{x} {y}");
     }
@@ -139,12 +174,8 @@ fn shifts_take_any_count_from_0(rt: HostRuntime) {
         (i64::MIN, 1, OVERFLOW, Got::Int(-4611686018427387904)),
         (i64::MIN, 64, OVERFLOW, Got::Int(-1)),
         (i64::MAX, i64::MAX, OVERFLOW, Got::Int(0)),
-        (
-            1,
-            -1,
-            Got::Raised(Kind::ValueError),
-            Got::Raised(Kind::ValueError),
-        ),
+        (1, -1, SHIFT, SHIFT),
+        (0, i64::MIN, SHIFT, SHIFT),
     ] {
         assert_eq!(rt;
             on_numbers(rt.alloc(), BinOp::LShift, x, y),
@@ -238,9 +269,10 @@ fn unary_operators_take_numbers(rt: HostRuntime) -> Result<(), Fail> {
         on_rock(rt.alloc(), UnOp::Invert, Rock::Truth(false)),
         Got::Int(-1)
     );
-    let wrong = Got::Raised(Kind::TypeError);
     let text = Rock::Text(Text::new(rt.alloc(), "1")?);
-    assert_eq!(rt; on_rock(rt.alloc(), UnOp::Neg, text), wrong);
-    assert_eq!(rt; on_rock(rt.alloc(), UnOp::Pos, Rock::Nil), wrong);
+    assert_eq!(rt; on_rock(rt.alloc(), UnOp::Neg, text), OPERAND);
+    assert_eq!(rt; on_rock(rt.alloc(), UnOp::Pos, Rock::Nil), OPERAND);
+    let kind = Rock::Kind(Kind::KeyError);
+    assert_eq!(rt; on_rock(rt.alloc(), UnOp::Invert, kind), OPERAND);
     Ok(())
 }

@@ -1,4 +1,4 @@
-ghost use Rattle.std.specs.Prelude.{◌≡◌, ◌<◌, ◌∷◌, [], List, Some, length, map, IfOk};
+ghost use Rattle.std.specs.Prelude.{◌≡◌, ◌<◌, ◌≤◌, ◌∷◌, [], List, Some, length, map, IfOk};
 ghost use Rattle.std.specs.Option.{option_map, option_map_or};
 ghost use Rattle.std.specs.List.{slice_get};
 ghost use Rattle.rp_store.specs.Heap.{IsHeld, Owned, content_at};
@@ -6,8 +6,8 @@ ghost use Rattle.rp_store.specs.Kept.{AreSound, IsKept, IsSound};
 ghost use Rattle.rp_store.specs.Store.{Cells};
 ghost use Rattle.rp_ops.specs.Binary.{new_text};
 ghost use Rattle.rp_ops.specs.Outcome.{Meets, State, state_of, stepped};
-ghost use Rattle.rp_ops.specs.View.{elements_of, handed, items_of, key_rock};
-ghost use Rattle.rp_ops.specs.Walk.{content_elements, elements, not_walked, rock_elements, spelled_out, walked};
+ghost use Rattle.rp_ops.specs.View.{elements_of, handed, key_rock};
+ghost use Rattle.rp_ops.specs.Walk.{content_elements, elements, items_of, not_walked, rock_elements, spelled_out, walked};
 
 use crate::ends::{step, steps};
 use crate::made::new_character;
@@ -27,6 +27,8 @@ use std::alloc::Global;
 /// - `Raised` with `TypeError`, where the value cannot be walked.
 /// - `StopSteps` where no step is left for one of them, `StopCells` where the cells of a character are over the limit.
 /// - `Memory` where a growth was refused.
+///
+/// The objects are as before, and the steps left never rise, whatever is answered.
 pub fn elements(
     alloc: Global,
     store: &mut Store,
@@ -38,6 +40,7 @@ pub fn elements(
     ensures plain { Meets (items_of result) (state_of store.new meter.new.left) (elements a.now (state_of store.old meter.old.left)) }
     ensures same { store.new.heap ≡ store.old.heap }
     ensures sound { IfOk result (λ v. AreSound store.new.heap v.items) }
+    ensures fewer { meter.new.left ≤ meter.old.left }
 {
     match a {
         Value::Rock(rock) => rock_elements(alloc, store, meter, rock),
@@ -55,6 +58,7 @@ fn rock_elements(
     ensures plain { Meets (items_of result) (state_of store.new meter.new.left) (rock_elements rock.now (state_of store.old meter.old.left)) }
     ensures same { store.new.heap ≡ store.old.heap }
     ensures sound { (heap : List Owned) → IfOk result (λ v. AreSound heap v.items) }
+    ensures fewer { meter.new.left ≤ meter.old.left }
 {
     match rock {
         Rock::Text(text) => spelled_out(alloc, store, meter, text),
@@ -77,6 +81,7 @@ fn spelled_out(
     ensures plain { Meets (items_of result) (state_of store.new meter.new.left) (spelled_out text.now (state_of store.old meter.old.left)) }
     ensures same { store.new.heap ≡ store.old.heap }
     ensures sound { (heap : List Owned) → IfOk result (λ v. AreSound heap v.items) }
+    ensures fewer { meter.new.left ≤ meter.old.left }
 {
     let mut letters = Vec::new(alloc);
     for letter in text.as_str().chars() {
@@ -95,6 +100,7 @@ fn next_character(
     ensures plain { Meets result (state_of store.new meter.new.left) (stepped (state_of store.old meter.old.left) (new_text (letter ∷ []))) }
     ensures same { store.new.heap ≡ store.old.heap }
     ensures sound { (heap : List Owned) → IfOk result (λ v. IsSound heap v) }
+    ensures fewer { meter.new.left ≤ meter.old.left }
 {
     step(meter)?;
     new_character(alloc, store, letter)
@@ -111,6 +117,7 @@ fn object_elements(
     requires held { IsHeld store.now.heap at }
     ensures plain { Meets (items_of result) (state_of store.now meter.new.left) (option_map_or (λ c. content_elements (handed lent) c (state_of store.now meter.old.left)) (content_at store.now.heap at) (not_walked (state_of store.now meter.old.left))) }
     ensures sound { IfOk result (λ v. AreSound store.now.heap v.items) }
+    ensures fewer { meter.new.left ≤ meter.old.left }
 {
     match store.object(at) {
         Object::List(_) => walked(alloc, store, meter, Elements { at, lent }),
@@ -130,6 +137,7 @@ fn walked(alloc: Global, store: &Store, meter: &mut Meter, x: Elements) -> Resul
     requires held { IsHeld store.now.heap x.at }
     ensures plain { Meets (items_of result) (state_of store.now meter.new.left) (walked (elements_of store.now.heap x) (state_of store.now meter.old.left)) }
     ensures sound { IfOk result (λ v. AreSound store.now.heap v.items) }
+    ensures fewer { meter.new.left ≤ meter.old.left }
 {
     let count = elements_at(store, x.at).len();
     steps(meter, count)?;
@@ -138,6 +146,9 @@ fn walked(alloc: Global, store: &Store, meter: &mut Meter, x: Elements) -> Resul
 }
 
 /// The elements of a list or tuple as they are handed out.
+///
+/// # Errors
+/// `Memory` where a growth was refused, or the count of the owners of a text is full.
 fn handed_out(alloc: Global, store: &Store, x: Elements) -> Result<Vec<Value>, Memory>
     requires { IsHeld store.now.heap x.at }
     ensures { IfOk result (λ v. v.items ≡ elements_of store.now.heap x) }
@@ -155,6 +166,7 @@ fn keys(
 ) -> Result<Vec<Value>, OpEnd>
     ensures plain { (store : Cells) → Meets (items_of result) (state_of store meter.new.left) (walked (map key_rock entries.now) (state_of store meter.old.left)) }
     ensures sound { (heap : List Owned) → IfOk result (λ v. AreSound heap v.items) }
+    ensures fewer { meter.new.left ≤ meter.old.left }
 {
     let count = entries.len();
     steps(meter, count)?;
@@ -163,6 +175,9 @@ fn keys(
 }
 
 /// The keys of a dict as first written.
+///
+/// # Errors
+/// As `handed_out`.
 fn first_written(alloc: Global, entries: &Dict<Key, (Rock, Value)>) -> Result<Vec<Value>, Memory>
     ensures { IfOk result (λ v. v.items ≡ map key_rock entries.now) }
 {

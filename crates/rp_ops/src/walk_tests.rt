@@ -1,15 +1,17 @@
 ghost use Rattle.std.specs.Prelude.{IfOk, OnOk};
 ghost use Rattle.rp_store.specs.Kept.{IsKept, IsSound};
 
-use crate::sequence_tests::{holds, is_lent, nested, pair, text};
+use crate::sequence_tests::{are_numbers, holds, named, names_first, nested, pair, text};
 use crate::sequences::{Sequence, add};
-use crate::tests::{Got, ended};
-use crate::{elements, inplace};
-use rp_base::{BinOp, Kind, Memory, Meter, OpEnd, Rock, Side, Value};
+use crate::tests::{Got, OPERAND, ended, ending};
+use crate::{binary, elements, inplace, new_object};
+use rp_base::{BinOp, Kind, Memory, Meter, NativeId, Oid, OpEnd, Rock, Side, Text, Value};
 use rp_dict::Dict;
-use rp_store::{Key, Object, Store};
+use rp_store::{Callee, Key, Object, Store};
 use std::alloc::Global;
 use std::test::Fail;
+
+const ITERATE: Got = Got::Raised(Kind::TypeError, "iterate");
 
 /// Whether two values are plain references to one object.
 fn are_one(a: &Value, b: &Value) -> bool {
@@ -107,7 +109,6 @@ fn lists_are_repeated_in_place(rt: HostRuntime) {
         (0, -1, (Got::Object, 0)),
         (0, i64::MIN, (Got::Object, 0)),
         (9, 1 << 62, (Got::Cells, 2)),
-        (u64::MAX, i64::MAX, (Got::Other, 2)),
     ] {
         assert_eq!(rt;
             on_list(alloc, cells, 0, BinOp::Mul, Rock::Int(n)),
@@ -119,6 +120,13 @@ fn lists_are_repeated_in_place(rt: HostRuntime) {
     assert_eq!(rt; once, (Got::Object, 2));
     assert!(rt; matches!(triples(alloc, &[1, 2], &[1, 2, 1, 2, 1, 2]), Ok((true, 4))));
     assert!(rt; matches!(triples(alloc, &[], &[]), Ok((true, 0))));
+}
+
+/// The cells are within the limit, and the copies larger than any memory.
+#[test]
+fn a_list_stays_where_no_memory_holds_its_copies(rt: HostRuntime) {
+    let most = on_list(rt.alloc(), u64::MAX, 0, BinOp::Mul, Rock::Int(i64::MAX));
+    assert_eq!(rt; most, (Got::Memory, 2));
 }
 
 /// Whether `x *= 3` gives the list x, repeated so, with the cells used.
@@ -141,12 +149,15 @@ fn triples(alloc: Global, x: &[i64], want: &[i64]) -> Result<(bool, u64), OpEnd>
 #[test]
 fn lists_take_no_other_operands_in_place(rt: HostRuntime) -> Result<(), Fail> {
     let alloc = rt.alloc();
-    let wrong = (Got::Raised(Kind::TypeError), 2);
-    assert_eq!(rt; on_list(alloc, 9, 9, BinOp::Add, Rock::Int(5)), wrong);
-    assert_eq!(rt; on_list(alloc, 9, 9, BinOp::Add, Rock::Nil), wrong);
-    assert_eq!(rt; on_list(alloc, 9, 9, BinOp::Mul, text(alloc, "a")?), wrong);
-    assert_eq!(rt; on_list(alloc, 9, 9, BinOp::Mul, Rock::Nil), wrong);
-    assert_eq!(rt; on_list(alloc, 9, 9, BinOp::Sub, Rock::Int(1)), wrong);
+    for (op, y, want) in [
+        (BinOp::Add, Rock::Int(5), ITERATE),
+        (BinOp::Add, Rock::Nil, ITERATE),
+        (BinOp::Mul, text(alloc, "a")?, OPERAND),
+        (BinOp::Mul, Rock::Nil, OPERAND),
+        (BinOp::Sub, Rock::Int(1), OPERAND),
+    ] {
+        assert_eq!(rt; on_list(alloc, 9, 9, op, y), (want, 2));
+    }
     Ok(())
 }
 
@@ -165,11 +176,11 @@ fn a_tuple_stays(rt: HostRuntime) {
     assert!(rt; matches!(is_another(rt.alloc(), &[1], &[], &[1]), Ok(true)));
 }
 
-/// A store with an empty list, and a dict in which True was first written as a key.
-fn with_dict(alloc: Global) -> Result<(Store, Value, Value), OpEnd>
+/// A store with an empty list, and the place of a dict in which True was first written as a key.
+fn with_dict(alloc: Global) -> Result<(Store, Value, Oid), OpEnd>
     ensures kept { IfOk result (λ r. IsKept r.0.heap) }
     ensures x { IfOk result (λ r. IsSound r.0.heap r.1) }
-    ensures y { IfOk result (λ r. IsSound r.0.heap r.2) }
+    ensures y { IfOk result (λ r. IsSound r.0.heap (Value.Ref r.2)) }
 {
     let mut store = Store::new(alloc, 1);
     let y = add_dict(alloc, &mut store)?;
@@ -178,21 +189,21 @@ fn with_dict(alloc: Global) -> Result<(Store, Value, Value), OpEnd>
 }
 
 /// Adds a dict in which True was first written as a key.
-fn add_dict(alloc: Global, store: &mut Store) -> Result<Value, Memory>
+fn add_dict(alloc: Global, store: &mut Store) -> Result<Oid, Memory>
     requires { IsKept store.old.heap }
     ensures kept { OnOk result (IsKept store.new.heap) }
-    ensures sound { IfOk result (λ v. IsSound store.new.heap v) }
+    ensures sound { IfOk result (λ at. IsSound store.new.heap (Value.Ref at)) }
 {
     let mut entries = Dict::new(alloc);
     entries.set(Key::Number(1), (Rock::Truth(true), Value::Rock(Rock::Nil)))?;
     let at = store.add(Side(0), Object::Dict(entries))?;
-    Ok(Value::Ref(at))
+    Ok(at)
 }
 
 /// What `x += y` makes of an empty list, for the dict.
 fn extends_by_dict(alloc: Global) -> Result<bool, OpEnd> {
     let (mut store, x, y) = with_dict(alloc)?;
-    let mut meter = Meter { left: 1 };
+    let (mut meter, y) = (Meter { left: 1 }, Value::Ref(y));
     let value = inplace(alloc, &mut store, &mut meter, Side(1), BinOp::Add, &x, &y)?;
     Ok(meter.left == 0 && holds_truth(&store, &value))
 }
@@ -207,36 +218,128 @@ fn holds_truth(store: &Store, value: &Value) -> bool {
 
 fn is_truth_alone(object: &Object) -> bool {
     match object {
-        Object::List(values) => values.len() == 1 && is_truth(&values[0]),
+        Object::List(values) => are_truth(values),
         _ => false,
     }
 }
 
-fn is_truth(value: &Value) -> bool {
-    matches!(value, Value::Rock(Rock::Truth(true)))
+/// Whether values are True alone.
+fn are_truth(values: &[Value]) -> bool {
+    values.len() == 1 && matches!(values[0], Value::Rock(Rock::Truth(true)))
+}
+
+/// Whether walking the dict gives True alone, seen through a proxy or plainly, with the steps left of 9.
+fn walks_dict(alloc: Global, lent: bool) -> Result<(bool, u64), OpEnd> {
+    let (mut store, _, y) = with_dict(alloc)?;
+    let mut meter = Meter { left: 9 };
+    let keys = elements(alloc, &mut store, &mut meter, &named(y, lent))?;
+    Ok((are_truth(&keys), meter.left))
 }
 
 #[test]
 fn keys_are_walked_as_first_written(rt: HostRuntime) {
-    assert!(rt; matches!(extends_by_dict(rt.alloc()), Ok(true)));
+    let alloc = rt.alloc();
+    assert!(rt; matches!(extends_by_dict(alloc), Ok(true)));
+    assert!(rt; matches!(walks_dict(alloc, false), Ok((true, 8))));
+    assert!(rt; matches!(walks_dict(alloc, true), Ok((true, 8))));
 }
 
-/// Whether walking a list of one list gives that list lent, seen through a proxy or plainly.
-fn walks_lent(alloc: Global, proxied: bool) -> Result<bool, OpEnd> {
-    let (mut store, outer) = nested(alloc)?;
-    let value = if proxied {
-        Value::Prox(outer)
-    } else {
-        Value::Ref(outer)
+/// Whether `x | x` of the dict is refused.
+fn refuses_dicts(alloc: Global) -> Result<bool, OpEnd> {
+    let (mut store, _, x) = with_dict(alloc)?;
+    let (mut meter, x) = (Meter { left: 9 }, Value::Ref(x));
+    let answer = binary(alloc, &mut store, &mut meter, Side(1), BinOp::BitOr, &x, &x);
+    Ok(ended(&answer) == OPERAND)
+}
+
+#[test]
+fn dicts_are_not_joined(rt: HostRuntime) {
+    assert!(rt; matches!(refuses_dicts(rt.alloc()), Ok(true)));
+}
+
+/// Whether walking a list or tuple of numbers gives these, with the cells used and the steps left of 9.
+fn walks(alloc: Global, kind: Sequence, numbers: &[i64]) -> Result<(bool, u64, u64), OpEnd> {
+    let (mut store, x, _) = pair(alloc, 9, (kind, kind), numbers, &[])?;
+    let mut meter = Meter { left: 9 };
+    let values = elements(alloc, &mut store, &mut meter, &x)?;
+    Ok((are_numbers(&values, numbers), store.used(), meter.left))
+}
+
+#[test]
+fn lists_and_tuples_are_walked(rt: HostRuntime) {
+    let alloc = rt.alloc();
+    for kind in [Sequence::List, Sequence::Tuple] {
+        assert!(rt; matches!(walks(alloc, kind, &[1, 2, 3]), Ok((true, 0, 6))));
+        assert!(rt; matches!(walks(alloc, kind, &[]), Ok((true, 0, 9))));
+    }
+}
+
+/// How walking a rock ended that gave no elements, with the cells used and the steps left of 9.
+fn refused(alloc: Global, rock: Rock) -> (Got, u64, u64) {
+    let mut store = Store::new(alloc, 9);
+    let mut meter = Meter { left: 9 };
+    let got = end_of(elements(alloc, &mut store, &mut meter, &Value::Rock(rock)));
+    (got, store.used(), meter.left)
+}
+
+fn end_of(answer: Result<Vec<Value>, OpEnd>) -> Got {
+    match answer {
+        Ok(_) => Got::Other,
+        Err(end) => ending(&end),
+    }
+}
+
+#[test]
+fn no_rock_but_a_text_is_walked(rt: HostRuntime) -> Result<(), Fail> {
+    let alloc = rt.alloc();
+    for rock in [
+        Rock::Nil,
+        Rock::Truth(true),
+        Rock::Int(5),
+        Rock::Exc(Kind::KeyError, Text::new(alloc, "a")?),
+        Rock::Kind(Kind::KeyError),
+        Rock::Native(NativeId::Len),
+    ] {
+        assert_eq!(rt; refused(alloc, rock), (ITERATE, 0, 9));
+    }
+    Ok(())
+}
+
+/// Whether a method is refused where it is walked, seen through a proxy or plainly.
+fn refuses_method(alloc: Global, lent: bool) -> Result<bool, OpEnd> {
+    let mut store = Store::new(alloc, 9);
+    let method = Object::Method {
+        receiver: Value::Rock(Rock::Nil),
+        callee: Callee::Native(NativeId::Append),
     };
-    let values = elements(alloc, &mut store, &mut Meter { left: 1 }, &value)?;
-    Ok(values.len() == 1 && is_lent(&values[0], 0))
+    match new_object(&mut store, Side(0), method)? {
+        Value::Ref(at) => {
+            let mut meter = Meter { left: 9 };
+            let answer = elements(alloc, &mut store, &mut meter, &named(at, lent));
+            Ok(end_of(answer) == ITERATE)
+        }
+        _ => Ok(false),
+    }
+}
+
+#[test]
+fn a_method_is_not_walked(rt: HostRuntime) {
+    assert!(rt; matches!(refuses_method(rt.alloc(), false), Ok(true)));
+    assert!(rt; matches!(refuses_method(rt.alloc(), true), Ok(true)));
+}
+
+/// Whether walking a list of one list gives that list, lent where it is seen through a proxy, and plainly else.
+fn walks_nested(alloc: Global, lent: bool) -> Result<bool, OpEnd> {
+    let (mut store, outer) = nested(alloc)?;
+    let mut meter = Meter { left: 1 };
+    let values = elements(alloc, &mut store, &mut meter, &named(outer, lent))?;
+    Ok(values.len() == 1 && names_first(&values[0], lent))
 }
 
 #[test]
 fn what_is_walked_out_of_a_proxy_is_lent(rt: HostRuntime) {
-    assert!(rt; matches!(walks_lent(rt.alloc(), true), Ok(true)));
-    assert!(rt; matches!(walks_lent(rt.alloc(), false), Ok(false)));
+    assert!(rt; matches!(walks_nested(rt.alloc(), true), Ok(true)));
+    assert!(rt; matches!(walks_nested(rt.alloc(), false), Ok(true)));
 }
 
 /// Whether walking a text of two characters gives these texts, with the cells used and the steps left of 9.

@@ -1,11 +1,8 @@
 -- Characters and escapes as they are added to a text.
-use Rattle.std.proofs.Common.{◌≡◌, ℕ, zero, suc, ◌+◌, ◌^◌, ◌<◌, ℤ, pos, negsuc, FitsSigned, List, [], ◌∷◌, ◌++◌, append-nil, append_assoc, encode_utf8_all, IsUtf8, refl, sym, ap, ◌∙◌, take, drop, length, get_or, Bool, true, false, ◌==◌}
+use Rattle.std.proofs.Common.{◌≡◌, ℕ, ◌+◌, List, [], ◌∷◌, ◌++◌, append-nil, append_assoc, encode_utf8_all, IsUtf8, refl, sym, ap, ◌∙◌, length, Bool, true, false, ◌==◌}
 use Rattle.std.specs.Char.{IsScalar}
-use Rattle.std.specs.Fmt.{signed_decimal}
-use Rattle.std.specs.Int.{w64}
 use Rattle.std.specs.Str.{chars}
-use Rattle.std.proofs.lemmas.Fmt.{IsAscii-signed}
-use Rattle.std.proofs.lemmas.Str.{IsUtf8-encode, chars-IsAscii, chars-append, chars_from_encodes, chars-nil, encodes-chars}
+use Rattle.std.proofs.lemmas.Str.{IsUtf8-encode, chars-append, chars_from_encodes, chars-nil, encodes-chars}
 use Rattle.std.proofs.Math.Dec.{eqb-suc-zero}
 use Rattle.std.proofs.lemmas.Bool.{false≢true}
 use Rattle.rp_base.specs.Kind.{kind_name}
@@ -96,11 +93,6 @@ chars-native native.EndsWith = refl
 chars-native native.Find = refl
 chars-native native.Replace = refl
 chars-native native.IsDigit = refl
-
--- a number is its own bytes
-pub chars-signed : (z : ℤ) → FitsSigned w64 z → chars (signed_decimal z) ≡ signed_decimal z
-chars-signed (pos n) f = let few : n < 2 ^ 63 = f.sfits in chars-IsAscii (signed_decimal (pos n)) (IsAscii-signed (pos n) few)
-chars-signed (negsuc n) f = let few : n < 2 ^ 63 = f.sfits in chars-IsAscii (signed_decimal (negsuc n)) (IsAscii-signed (negsuc n) few)
 
 -- an exception value with no text, and with one
 pub exception-empty : (kind bs : List ℕ) → (length bs == 0) ≡ true → exception_call kind (chars bs) ≡ kind ++ codes "()"

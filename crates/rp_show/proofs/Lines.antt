@@ -1,5 +1,5 @@
 -- What is written in parts, and how far the cells reach.
-use Rattle.std.proofs.Common.{◌≡◌, ℕ, zero, suc, ◌+◌, ◌≤◌, ◌<◌, Bool, true, false, cond, nat_lt, List, [], ◌∷◌, ◌++◌, length, drop, get_or, append_assoc, append-nil, length-append, encode_utf8_all, Result, Ok, Err, IsErrAnd, if◌then◌else◌, refl, sym, ap, ◌∙◌, subst, arith}
+use Rattle.std.proofs.Common.{◌≡◌, ℕ, suc, ◌+◌, ◌≤◌, ◌<◌, Bool, true, false, nat_lt, List, [], ◌∷◌, ◌++◌, length, drop, get_or, append_assoc, append-nil, length-append, encode_utf8_all, Result, Ok, Err, IsErrAnd, if◌then◌else◌, refl, sym, ap, ◌∙◌, subst, arith}
 use Rattle.std.specs.Prelude.{encode_utf8}
 use Rattle.std.proofs.lemmas.Bool.{le-ltb, lt-ltb}
 use Rattle.std.proofs.lemmas.List.{drop_more}
@@ -7,7 +7,7 @@ use Rattle.std.proofs.lemmas.Str.{encodes-append}
 use Rattle.rp_base.specs.declared.value.OpEnd.{OpEnd}
 use Rattle.rp_base.specs.declared.value.OpEnd.TheVariants as end
 use Rattle.rp_store.specs.Store.{Cells, IsOver}
-use Rattle.rp_ops.specs.Outcome.{End, Meets, State, Outcome, charged, ends, gives, no_cell, no_step, on_answer, on_value, state_of, stepped, with_used}
+use Rattle.rp_ops.specs.Outcome.{End, Meets, State, Outcome, ends, gives, no_cell, no_step, on_answer, on_value, state_of, stepped, with_used}
 use Rattle.rp_show.specs.Show.{enclosed, followed, told}
 use Rattle.rp_show.specs.ShowView.{Writes, added}
 

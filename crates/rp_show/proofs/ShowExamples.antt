@@ -1,9 +1,9 @@
--- Examples of how values are shown; the texts of containers are CPython's.
+-- Examples of how values are shown; the texts of containers are CPython's, but for an exception value with an empty text, which is shown
+-- as one that was made without a text.
 use Rattle.std.proofs.Common.{◌≡◌, ℕ, true, false, List, [], ◌∷◌, codes, Some, None, refl}
 use Rattle.std.specs.Char.{encode_utf8}
 use Rattle.rp_base.specs.declared.kind.Kind.TheVariants.{RecursionError, ValueError}
 use Rattle.rp_base.specs.declared.native.NativeId.TheVariants as native
-use Rattle.rp_base.specs.declared.value.Name.{Name}
 use Rattle.rp_base.specs.declared.value.Oid.{Oid}
 use Rattle.rp_base.specs.declared.value.Rock.TheVariants as rock
 use Rattle.rp_base.specs.declared.value.Side.{Side}

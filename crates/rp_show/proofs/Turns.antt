@@ -1,7 +1,6 @@
 -- What each part of a shown value writes.
-use Rattle.std.proofs.Common.{◌≡◌, ℕ, zero, suc, ◌+◌, ◌-◌, ◌<◌, ◌≤◌, Bool, true, false, ◌==◌, ◌||◌, if◌then◌else◌, List, [], ◌∷◌, ◌++◌, length, drop, map, reverse, get_or, slice_get, append_assoc, append-nil, Option, Some, None, option_map, Result, Ok, Err, refl, sym, ap, ◌∙◌, subst, arith}
+use Rattle.std.proofs.Common.{◌≡◌, ℕ, zero, suc, ◌+◌, ◌-◌, ◌<◌, ◌≤◌, Bool, true, false, ◌==◌, ◌||◌, if◌then◌else◌, List, [], ◌∷◌, ◌++◌, length, drop, map, reverse, slice_get, append-nil, Option, Some, None, option_map, Result, Err, refl, sym, ap, ◌∙◌, subst, arith}
 use Rattle.std.specs.Prelude.{codes}
-use Rattle.std.specs.List.{list_any}
 use Rattle.std.specs.Option.{option_map_or}
 use Rattle.std.proofs.lemmas.Bool.{ne_eqb}
 use Rattle.std.proofs.lemmas.List.{drop_all, reverse-append}
@@ -18,7 +17,7 @@ use Rattle.rp_store.specs.Object as object
 use Rattle.rp_store.specs.Object.{Content}
 use Rattle.rp_store.specs.Store.{Cells}
 use Rattle.rp_ops.specs.Depth.{deepest}
-use Rattle.rp_ops.specs.Outcome.{Meets, Outcome, Raises, State, ends, gives, no_step, on_value, raised, state_of, stepped}
+use Rattle.rp_ops.specs.Outcome.{Meets, Outcome, Raises, State, ends, gives, raised, state_of, stepped}
 use Rattle.rp_ops.specs.Refused.{raised_by}
 use Rattle.rp_ops.specs.declared.refusal.Refusal.TheVariants as refusal
 use Rattle.rp_show.specs.Show.{Showing, content_shown, cut_text, element, enclosed, entry, followed, further, is_among, object_shown, object_text, separated, show, shown, told}
@@ -26,7 +25,7 @@ use Rattle.rp_show.specs.Shown.{shown_inside}
 use Rattle.rp_show.specs.ShowView.{Writes, added, closing, container_shown, cut, element_item, entry_item, form_of, gap, inner, is_container, item, item_of, item_shown, items, items_at, key_text, opening, rest, rock_shown, turn, word_in}
 use Rattle.rp_show.specs.declared.form.Form.{Form}
 use Rattle.rp_show.specs.declared.item.Item.{Item}
-use Rattle.rp_show.proofs.Lines.{added-followed, added-nil, on_ok, passes, stepped-none, stepped-taken, told-append}
+use Rattle.rp_show.proofs.Lines.{added-nil, on_ok, passes, stepped-none, stepped-taken}
 
 -- the same, written otherwise
 pub Writes-as : (r : Result (Unit {0}) OpEnd) (m l : List ℕ) (t : State) (o p : Outcome (List ℕ)) → p ≡ o → Writes r m t (added l o) → Writes r m t (added l p)

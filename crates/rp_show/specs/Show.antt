@@ -1,5 +1,6 @@
 -- How values are shown (Python Standard Library, str and repr). Each character costs its bytes, in order, and each element within a
--- container a step before its text.
+-- container a step before its text. Other way: each part gives a text of its own, of which each character is charged, and the parts are
+-- joined; the code writes all into one line, and charges a part at once where all of it fits.
 use Rattle.std.specs.Prelude.{ℕ, zero, suc, ◌==◌, Bool, List, [], ◌∷◌, ◌++◌, length, codes, encode_utf8_all, Option, Some, None, if◌then◌else◌, slice_index_or}
 use Rattle.std.specs.List.{list_any}
 use Rattle.std.specs.Option.{option_map_or}

@@ -1,4 +1,4 @@
-ghost use Rattle.std.specs.Prelude.{◌≡◌, ◌++◌, ℕ, [], chars, length, option_map};
+ghost use Rattle.std.specs.Prelude.{◌≡◌, ◌++◌, ℕ, [], chars, option_map};
 ghost use Rattle.std.specs.Option.{option_map_or};
 ghost use Rattle.rp_ops.specs.Outcome.{state_of};
 ghost use Rattle.rp_store.specs.Heap.{content_at};

@@ -1,7 +1,12 @@
+ghost use Rattle.std.specs.Prelude.{List, IfOk};
+ghost use Rattle.rp_store.specs.Heap.{Owned};
+ghost use Rattle.rp_store.specs.Kept.{IsKept, IsSound};
+
 use crate::show;
 use crate::showing::show_at;
 use rp_base::{Kind, Memory, Meter, Name, Names, NativeId, Oid, OpEnd, Rock, Side, Text, Value};
 use rp_dict::Dict;
+use rp_ops::new_object;
 use rp_store::{Callee, Key, Object, Store};
 use std::alloc::Global;
 use std::test::Fail;
@@ -113,7 +118,7 @@ fn method(callee: Callee) -> Object {
     }
 }
 
-/// A class, an instance of it, functions, methods; at the places 12 to 18. The word of the name 52 is `index`.
+/// A class, an instance of it, functions, methods; at the places 12 to 17. The word of the name 52 is `index`.
 fn add_others(alloc: Global, store: &mut Store) -> Result<(), Memory> {
     add(
         store,
@@ -133,8 +138,7 @@ fn add_others(alloc: Global, store: &mut Store) -> Result<(), Memory> {
     add(store, function(alloc, Some(Name(52))))?;
     add(store, function(alloc, None))?;
     add(store, method(Callee::Function(Oid(14))))?;
-    add(store, method(Callee::Native(NativeId::Append)))?;
-    add(store, function(alloc, Some(Name(59))))
+    add(store, method(Callee::Native(NativeId::Append)))
 }
 
 fn made(alloc: Global, cells: u64) -> Result<Store, Memory> {
@@ -152,7 +156,8 @@ fn shown(alloc: Global, at: usize) -> Result<Text, OpEnd> {
     show_at(alloc, &mut store, &mut meter, &names, Oid(at))
 }
 
-// The texts of containers are CPython's.
+// The texts of containers are CPython's, but for an exception value with an empty text, which is shown as one that was
+// made without a text.
 #[test]
 fn objects_are_shown(rt: HostRuntime) {
     for (at, want) in [
@@ -174,8 +179,6 @@ fn objects_are_shown(rt: HostRuntime) {
         (15, "<function <lambda>>"),
         (16, "<method index>"),
         (17, "<method append>"),
-        (18, "<function >"),
-        (19, ""),
     ] {
         assert!(rt; is_text(&shown(rt.alloc(), at), want), "{want}");
     }
@@ -283,4 +286,73 @@ fn rocks_alone_cost_their_bytes_and_texts_nothing(rt: HostRuntime) -> Result<(),
         (Got::Text(14), 14)
     );
     Ok(())
+}
+
+fn of_rock(alloc: Global, rock: Rock) -> Result<Text, OpEnd> {
+    let mut store = Store::new(alloc, 20);
+    let mut meter = Meter { left: 0 };
+    let names = Names::new(alloc)?;
+    show(alloc, &mut store, &mut meter, &names, &Value::Rock(rock))
+}
+
+// All but the built-in function are shown as in CPython.
+#[test]
+fn rocks_alone_are_shown(rt: HostRuntime) -> Result<(), Fail> {
+    let alloc = rt.alloc();
+    for (rock, want) in [
+        (Rock::Nil, "None"),
+        (Rock::Truth(true), "True"),
+        (Rock::Truth(false), "False"),
+        (Rock::Int(-12), "-12"),
+        (Rock::Kind(Kind::ValueError), "<class 'ValueError'>"),
+        (Rock::Native(NativeId::Len), "<function len>"),
+    ] {
+        assert!(rt; is_text(&of_rock(alloc, rock), want), "{want}");
+    }
+    let text = of_rock(alloc, rock(alloc, "it's é")?);
+    assert!(rt; is_text(&text, "it's é"));
+    let value = of_rock(alloc, exception(alloc, "é'")?);
+    assert!(rt; is_text(&value, "é'"));
+    Ok(())
+}
+
+/// A store with the list of -1, and its place.
+fn with_list(alloc: Global) -> Result<(Store, Oid), OpEnd>
+    ensures kept { IfOk result (λ r. IsKept r.0.heap) }
+    ensures sound { IfOk result (λ r. IsSound r.0.heap (Value.Ref r.1)) }
+{
+    let mut store = Store::new(alloc, 9);
+    let mut elements = Vec::new(alloc);
+    elements
+        .push(Value::Rock(Rock::Int(-1)))
+        .map_err(Memory::from)?;
+    match new_object(&mut store, Side(0), Object::List(elements))? {
+        Value::Ref(at) => Ok((store, at)),
+        _ => Err(OpEnd::Memory),
+    }
+}
+
+/// A value that names the object at a place, lent or plainly.
+fn named(at: Oid, is_lent: bool) -> Value
+    ensures { (heap : List Owned) → IsSound heap (Value.Ref at) → IsSound heap result }
+{
+    if is_lent {
+        Value::Prox(at)
+    } else {
+        Value::Ref(at)
+    }
+}
+
+/// How `[-1]` is shown, with one step.
+fn of_list(alloc: Global, is_lent: bool) -> Result<Text, OpEnd> {
+    let (mut store, at) = with_list(alloc)?;
+    let mut meter = Meter { left: 1 };
+    let names = Names::new(alloc)?;
+    show(alloc, &mut store, &mut meter, &names, &named(at, is_lent))
+}
+
+#[test]
+fn plain_and_lent_lists_are_shown(rt: HostRuntime) {
+    assert!(rt; is_text(&of_list(rt.alloc(), false), "[-1]"));
+    assert!(rt; is_text(&of_list(rt.alloc(), true), "[-1]"));
 }

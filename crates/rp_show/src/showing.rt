@@ -1,4 +1,4 @@
-ghost use Rattle.std.specs.Prelude.{◌≡◌, ℕ, [], ◌∷◌, ◌++◌, OnOk, Some, option_map, reverse, slice_get, true};
+ghost use Rattle.std.specs.Prelude.{◌≡◌, ◌≤◌, ℕ, [], ◌∷◌, ◌++◌, OnOk, Some, option_map, reverse, slice_get, true};
 ghost use Rattle.rp_ops.specs.Depth.{deepest};
 ghost use Rattle.rp_ops.specs.Outcome.{Meets, state_of};
 ghost use Rattle.rp_store.specs.Heap.{content_at};
@@ -17,7 +17,7 @@ use rp_ops::{Refusal, step};
 use rp_store::Store;
 use std::alloc::Global;
 
-/// So many containers within one another are shown.
+/// At most so many containers within one another are shown.
 const DEEPEST: usize = 200;
 
 /// What is written so far, and the places of the containers around it, the outermost first.
@@ -42,12 +42,14 @@ impl Page {
 }
 
 /// A value as its text (Python Standard Library, str): a text itself, an exception value its text, all else as inside a
-/// container. Each character costs its bytes in cells, and each element within a container takes a step before its text.
+/// container. A text itself costs nothing; of all else each character costs its bytes in cells, and each element within a
+/// container takes a step before its text. No answer gives a step back.
 ///
 /// # Errors
-/// `Raised` with a `RecursionError` where more than 200 containers stand within one another, `StopSteps` where no step is
-/// left, `StopCells` at the first character that does not fit; what was charged before stays charged. `Memory` where a
-/// growth was refused.
+/// `Raised` with a `RecursionError` and the text `depth` at a container within 200 others that is none of them, `StopSteps`
+/// where no step is left, `StopCells` at the first character that does not fit; what was charged before stays charged.
+/// `Memory` where a growth was refused, where there is none for the text of the exception, or where the count of a text's
+/// owners is full.
 pub fn show(
     alloc: Global,
     store: &mut Store,
@@ -59,6 +61,7 @@ pub fn show(
     requires a { IsSound store.old.heap a.now }
     ensures plain { Meets result (state_of store.new meter.new.left) (show names.now a.now (state_of store.old meter.old.left)) }
     ensures same { store.new.heap ≡ store.old.heap }
+    ensures fewer { meter.new.left ≤ meter.old.left }
 {
     match a {
         Value::Rock(rock) => show_rock(alloc, store, rock),
@@ -107,6 +110,7 @@ pub(crate) fn show_at(
 ) -> Result<Text, OpEnd>
     ensures plain { Meets result (state_of store.new meter.new.left) (object_shown names.now (inner names.now deepest) [] at (state_of store.old meter.old.left)) }
     ensures same { store.new.heap ≡ store.old.heap }
+    ensures fewer { meter.new.left ≤ meter.old.left }
 {
     let mut page = Page::new(alloc);
     show_object(store, meter, names, &mut page, DEEPEST, at)?;
@@ -126,6 +130,7 @@ fn show_value(
 ) -> Result<(), OpEnd>
     ensures plain { Writes result page.new.line (state_of store.new meter.new.left) (added page.old.line (shown names.now left (reverse page.old.outer.items) value.now (state_of store.old meter.old.left))) }
     ensures same { store.new.heap ≡ store.old.heap }
+    ensures fewer { meter.new.left ≤ meter.old.left }
     ensures outer { OnOk result (page.new.outer.items ≡ page.old.outer.items) }
 {
     match value {
@@ -146,6 +151,7 @@ fn show_object(
 ) -> Result<(), OpEnd>
     ensures plain { Writes result page.new.line (state_of store.new meter.new.left) (added page.old.line (object_shown names.now (inner names.now left) (reverse page.old.outer.items) at (state_of store.old meter.old.left))) }
     ensures same { store.new.heap ≡ store.old.heap }
+    ensures fewer { meter.new.left ≤ meter.old.left }
     ensures outer { OnOk result (page.new.outer.items ≡ page.old.outer.items) }
 {
     match form_at(store, at) {
@@ -168,6 +174,7 @@ fn show_form(
     requires { option_map form_of (content_at store.old.heap at) ≡ Some form }
     ensures plain { Writes result page.new.line (state_of store.new meter.new.left) (added page.old.line (object_shown names.now (inner names.now left) (reverse page.old.outer.items) at (state_of store.old meter.old.left))) }
     ensures same { store.new.heap ≡ store.old.heap }
+    ensures fewer { meter.new.left ≤ meter.old.left }
     ensures outer { OnOk result (page.new.outer.items ≡ page.old.outer.items) }
 {
     if is_among(page.outer.as_slice(), at) {
@@ -200,6 +207,7 @@ fn show_container(
     requires container { is_container form ≡ true }
     ensures plain { Writes result page.new.line (state_of store.new meter.new.left) (added page.old.line (container_shown names.now left (at ∷ reverse page.old.outer.items) at (state_of store.old meter.old.left))) }
     ensures same { store.new.heap ≡ store.old.heap }
+    ensures fewer { meter.new.left ≤ meter.old.left }
     ensures outer { OnOk result (page.new.outer.items ≡ page.old.outer.items) }
 {
     if left == 0 {
@@ -232,6 +240,7 @@ fn show_items(
 ) -> Result<(), OpEnd>
     ensures plain { Writes result page.new.line (state_of store.new meter.new.left) (added page.old.line (separated (item_of names.now left (reverse page.old.outer.items)) (items_at store.old.heap at) (state_of store.old meter.old.left))) }
     ensures same { store.new.heap ≡ store.old.heap }
+    ensures fewer { meter.new.left ≤ meter.old.left }
     ensures outer { OnOk result (page.new.outer.items ≡ page.old.outer.items) }
 {
     for i in 0..item_count(store, at) {
@@ -252,6 +261,7 @@ fn show_item(
 ) -> Result<(), OpEnd>
     ensures plain { Writes result page.new.line (state_of store.new meter.new.left) (added page.old.line (item_shown names.now left (reverse page.old.outer.items) i (slice_get (items_at store.old.heap at) i) (state_of store.old meter.old.left))) }
     ensures same { store.new.heap ≡ store.old.heap }
+    ensures fewer { meter.new.left ≤ meter.old.left }
     ensures outer { OnOk result (page.new.outer.items ≡ page.old.outer.items) }
 {
     match item_at(store, at, i)? {
@@ -273,6 +283,7 @@ fn show_turn(
 ) -> Result<(), OpEnd>
     ensures plain { Writes result page.new.line (state_of store.new meter.new.left) (added page.old.line (turn (item_of names.now left (reverse page.old.outer.items)) i item (state_of store.old meter.old.left))) }
     ensures same { store.new.heap ≡ store.old.heap }
+    ensures fewer { meter.new.left ≤ meter.old.left }
     ensures outer { OnOk result (page.new.outer.items ≡ page.old.outer.items) }
 {
     separate(store, &mut page.line, i)?;

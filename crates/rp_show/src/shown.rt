@@ -4,6 +4,7 @@ ghost use Rattle.std.specs.Fmt.{signed_decimal};
 ghost use Rattle.rp_base.specs.Kind.{kind_name};
 ghost use Rattle.rp_show.specs.Shown.{escaped, escaped_all, exception_call, hex_escape, holds, is_control, quote_of, quoted, shown_inside};
 
+use itoa::Buffer;
 use rp_base::{Kind, Memory, Rock, Text};
 use std::alloc::Global;
 use std::marker::Model;
@@ -30,7 +31,7 @@ pub fn shown_inside(alloc: Global, rock: &Rock) -> Result<Text, Memory>
     ensures { IfOk result (λ t. t ≡ shown_inside rock.now) }
 {
     let mut shown = Shown::new(alloc);
-    shown.add_rock(alloc, rock)?;
+    shown.add_rock(rock)?;
     Text::new(alloc, shown.as_str())
 }
 
@@ -71,14 +72,14 @@ impl Shown {
     }
 
     #[tactic(auto, using(crate::proofs::Escapes::names))]
-    pub(crate) fn add_rock(&mut self, alloc: Global, rock: &Rock) -> Result<(), Memory>
+    pub(crate) fn add_rock(&mut self, rock: &Rock) -> Result<(), Memory>
         ensures { OnOk result (self.new ≡ self.old ++ shown_inside rock.now) }
     {
         match rock {
             Rock::Nil => self.add("None"),
             Rock::Truth(true) => self.add("True"),
             Rock::Truth(false) => self.add("False"),
-            Rock::Int(n) => self.add_number(alloc, *n),
+            Rock::Int(n) => self.add_number(*n),
             Rock::Text(text) => self.add_quoted(text.as_str()),
             Rock::Exc(kind, text) => self.add_exception(*kind, text.as_str()),
             Rock::Kind(kind) => self.add_around("<class '", kind.as_str(), "'>"),
@@ -86,11 +87,10 @@ impl Shown {
         }
     }
 
-    fn add_number(&mut self, alloc: Global, n: i64) -> Result<(), Memory>
+    fn add_number(&mut self, n: i64) -> Result<(), Memory>
         ensures { OnOk result (self.new ≡ self.old ++ signed_decimal n) }
     {
-        let text = format!(in alloc; "{n}")?;
-        self.add(text.as_str())
+        self.add(Buffer::new().format(n))
     }
 
     fn add_around(&mut self, before: &str, text: &str, behind: &str) -> Result<(), Memory>

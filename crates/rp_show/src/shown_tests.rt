@@ -24,7 +24,8 @@ fn is_exception_shown(alloc: Global, kind: Kind, text: &str, want: &str) -> bool
     }
 }
 
-// The wanted texts are those of CPython's repr.
+// The wanted texts are those of CPython's repr, but for an exception value with an empty text, which is shown as one that
+// was made without a text, and for built-in functions.
 
 #[test]
 fn texts_stand_in_quotes(rt: HostRuntime) {

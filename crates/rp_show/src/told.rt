@@ -73,7 +73,7 @@ pub(crate) fn tell_rock(
     ensures same { store.new.heap ≡ store.old.heap }
 {
     let before = line.len();
-    line.add_rock(alloc, rock)?;
+    line.add_rock(rock)?;
     if takes(store, (line.len() - before) as u64) {
         return Ok(());
     }

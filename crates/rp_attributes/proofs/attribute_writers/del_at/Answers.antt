@@ -1,8 +1,8 @@
-use Rattle.std.proofs.Common.{◌≡◌, ℕ, chars, sym, subst, ap, ◌∙◌}
+use Rattle.std.proofs.Common.{chars, sym, subst, ap, ◌∙◌}
 use Rattle.rp_store.specs.Kept.{IsKept}
 use Rattle.rp_store.specs.Store.{Cells}
 use Rattle.rp_store.specs.Writers.{without_field}
-use Rattle.rp_ops.specs.Outcome.{Meets, Outcome, gives, state_of}
+use Rattle.rp_ops.specs.Outcome.{gives, state_of}
 use Rattle.rp_ops.specs.Shape.{KeepsShape}
 use Rattle.rp_ops.proofs.Shapes.{KeepsShape-changed}
 use Rattle.rp_attributes.proofs.FieldShapes.{IsKept-without_field, shapely_without_field}

@@ -1,13 +1,19 @@
-use Rattle.std.proofs.Common.{◌≡◌, chars, sym, subst}
+use Rattle.std.proofs.Common.{◌∙◌, ap, chars, sym, subst}
 use Rattle.rp_base.specs.declared.value.Value.{Value}
 use Rattle.rp_store.specs.Kept.{IsSound}
 use Rattle.rp_store.specs.Object.{content_of}
 use Rattle.rp_store.specs.Parts.{IsScope}
-use Rattle.rp_ops.specs.Outcome.{Meets, Outcome, state_of}
+use Rattle.rp_ops.specs.Outcome.{Meets, Outcome, gives, state_of}
 use Rattle.rp_ops.proofs.Growth.{IsHeld-Names}
 use Rattle.rp_attributes.proofs.Found.{IsSound-field}
-use Rattle.rp_attributes.proofs.Places.{attribute_at-method}
+use Rattle.rp_attributes.proofs.Places.{attribute_at-field, attribute_at-method}
 use Rattle.rp_attributes.proofs.attributes.attribute_at.Goals as goal
+
+pub returns-in-Some-clause-plain : goal.returns-in-Some-clause-plain
+returns-in-Some-clause-plain c =
+    (λ steps. let s = state_of c.args.store.now steps in
+    attribute_at-field c.args.at c.args.name (chars c.args.word.now) s (content_of c.object.result.now) c.in-Some.value.now c.object.ensures (sym c.in-Some.ensures)
+    ∙ ap (λ (v : Value). gives v s) (sym c.in_ok-copy.ensures))
 
 pub returns-in-Some-clause-sound : goal.returns-in-Some-clause-sound
 returns-in-Some-clause-sound c =

@@ -1,4 +1,4 @@
-use Rattle.std.proofs.Common.{◌∙◌, ap, sym}
+use Rattle.std.proofs.Common.{sym}
 use Rattle.rp_store.specs.Object.{content_of}
 use Rattle.rp_attributes.proofs.Found.{IsFunction-method}
 use Rattle.rp_attributes.proofs.methods.class_method.Goals as goal

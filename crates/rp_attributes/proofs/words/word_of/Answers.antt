@@ -1,4 +1,4 @@
-use Rattle.std.proofs.Common.{◌≡◌, arith, sym, ◌∙◌, []}
+use Rattle.std.proofs.Common.{arith, sym, ◌∙◌, []}
 use Rattle.std.proofs.lemmas.List.{get_or_past}
 use Rattle.std.proofs.lemmas.Str.{chars-nil}
 use Rattle.rp_attributes.proofs.words.word_of.Goals as goal

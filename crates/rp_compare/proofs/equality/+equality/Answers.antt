@@ -1,4 +1,4 @@
-use Rattle.std.proofs.Common.{◌≡◌, ℕ, ◌+◌, ◌<◌, Bool, true, false, length, Option, Some, None, drop, slice_get, subst, sym, ap, ◌∙◌, arith, rules}
+use Rattle.std.proofs.Common.{◌+◌, ◌<◌, true, false, length, Some, None, drop, sym, ap, ◌∙◌, arith, rules}
 use Rattle.std.proofs.lemmas.Option.{slice_get_within}
 use Rattle.std.proofs.lemmas.Slice.Zip.{Zip-more, either_empty_from_Zip}
 use Rattle.std.specs.Iterator.Adapters.{zip_first, zip_second}
@@ -7,9 +7,9 @@ use Rattle.std.specs.Slice.Iter.{iter_rest}
 use Rattle.rp_base.specs.declared.meter.Meter.{Meter}
 use Rattle.rp_store.specs.Key.{same_key}
 use Rattle.rp_store.specs.Kept.{IsSound}
-use Rattle.rp_ops.specs.Outcome.{Meets, Outcome, state_of}
-use Rattle.rp_compare.specs.Equality.{elements_equal, dicts_equal, entries_equal, entry_equal, equal, pairs_equal}
-use Rattle.rp_compare.proofs.Rounds.{AreSound-rest, IsSound-entry, IsSound-found, elements-walked, entries-end, entries-next, entries-passed, entries-stopped, entries-turn, entries-walked, entry-at, entry-missing, goes_on, looked-up, none-at, on_answered, pairs-end, pairs-next}
+use Rattle.rp_ops.specs.Outcome.{state_of}
+use Rattle.rp_compare.specs.Equality.{dicts_equal, entries_equal, equal, pairs_equal}
+use Rattle.rp_compare.proofs.Rounds.{AreSound-rest, IsSound-entry, IsSound-found, elements-walked, entries-end, entries-next, entries-passed, entries-stopped, entries-turn, entries-walked, entry-at, entry-missing, looked-up, none-at, on_answered, pairs-end, pairs-next}
 use Rattle.rp_compare.proofs.equality.+equality.Goals as goal
 
 pub equal_elements-loop-x-preserved : goal.equal_elements-loop-x-preserved
@@ -29,19 +29,20 @@ equal_elements-loop-x-preserved t c =
           ∙ pairs-next same (iter_rest (zip_first c.loop-x.x-iterator)) (iter_rest (zip_second c.loop-x.x-iterator)) more others c.in-Some.x.now c.in-Some.y.now store
           c.loop-x.meter.left c.step.new.meter.left fronts.0 fronts.1 c.in_ok-step.ensures.taken
           ∙ on_answered (pairs_equal same more others) (same c.in-Some.x.now c.in-Some.y.now (state_of store c.step.new.meter.left)) c.in_ok-equal_values.field-0 true
-          (state_of store c.equal_values.new.meter.left) c.in_ok-equal_values.ensures c.if-not-branch.false;
+          (state_of store c.equal_values.new.meter.left) c.in_ok-equal_values.ensures.plain c.if-not-branch.false;
+      fewer = omega (arith, c.loop-x.invariant.fewer, c.in_ok-step.ensures.taken, c.equal_values.ensures.fewer);
     }
 
-pub equal_elements-returns : goal.equal_elements-returns
-equal_elements-returns t c =
+pub equal_elements-returns-clause-plain : goal.equal_elements-returns-clause-plain
+equal_elements-returns-clause-plain t c =
     let same = equal c.args.depth in
     elements-walked same c.args.xs.now c.args.ys.now (state_of c.args.store.now c.args.meter.now.left) c.if-xs-ys.false
     ∙ c.loop-x.invariant.same
     ∙ pairs-end same (iter_rest (zip_first c.loop-x.x-iterator)) (iter_rest (zip_second c.loop-x.x-iterator)) (state_of c.args.store.now c.loop-x.meter.left)
     (either_empty_from_Zip c.loop-x.x-iterator c.next.new.self c.next.result c.in-None.is c.next.ensures.steps)
 
-pub equal_entries-returns-in_default-get : goal.equal_entries-returns-in_default-get
-equal_entries-returns-in_default-get t c =
+pub equal_entries-returns-in_default-get-clause-plain : goal.equal_entries-returns-in_default-get-clause-plain
+equal_entries-returns-in_default-get-clause-plain t c =
     let same = equal c.args.depth in
     let at = entry-at c.args.es.now c.loop-key.i c.at.result c.in-Some.key c.in-Some.field-0-1 c.at.ensures.pair c.in-Some.is in
     let now = state_of c.args.store.now c.loop-key.meter.left in
@@ -51,8 +52,8 @@ equal_entries-returns-in_default-get t c =
     ∙ entry-missing same c.in-Some.field-0-1.now.1 (lookup (same_key c.in-Some.key.now) c.args.fs.now) now (entries_equal same (drop (c.loop-key.i + 1) c.args.es.now) c.args.fs.now)
     (looked-up c.args.fs.now c.in-Some.key.now c.get.result None c.get.ensures.value c.in_default-get.is)
 
-pub equal_entries-returns-in_err-step : goal.equal_entries-returns-in_err-step
-equal_entries-returns-in_err-step t c =
+pub equal_entries-returns-in_err-step-clause-plain : goal.equal_entries-returns-in_err-step-clause-plain
+equal_entries-returns-in_err-step-clause-plain t c =
     let same = equal c.args.depth in
     let store = c.args.store.now in
     let es = c.args.es.now in
@@ -72,8 +73,8 @@ equal_entries-equal_values-requires t c =
     (looked-up c.args.fs.now c.in-Some.key.now c.get.result (Some c.in-Some-get.field-0) c.get.ensures.value c.in-Some-get.is) in
     (search rules, (c.requires.kept, (left, right)))
 
-pub equal_entries-returns-in_err-equal_values : goal.equal_entries-returns-in_err-equal_values
-equal_entries-returns-in_err-equal_values t c =
+pub equal_entries-returns-in_err-equal_values-clause-plain : goal.equal_entries-returns-in_err-equal_values-clause-plain
+equal_entries-returns-in_err-equal_values-clause-plain t c =
     let same = equal c.args.depth in
     let store = c.args.store.now in
     let es = c.args.es.now in
@@ -82,10 +83,10 @@ equal_entries-returns-in_err-equal_values t c =
     let found = looked-up fs c.in-Some.key.now c.get.result (Some c.in-Some-get.field-0) c.get.ensures.value c.in-Some-get.is in
     let walked = entries-walked same es fs (state_of store c.args.meter.now.left) (sym c.len.ensures.value ∙ c.if-len.false ∙ c.len-2.ensures.value) ∙ c.loop-key.invariant.same in
     entries-passed c.from_residual-in_err-equal_values.result c.in_err-equal_values.field-0.0 (dicts_equal same es fs (state_of store c.args.meter.now.left)) same es fs c.loop-key.i (c.in-Some.key.now, c.in-Some.field-0-1.now) c.in-Some-get.field-0.now store
-    c.loop-key.meter.left c.step.new.meter.left c.equal_values.new.meter.left at found c.in_ok-step.ensures.taken c.from_residual-in_err-equal_values.ensures.1 c.in_err-equal_values.ensures walked
+    c.loop-key.meter.left c.step.new.meter.left c.equal_values.new.meter.left at found c.in_ok-step.ensures.taken c.from_residual-in_err-equal_values.ensures.1 c.in_err-equal_values.ensures.plain walked
 
-pub equal_entries-returns-then-not-branch : goal.equal_entries-returns-then-not-branch
-equal_entries-returns-then-not-branch t c =
+pub equal_entries-returns-then-not-branch-clause-plain : goal.equal_entries-returns-then-not-branch-clause-plain
+equal_entries-returns-then-not-branch-clause-plain t c =
     let same = equal c.args.depth in
     let store = c.args.store.now in
     let es = c.args.es.now in
@@ -96,7 +97,7 @@ equal_entries-returns-then-not-branch t c =
     ∙ c.loop-key.invariant.same
     ∙ entries-turn same es fs c.loop-key.i (c.in-Some.key.now, c.in-Some.field-0-1.now) c.in-Some-get.field-0.now store c.loop-key.meter.left c.step.new.meter.left at found c.in_ok-step.ensures.taken
     ∙ on_answered (entries_equal same (drop (c.loop-key.i + 1) es) fs) (same c.in-Some.field-0-1.now.1 c.in-Some-get.field-0.now.1 (state_of store c.step.new.meter.left)) c.in_ok-equal_values.field-0 false
-    (state_of store c.equal_values.new.meter.left) c.in_ok-equal_values.ensures c.if-not-branch.true
+    (state_of store c.equal_values.new.meter.left) c.in_ok-equal_values.ensures.plain c.if-not-branch.true
 
 pub equal_entries-loop-key-smaller : goal.equal_entries-loop-key-smaller
 equal_entries-loop-key-smaller t c =
@@ -119,11 +120,12 @@ equal_entries-loop-key-preserved t c =
           c.loop-key.invariant.same
           ∙ entries-turn same es fs c.loop-key.i (c.in-Some.key.now, c.in-Some.field-0-1.now) c.in-Some-get.field-0.now store c.loop-key.meter.left c.step.new.meter.left at found c.in_ok-step.ensures.taken
           ∙ on_answered (entries_equal same (drop (c.loop-key.i + 1) es) fs) (same c.in-Some.field-0-1.now.1 c.in-Some-get.field-0.now.1 (state_of store c.step.new.meter.left)) c.in_ok-equal_values.field-0 true
-          (state_of store c.equal_values.new.meter.left) c.in_ok-equal_values.ensures c.if-not-branch.false;
+          (state_of store c.equal_values.new.meter.left) c.in_ok-equal_values.ensures.plain c.if-not-branch.false;
+      fewer = omega (arith, c.loop-key.invariant.fewer, c.in_ok-step.ensures.taken, c.equal_values.ensures.fewer);
     }
 
-pub equal_entries-returns : goal.equal_entries-returns
-equal_entries-returns t c =
+pub equal_entries-returns-clause-plain : goal.equal_entries-returns-clause-plain
+equal_entries-returns-clause-plain t c =
     let same = equal c.args.depth in
     entries-walked same c.args.es.now c.args.fs.now (state_of c.args.store.now c.args.meter.now.left) (sym c.len.ensures.value ∙ c.if-len.false ∙ c.len-2.ensures.value)
     ∙ c.loop-key.invariant.same

@@ -1,4 +1,4 @@
-use Rattle.std.proofs.Common.{◌≡◌, ℕ, ◌+◌, ◌-◌, ◌*◌, ◌≤◌, length, drop}
+use Rattle.std.proofs.Common.{◌≡◌, ◌+◌, ◌-◌, ◌*◌, ◌≤◌, length, drop}
 use Rattle.std.specs.Slice.Iter.{iter_rest}
 use Rattle.std.specs.Iterator.Adapters.{zip_first, zip_second}
 use Rattle.rp_store.specs.Kept.{AreSound}
@@ -27,12 +27,14 @@ invariant-equal_elements-loop-x l = record {
   left : AreSound l.store.heap (iter_rest (zip_first l.x-iterator));
   right : AreSound l.store.heap (iter_rest (zip_second l.x-iterator));
   same : pairs_equal (equal l.depth) l.xs l.ys (state_of l.store l.initial.meter.left) ≡ pairs_equal (equal l.depth) (iter_rest (zip_first l.x-iterator)) (iter_rest (zip_second l.x-iterator)) (state_of l.store l.meter.left);
+  fewer : l.meter.left ≤ l.initial.meter.left;
 }
 
 abbrev pub invariant-equal_entries-loop-key : goal.invariant-equal_entries-loop-key
 invariant-equal_entries-loop-key l = record {
   within : l.i ≤ length l.es;
   same : entries_equal (equal l.depth) l.es l.fs (state_of l.store l.initial.meter.left) ≡ entries_equal (equal l.depth) (drop l.i l.es) l.fs (state_of l.store l.meter.left);
+  fewer : l.meter.left ≤ l.initial.meter.left;
 }
 
 abbrev pub decreases-equal_entries-loop-key : goal.decreases-equal_entries-loop-key

@@ -1,4 +1,4 @@
-use Rattle.std.proofs.Common.{◌≡◌, Bool, ap, refl, sym, ◌∙◌, is_some}
+use Rattle.std.proofs.Common.{Bool, ap, refl, sym, ◌∙◌, is_some}
 use Rattle.rp_ops.specs.Outcome.{gives}
 use Rattle.rp_compare.proofs.Rounds.{looked-up}
 use Rattle.rp_compare.proofs.Sought.{is_some-copied, key-sought}

@@ -4,7 +4,7 @@ use Rattle.rp_store.specs.Heap.{Names, Owned}
 use Rattle.rp_store.specs.Kept.{IsKept, IsSound}
 use Rattle.rp_store.specs.Parts.{IsList}
 use Rattle.rp_ops.specs.Inplace.{extends}
-use Rattle.rp_ops.specs.Outcome.{Meets, Outcome, State, on_value, state_of}
+use Rattle.rp_ops.specs.Outcome.{Meets, Outcome, on_value, state_of}
 use Rattle.rp_ops.specs.Shape.{KeepsShape}
 use Rattle.rp_ops.specs.View.{grows}
 use Rattle.rp_ops.specs.Walk.{elements}

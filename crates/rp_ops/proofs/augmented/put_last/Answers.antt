@@ -1,5 +1,5 @@
-use Rattle.std.proofs.Common.{◌≡◌, List, subst, sym}
-use Rattle.rp_store.specs.Heap.{Owned, changed_at}
+use Rattle.std.proofs.Common.{subst, sym}
+use Rattle.rp_store.specs.Heap.{changed_at}
 use Rattle.rp_store.specs.Kept.{IsKept, IsSound}
 use Rattle.rp_store.specs.Store.{Cells}
 use Rattle.rp_store.specs.Writers.{extended}

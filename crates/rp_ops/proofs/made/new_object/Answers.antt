@@ -1,10 +1,9 @@
-use Rattle.std.proofs.Common.{◌≡◌, sym, subst, ap}
+use Rattle.std.proofs.Common.{sym, subst, ap}
 use Rattle.rp_base.specs.declared.value.Value.TheVariants as value
 use Rattle.rp_store.specs.Heap.{Owned}
 use Rattle.rp_store.specs.Kept.{IsKept, IsSound}
 use Rattle.rp_store.specs.Object.{content_of}
 use Rattle.rp_store.specs.Store.{Cells}
-use Rattle.rp_ops.specs.Shape.{KeepsShape}
 use Rattle.rp_ops.proofs.Growth.{IsKept-last, IsSound-last}
 use Rattle.rp_ops.proofs.Shapes.{KeepsShape-grown}
 use Rattle.rp_ops.proofs.made.new_object.Goals as goal

@@ -1,11 +1,8 @@
-use Rattle.std.proofs.Common.{◌≡◌, ◌++◌, List, [], ◌∷◌, ◌∙◌, ap, subst, sym}
+use Rattle.std.proofs.Common.{◌∙◌, ap, subst, sym}
 use Rattle.rp_base.specs.declared.value.Value.TheVariants as value
-use Rattle.rp_store.specs.Heap.{Owned}
 use Rattle.rp_store.specs.Kept.{IsKept, IsSound}
-use Rattle.rp_store.specs.Object.{Content}
 use Rattle.rp_store.specs.Store.{Cells, added}
 use Rattle.rp_ops.proofs.Growth.{IsKept-sequence, IsSound-sequence}
-use Rattle.rp_ops.specs.View.{sequence_of}
 use Rattle.rp_ops.proofs.sequences.add.Goals as goal
 
 pub returns-clause-kept : goal.returns-clause-kept

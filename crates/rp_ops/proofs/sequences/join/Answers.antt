@@ -1,7 +1,6 @@
-use Rattle.std.proofs.Common.{◌≡◌, ◌++◌, List, ◌∙◌, ap, sym, subst}
+use Rattle.std.proofs.Common.{◌++◌, sym, subst}
 use Rattle.std.proofs.lemmas.List.Elements.{All-append, All-same}
-use Rattle.rp_base.specs.declared.value.Value.{Value}
-use Rattle.rp_store.specs.Kept.{AreSound, IsSound, IsKept}
+use Rattle.rp_store.specs.Kept.{IsSound, IsKept}
 use Rattle.rp_store.specs.Store.{Cells}
 use Rattle.rp_ops.specs.View.{elements_of}
 use Rattle.rp_ops.proofs.Growth.{AreSound-elements}

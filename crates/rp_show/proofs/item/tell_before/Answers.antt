@@ -1,7 +1,7 @@
-use Rattle.std.proofs.Common.{◌≡◌, List, ℕ, sym, ap, ◌∙◌, subst}
+use Rattle.std.proofs.Common.{List, ℕ, sym, subst}
 use Rattle.std.specs.Prelude.{codes}
 use Rattle.std.specs.Str.{chars}
-use Rattle.rp_ops.specs.Outcome.{Outcome, Meets, state_of}
+use Rattle.rp_ops.specs.Outcome.{Outcome, state_of}
 use Rattle.rp_show.specs.Show.{told}
 use Rattle.rp_show.specs.Shown.{shown_inside}
 use Rattle.rp_show.specs.ShowView.{Writes, added, before_value}

@@ -1,4 +1,4 @@
-use Rattle.std.proofs.Common.{◌≡◌, chars, ap, ◌∙◌}
+use Rattle.std.proofs.Common.{chars, ap, ◌∙◌}
 use Rattle.rp_show.proofs.Escapes.{chars-native}
 use Rattle.rp_show.proofs.named.callee_word.Goals as goal
 

@@ -1,4 +1,4 @@
-use Rattle.std.proofs.Common.{◌≡◌, ◌≤◌, [], length, arith, sym, ◌∙◌}
+use Rattle.std.proofs.Common.{◌≤◌, [], length, arith, sym, ◌∙◌}
 use Rattle.std.proofs.lemmas.Str.{chars-nil}
 use Rattle.std.proofs.lemmas.List.{get_or_past}
 use Rattle.rp_show.proofs.named.word.Goals as goal

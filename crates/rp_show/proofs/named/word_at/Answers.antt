@@ -1,4 +1,4 @@
-use Rattle.std.proofs.Common.{◌≡◌, [], Option, ap, ◌∙◌}
+use Rattle.std.proofs.Common.{[], Option, ap, ◌∙◌}
 use Rattle.std.specs.Option.{option_map_or}
 use Rattle.std.proofs.lemmas.Str.{chars-nil}
 use Rattle.rp_store.specs.Object.{Content}

@@ -1,4 +1,3 @@
-use Rattle.std.proofs.Common.{◌≡◌}
 use Rattle.std.proofs.lemmas.Str.{chars-nil}
 use Rattle.rp_show.proofs.named.word_in.Goals as goal
 

@@ -1,13 +1,11 @@
-use Rattle.std.proofs.Common.{◌≡◌, ℕ, List, ◌∷◌, ◌+◌, ◌-◌, ◌<◌, ◌≤◌, Bool, true, false, Some, None, Err, arith, chars, drop, length, reverse, slice_get, sym, ap, ◌∙◌, subst}
+use Rattle.std.proofs.Common.{ℕ, List, ◌∷◌, ◌-◌, ◌<◌, ◌≤◌, true, false, Err, arith, chars, length, reverse, slice_get, sym, ap, ◌∙◌, subst}
 use Rattle.rp_base.specs.declared.value.Oid.{Oid}
 use Rattle.rp_base.specs.declared.value.Value.{Value}
-use Rattle.rp_store.specs.Store.{Cells}
 use Rattle.rp_ops.specs.Outcome.{Meets, Outcome, State, state_of}
-use Rattle.rp_show.specs.Show.{enclosed, is_among, object_shown, separated, shown, told}
-use Rattle.rp_show.specs.Shown.{shown_inside}
-use Rattle.rp_show.specs.ShowView.{Writes, added, closing, container_shown, cut, inner, item_of, item_shown, items_at, opening, rest, turn, word_in}
+use Rattle.rp_show.specs.Show.{enclosed, is_among, separated, shown, told}
+use Rattle.rp_show.specs.ShowView.{Writes, added, closing, container_shown, cut, item_of, items_at, opening, turn}
 use Rattle.rp_show.proofs.Lines.{enclosed-first, enclosed-on, enclosed-second, stops}
-use Rattle.rp_show.proofs.Turns.{Writes-as, among-reverse, at_place, container-deep, container-named, container-parts, inside-same, item-same, nothing_at, object-cut, object-none, object-on, raises_depth, rest-end, rest-on, rest-stops, shown-prox, shown-ref, shown-rock, some-before, turn-gap_stops, turn-key_stops, turn-on, turn-step_stops}
+use Rattle.rp_show.proofs.Turns.{among-reverse, at_place, container-deep, container-named, container-parts, inside-same, item-same, nothing_at, object-cut, object-none, object-on, raises_depth, rest-end, rest-on, rest-stops, shown-prox, shown-ref, shown-rock, some-before, turn-gap_stops, turn-key_stops, turn-on, turn-step_stops}
 use Rattle.rp_show.proofs.showing.+show.Goals as goal
 
 -- ---- values
@@ -180,6 +178,7 @@ show_items-loop-i-preserved t c =
           ∙ rest-on names c.args.left (reverse old) l.i xs l.page.line c.show_item.new.page.line s (state_of c.show_item.new.store c.show_item.new.meter.left) lt
           (sym (ap (added l.page.line) (item-same names c.args.left l.i l.page.outer.items old l.store.heap c.args.store.now.heap c.args.at s l.invariant.outer l.invariant.same)) ∙ c.in_ok-show_item.ensures.plain);
       same = c.show_item.ensures.same ∙ l.invariant.same;
+      fewer = omega (arith, c.show_item.ensures.fewer, l.invariant.fewer);
       outer = c.in_ok-show_item.ensures.outer ∙ l.invariant.outer;
     }
 

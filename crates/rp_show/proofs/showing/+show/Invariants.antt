@@ -1,4 +1,4 @@
-use Rattle.std.proofs.Common.{◌≡◌, ◌+◌, ◌*◌, drop, reverse}
+use Rattle.std.proofs.Common.{◌≡◌, ◌≤◌, ◌+◌, ◌*◌, drop, reverse}
 use Rattle.rp_ops.specs.Outcome.{state_of}
 use Rattle.rp_show.specs.Show.{separated}
 use Rattle.rp_show.specs.ShowView.{added, item_of, items_at, rest}
@@ -33,5 +33,6 @@ invariant-show_items-loop-i l = record {
   plain : added l.fn.page.line (separated (item_of l.names l.left (reverse l.fn.page.outer.items)) (items_at l.fn.store.heap l.at) (state_of l.fn.store l.fn.meter.left))
       ≡ added l.page.line (rest (item_of l.names l.left (reverse l.fn.page.outer.items)) l.i (drop l.i (items_at l.fn.store.heap l.at)) (state_of l.store l.meter.left));
   same : l.store.heap ≡ l.fn.store.heap;
+  fewer : l.meter.left ≤ l.fn.meter.left;
   outer : l.page.outer.items ≡ l.fn.page.outer.items;
 }

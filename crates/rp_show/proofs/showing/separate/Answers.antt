@@ -1,4 +1,4 @@
-use Rattle.std.proofs.Common.{◌≡◌, ℕ, List, sym, subst}
+use Rattle.std.proofs.Common.{ℕ, List, sym, subst}
 use Rattle.std.specs.Str.{chars}
 use Rattle.rp_ops.specs.Outcome.{state_of}
 use Rattle.rp_show.specs.Show.{told}

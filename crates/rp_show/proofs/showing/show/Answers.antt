@@ -1,4 +1,4 @@
-use Rattle.std.proofs.Common.{◌≡◌, ℕ, List, sym, ap, ◌∙◌, subst}
+use Rattle.std.proofs.Common.{ℕ, List, sym, ap, ◌∙◌, subst}
 use Rattle.rp_base.specs.declared.value.Value.{Value}
 use Rattle.rp_ops.specs.Outcome.{Meets, Outcome, state_of}
 use Rattle.rp_show.specs.Show.{show}

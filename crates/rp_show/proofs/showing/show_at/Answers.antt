@@ -1,9 +1,9 @@
-use Rattle.std.proofs.Common.{◌≡◌, ℕ, List, [], Err, reverse, sym, ap, ◌∙◌, subst}
+use Rattle.std.proofs.Common.{ℕ, List, [], Err, reverse, sym, ap, ◌∙◌, subst}
 use Rattle.rp_base.specs.declared.value.Oid.{Oid}
 use Rattle.rp_ops.specs.Depth.{deepest}
 use Rattle.rp_ops.specs.Outcome.{Meets, Outcome, gives, state_of}
 use Rattle.rp_show.specs.Show.{object_shown}
-use Rattle.rp_show.specs.ShowView.{added, inner}
+use Rattle.rp_show.specs.ShowView.{inner}
 use Rattle.rp_show.proofs.Lines.{alone, text_stops}
 use Rattle.rp_show.proofs.showing.show_at.Goals as goal
 

@@ -1,4 +1,4 @@
-use Rattle.std.proofs.Common.{◌≡◌, chars, encode_utf8_all, length, sym, ap, subst}
+use Rattle.std.proofs.Common.{chars, length, sym, ap, subst}
 use Rattle.std.proofs.lemmas.Str.{encodes-chars}
 use Rattle.rp_store.specs.Store.{Cells}
 use Rattle.rp_ops.specs.Outcome.{state_of}

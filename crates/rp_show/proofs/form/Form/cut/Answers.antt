@@ -1,5 +1,5 @@
 use Rattle.std.specs.Str.{chars}
-use Rattle.std.proofs.Common.{◌≡◌, refl, true, false}
+use Rattle.std.proofs.Common.{refl}
 use Rattle.rp_show.proofs.form.Form.cut.Goals as goal
 
 pub returns-in-List : goal.returns-in-List

@@ -1,4 +1,4 @@
-use Rattle.std.proofs.Common.{◌≡◌, encode_utf8_all, length, string_bytes, sym, ap, ◌∙◌}
+use Rattle.std.proofs.Common.{encode_utf8_all, length, string_bytes, sym, ap, ◌∙◌}
 use Rattle.std.proofs.lemmas.Str.{encodes-chars, IsUtf8-string_bytes}
 use Rattle.rp_show.proofs.shown.Shown.len.Goals as goal
 
