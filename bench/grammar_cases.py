@@ -1,8 +1,8 @@
 """Which texts CPython's own parser accepts: the answers of the grammar's tests where the two grammars agree.
 
-Run with CPython 3.11. Each expression prints `accept` or `refuse` and its text, as crates/rp_expr/src/tests.rt has them; those of
+Run with CPython 3.11. Each expression prints `accept` or `refuse` and its text, as crates/rp_tests_scripts/src/expression_tests.rt has them; those of
 forms that are left out of the language on purpose stand in OUTSIDE, which CPython accepts and the grammar of rpy refuses. Then the
-tables of crates/rp_parse/src/case_tests.rt are compared: CPython has to accept what the first says, to refuse what the second
+tables of crates/rp_tests_scripts/src/case_tests.rt are compared: CPython has to accept what the first says, to refuse what the second
 says, and to accept what the third says that the language leaves out.
 """
 import os
@@ -172,8 +172,8 @@ await x
 """
 
 
-TABLES = "crates/rp_parse/src/case_tests.rt"
-TEXT = re.compile(r'"((?:[^"\\]|\\.)*)"')
+TABLES = "crates/rp_tests_scripts/src/case_tests.rt"
+SIGNS = str.maketrans("␊␍␉", "\n\r\t")
 
 
 def answer(text, mode="eval"):
@@ -185,11 +185,11 @@ def answer(text, mode="eval"):
 
 
 def scripts(function):
-    """The scripts in the table of a test."""
-    head = f"fn {function}("
+    """The scripts in the table of a test: a case a line, the script before `=>`."""
     with open(os.path.join(os.path.dirname(__file__), "..", TABLES)) as source:
-        body = source.read().split(head)[1].split("] {")[0]
-    return [bytes(text, "utf-8").decode("unicode_escape") for text in TEXT.findall(body)]
+        table = source.read().split(f'const {function.upper()}: &str = "\\\n')[1].split('\n";')[0]
+    table = re.sub(r"\\\n *", "", table)
+    return [line.split(" =>")[0].translate(SIGNS) for line in table.split("\n")]
 
 
 for name, cases in (("cases", CASES), ("outside", OUTSIDE)):

@@ -1,8 +1,10 @@
 #!/usr/bin/env bash
-# Nanoseconds of the plain operators on values, beside CPython's for the same operation in the same run, as ratios: adding numbers,
-# joining texts, items of a list, appending, reading and setting keys of dicts of 10 and of 1,000,000 entries, one key next to
-# the last and far from it, and showing a list of 1,000 numbers. Before that, the bytes that a store takes for each cell, filled with lists, dicts and instances of some sizes.
-# Processor time, the least of some runs, less that of the same process or loop with nothing to do.
+# Nanoseconds of the plain operators on values, beside CPython's for the same operation in the same run, as CPython's time over
+# ours: adding numbers, joining texts, characters and slices, items and slices of a list, membership, equality and walks of lists of
+# ten numbers, appending, fields and methods of an instance, reading, setting and replacing keys of dicts of 10 and of 1,000,000
+# entries, one key next to the last and far from it, and showing a list of 1,000 numbers. Before that, the bytes that a store takes
+# for each cell, filled with lists, dicts and instances of some sizes. Processor time, the least of some runs, less that of an idle
+# loop of the same number of turns on each side.
 cd "$(dirname "${BASH_SOURCE[0]}")/.." || exit 2
 [ -x crates/rp_bench_ops/out/rp_bench_ops ] || (cd crates/rp_bench_ops && rt run >/dev/null </dev/null)
 exec python3 - <<'PYTHON'
@@ -27,9 +29,16 @@ def process(*words):
 
 
 def rpy(what, turns, times=5):
-    idle = min(process(what, 0)[0] for _ in range(times))
+    """What a turn takes: without what the process takes with nothing to do, and without a turn of an idle loop."""
+    begun = min(process(what, 0)[0] for _ in range(times))
     busy = min(process(what, turns)[0] for _ in range(times))
-    return (busy - idle) / turns
+    return (busy - begun) / turns - IDLE
+
+
+def idle_turn(times=5):
+    turns = 20_000_000
+    begun = min(process("idle", 0)[0] for _ in range(times))
+    return (min(process("idle", turns)[0] for _ in range(times)) - begun) / turns
 
 
 def spent(loop, turns, times=5):
@@ -64,6 +73,65 @@ def get_item(turns):
         xs[i % 1000]
 
 
+def letter(turns):
+    s = "a" * 10
+    for i in range(turns):
+        s[i % 10]
+
+
+def tens(turns):
+    for i in range(turns):
+        i % 10
+
+
+def slice_text(turns):
+    s = "a" * 10
+    for i in range(turns):
+        s[1:9]
+
+
+def slice_list(turns):
+    xs = list(range(10))
+    for i in range(turns):
+        xs[1:9]
+
+
+def seek(turns):
+    xs = list(range(10))
+    for i in range(turns):
+        9 in xs
+
+
+def equal(turns):
+    xs, ys = list(range(10)), list(range(10))
+    for i in range(turns):
+        xs == ys
+
+
+def walk(turns):
+    xs = list(range(10))
+    for i in range(turns):
+        tuple(xs)
+
+
+class Plain:
+    def method(self):
+        pass
+
+
+def field(turns):
+    x = Plain()
+    x.field = 1
+    for i in range(turns):
+        x.field
+
+
+def method(turns):
+    x = Plain()
+    for i in range(turns):
+        x.method
+
+
 def append(turns):
     xs = []
     for i in range(turns):
@@ -88,6 +156,19 @@ def set_key(entries, stride):
     def loop(turns):
         k = 0
         for i in range(turns):
+            d[k] = 1
+            k = (k + stride) % entries
+
+    return loop
+
+
+def replace_key(entries, stride):
+    d = {i: i for i in range(entries)}
+
+    def loop(turns):
+        k = 0
+        for i in range(turns):
+            del d[k]
             d[k] = 1
             k = (k + stride) % entries
 
@@ -128,6 +209,14 @@ LOOPS = [
     ("add", "add", TURNS, add, empty),
     ("join of texts", "join", TURNS, join, empty),
     ("list item", "get_item", TURNS, get_item, remainders),
+    ("list slice", "slice_list", TURNS, slice_list, empty),
+    ("character", "letter_10", TURNS, letter, tens),
+    ("text slice", "slice_text", TURNS, slice_text, empty),
+    ("in a list of 10", "in", TURNS, seek, empty),
+    ("== of lists of 10", "equal", TURNS, equal, empty),
+    ("walk of a list of 10", "walk", TURNS, walk, empty),
+    ("field", "field", TURNS, field, empty),
+    ("method", "method", TURNS, method, empty),
     ("append", "append", TURNS, append, empty),
     ("get at 10", "get_key_10", TURNS, get_key(10, 1), keys(10, 1)),
     ("get at 1,000,000", "get_key_1000000", TURNS, get_key(MILLION, 1), keys(MILLION, 1)),
@@ -135,10 +224,14 @@ LOOPS = [
     ("set at 10", "set_key_10", TURNS, set_key(10, 1), keys(10, 1)),
     ("set at 1,000,000", "set_key_1000000", TURNS, set_key(MILLION, 1), keys(MILLION, 1)),
     ("set far at 1,000,000", "set_far_key_1000000", TURNS, set_key(MILLION, FAR), keys(MILLION, FAR)),
+    ("delete and set at 10", "replace_key_10", TURNS, replace_key(10, 1), keys(10, 1)),
+    ("delete and set far at 1,000,000", "replace_key_1000000", TURNS, replace_key(MILLION, FAR), keys(MILLION, FAR)),
     ("show of 1,000 numbers", "show", 2_000, show, empty),
 ]
+IDLE = idle_turn()
+print(f"an idle turn: {IDLE * 1e9:.1f} ns")
 for title, what, turns, loop, idle in LOOPS:
     ours = rpy(what, turns) * 1e9
     theirs = (spent(loop, turns) - spent(idle, turns)) * 1e9
-    print(f"{title}: rpy {ours:.1f} ns, CPython {theirs:.1f} ns, ratio {theirs / ours:.1f}")
+    print(f"{title}: rpy {ours:.1f} ns, CPython {theirs:.1f} ns, CPython's over ours {theirs / max(ours, 0.1):.1f}")
 PYTHON

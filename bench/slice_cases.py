@@ -1,4 +1,4 @@
-"""Asks CPython for the table of rp_items' test of slices.
+"""Asks CPython for the table of the test of slices in rp_tests_values.
 
 For each text and step it prints the FNV-1a hash, of 32 bits, of the slices between each two bounds, with a point
 behind each. Run it as `python3 bench/slice_cases.py`.

@@ -16,7 +16,7 @@ use Rattle.rp_store.specs.Object as object
 use Rattle.rp_store.specs.Object.{Content}
 use Rattle.rp_store.specs.declared.object.Callee.TheVariants as callee
 use Rattle.rp_ops.specs.Outcome.{State, ends, gives, no_cell, raises}
-use Rattle.rp_attributes.specs.Attributes.{attribute, del_attribute, dict_methods, list_methods, method_named, set_attribute, text_methods, tuple_methods, word_of}
+use Rattle.rp_attributes.specs.Attributes.{attribute, del_attribute, dict_methods, list_methods, method_named, set_attribute, text_methods, tuple_methods}
 
 abbrev side : ℕ → Side
 side n = record { 0 = n }
@@ -190,9 +190,3 @@ del-missing = refl
 
 del-dict : del_attribute (value.Ref (place 4)) (name 1) (codes "get") before ≡ raises AttributeError (codes "get") before
 del-dict = refl
-
-word-held : word_of (codes "a" ∷ codes "b" ∷ []) (name 1) ≡ codes "b"
-word-held = refl
-
-word-none : word_of (codes "a" ∷ codes "b" ∷ []) (name 2) ≡ []
-word-none = refl

@@ -1,6 +1,4 @@
 mod AttributeExamples
-mod FieldShapes
 mod Found
-mod InstanceHeap
 mod MethodNames
 mod Places

@@ -2,7 +2,7 @@
 -- Reference, Attribute references; Python Standard Library, Built-in types). Other way: a built-in method is the first of a list whose
 -- name is the list of characters asked for, and fields and methods are looked up in lists of pairs. The code compares names by their
 -- bytes, searches dicts that may be hashed, and changes the store in place.
-use Rattle.std.specs.Prelude.{ℕ, List, [], ◌∷◌, find, slice_get, slice_index_or, Option, Some, None}
+use Rattle.std.specs.Prelude.{ℕ, List, [], ◌∷◌, find, slice_get, Option, Some, None}
 use Rattle.std.specs.Map.{lookup}
 use Rattle.std.specs.Option.{option_map, option_map_or}
 use Rattle.rp_base.specs.declared.kind.Kind.TheVariants.{AttributeError}
@@ -45,10 +45,6 @@ text_methods = native.Join ∷ native.Split ∷ native.Strip ∷ native.StartsWi
 -- the built-in method of that name among some
 abbrev pub method_named : List NativeId → List ℕ → Option NativeId
 method_named ids word = find (λ id. same_text (native_name id) word) ids
-
--- the word of a name, where the names are these words
-abbrev pub word_of : List (List ℕ) → Name → List ℕ
-word_of names name = slice_index_or names name.0 []
 
 abbrev pub no_attribute : {A : Type 0} → List ℕ → State → Outcome A
 no_attribute word s = raises AttributeError word s

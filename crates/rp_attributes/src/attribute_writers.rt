@@ -1,13 +1,15 @@
-ghost use Rattle.std.specs.Prelude.{◌≡◌, ◌↔◌, ℕ, IsTrue, OnErr, chars};
-ghost use Rattle.std.specs.Option.{is_some};
-ghost use Rattle.rp_attributes.specs.Attributes.{del_at, del_attribute, set_at, set_attribute, word_of};
-ghost use Rattle.rp_ops.specs.Outcome.{Meets, state_of};
-ghost use Rattle.rp_ops.specs.Shape.{KeepsShape};
-ghost use Rattle.rp_store.specs.Heap.{IsHeld, Names as IsAt, field_at};
-ghost use Rattle.rp_store.specs.Kept.{IsKept, IsSound};
-ghost use Rattle.rp_store.specs.Parts.{IsInstance};
+//! Setting and deleting attributes.
 
-use crate::words::{no_attribute, word_of};
+ghost use Rattle.std.specs.Prelude.{◌≡◌, ◌↔◌, ℕ, IsTrue, OnErr};
+ghost use Rattle.rp_attributes.specs.Attributes.{del_at, del_attribute, set_at, set_attribute};
+ghost use Rattle.rp_ops.specs.Outcome.{Meets, state_of};
+ghost use Rattle.rp_ops.specs.Words.{word_of};
+ghost use Rattle.rp_store.specs.Heap.{IsHeld, Names as IsAt};
+ghost use Rattle.rp_store.specs.Kept.{IsSound};
+ghost use Rattle.rp_store.specs.Parts.{IsInstance};
+ghost use Rattle.rp_store.specs.Shape.{KeepsShape};
+
+use crate::missing::no_attribute;
 use rp_base::{Name, Names, Oid, OpEnd, Value};
 use rp_store::{Object, Store, StoreFault};
 use std::alloc::Global;
@@ -29,19 +31,16 @@ pub fn set_attribute(
     name: Name,
     v: Value,
 ) -> Result<(), OpEnd>
-    requires kept { IsKept store.old.heap }
     requires a { IsSound store.old.heap a.now }
     requires v { IsSound store.old.heap v }
     ensures plain { (steps : ℕ) → Meets result (state_of store.new steps) (set_attribute a.now name (word_of names.now name) v (state_of store.old steps)) }
-    ensures kept { IsKept store.new.heap }
     ensures shape { KeepsShape store.old.heap store.new.heap }
     ensures same { OnErr result (store.new ≡ store.old) }
 {
-    let word = word_of(names, name);
     match a {
-        Value::Rock(_) => Err(no_attribute(alloc, word)),
-        Value::Ref(at) => set_at(alloc, store, *at, name, word, v),
-        Value::Prox(at) => set_at(alloc, store, *at, name, word, v),
+        Value::Rock(_) => Err(no_attribute(alloc, names, name)),
+        Value::Ref(at) => set_at(alloc, store, names, *at, name, v),
+        Value::Prox(at) => set_at(alloc, store, names, *at, name, v),
     }
 }
 
@@ -60,39 +59,34 @@ pub fn del_attribute(
     a: &Value,
     name: Name,
 ) -> Result<(), OpEnd>
-    requires kept { IsKept store.old.heap }
     requires a { IsSound store.old.heap a.now }
     ensures plain { (steps : ℕ) → Meets result (state_of store.new steps) (del_attribute a.now name (word_of names.now name) (state_of store.old steps)) }
-    ensures kept { IsKept store.new.heap }
     ensures shape { KeepsShape store.old.heap store.new.heap }
     ensures same { OnErr result (store.new ≡ store.old) }
 {
-    let word = word_of(names, name);
     match a {
-        Value::Rock(_) => Err(no_attribute(alloc, word)),
-        Value::Ref(at) => del_at(alloc, store, *at, name, word),
-        Value::Prox(at) => del_at(alloc, store, *at, name, word),
+        Value::Rock(_) => Err(no_attribute(alloc, names, name)),
+        Value::Ref(at) => del_at(alloc, store, names, *at, name),
+        Value::Prox(at) => del_at(alloc, store, names, *at, name),
     }
 }
 
 fn set_at(
     alloc: Global,
     store: &mut Store,
+    names: &Names,
     at: Oid,
     name: Name,
-    word: &str,
     v: Value,
 ) -> Result<(), OpEnd>
-    requires kept { IsKept store.old.heap }
     requires held { IsHeld store.old.heap at }
     requires v { IsSound store.old.heap v }
-    ensures plain { (steps : ℕ) → Meets result (state_of store.new steps) (set_at at name (chars word.now) v (state_of store.old steps)) }
-    ensures kept { IsKept store.new.heap }
+    ensures plain { (steps : ℕ) → Meets result (state_of store.new steps) (set_at at name (word_of names.now name) v (state_of store.old steps)) }
     ensures shape { KeepsShape store.old.heap store.new.heap }
     ensures same { OnErr result (store.new ≡ store.old) }
 {
     if !is_instance(store, at) {
-        return Err(no_attribute(alloc, word));
+        return Err(no_attribute(alloc, names, name));
     }
     match store.set_field(at, name, v) {
         Ok(()) => Ok(()),
@@ -101,21 +95,23 @@ fn set_at(
     }
 }
 
-fn del_at(alloc: Global, store: &mut Store, at: Oid, name: Name, word: &str) -> Result<(), OpEnd>
-    requires kept { IsKept store.old.heap }
+fn del_at(alloc: Global, store: &mut Store, names: &Names, at: Oid, name: Name) -> Result<(), OpEnd>
     requires held { IsHeld store.old.heap at }
-    ensures plain { (steps : ℕ) → Meets result (state_of store.new steps) (del_at at name (chars word.now) (state_of store.old steps)) }
-    ensures kept { IsKept store.new.heap }
+    ensures plain { (steps : ℕ) → Meets result (state_of store.new steps) (del_at at name (word_of names.now name) (state_of store.old steps)) }
     ensures shape { KeepsShape store.old.heap store.new.heap }
     ensures same { OnErr result (store.new ≡ store.old) }
 {
-    if !has_field(store, at, name) {
-        return Err(no_attribute(alloc, word));
+    if !is_instance(store, at) {
+        return Err(no_attribute(alloc, names, name));
     }
-    store.drop_field(at, name);
+    let dropped = store.drop_field(at, name);
+    if dropped.is_none() {
+        return Err(no_attribute(alloc, names, name));
+    }
     Ok(())
 }
 
+#[inline(always)]
 fn is_instance(store: &Store, at: Oid) -> bool
     requires { IsHeld store.now.heap at }
     ensures { IsTrue result ↔ IsAt store.now.heap IsInstance at }
@@ -124,11 +120,4 @@ fn is_instance(store: &Store, at: Oid) -> bool
         Object::Instance { .. } => true,
         _ => false,
     }
-}
-
-fn has_field(store: &Store, at: Oid, name: Name) -> bool
-    requires { IsHeld store.now.heap at }
-    ensures { result ≡ is_some (field_at store.now.heap at name) }
-{
-    store.object(at).field(name).is_some()
 }

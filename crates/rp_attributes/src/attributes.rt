@@ -1,14 +1,17 @@
-ghost use Rattle.std.specs.Prelude.{◌≡◌, ℕ, IfOk, IfSome, OnErr, chars};
-ghost use Rattle.rp_attributes.specs.Attributes.{attribute, attribute_at, bound, rock_attribute, word_of};
+//! Reading attributes.
+
+ghost use Rattle.std.specs.Prelude.{◌≡◌, ℕ, IfOk, IfSome, OnErr};
+ghost use Rattle.rp_attributes.specs.Attributes.{attribute, attribute_at, bound, rock_attribute};
 ghost use Rattle.rp_ops.specs.Operand.{lent};
 ghost use Rattle.rp_ops.specs.Outcome.{Meets, state_of};
-ghost use Rattle.rp_ops.specs.Shape.{KeepsShape};
-ghost use Rattle.rp_store.specs.Kept.{IsCallee, IsKept, IsReceiver, IsSound};
+ghost use Rattle.rp_ops.specs.Words.{word_of};
+ghost use Rattle.rp_store.specs.Kept.{IsCallee, IsReceiver, IsSound};
+ghost use Rattle.rp_store.specs.Shape.{KeepsShape};
 
 use crate::methods::{method_of, native, text_method};
-use crate::words::{no_attribute, word_of};
+use crate::missing::no_attribute;
 use rp_base::{Name, Names, Oid, OpEnd, Rock, Side, Value};
-use rp_ops::new_object;
+use rp_ops::{new_object, word_of};
 use rp_store::{Callee, Object, Store};
 use std::alloc::Global;
 
@@ -31,20 +34,17 @@ pub fn attribute(
     a: &Value,
     name: Name,
 ) -> Result<Value, OpEnd>
-    requires kept { IsKept store.old.heap }
     requires a { IsSound store.old.heap a.now }
     ensures plain { (steps : ℕ) → Meets result (state_of store.new steps) (attribute side a.now name (word_of names.now name) (state_of store.old steps)) }
-    ensures kept { IsKept store.new.heap }
     ensures sound { IfOk result (λ v. IsSound store.new.heap v) }
     ensures shape { KeepsShape store.old.heap store.new.heap }
     ensures same { OnErr result (store.new ≡ store.old) }
 {
-    let word = word_of(names, name);
     match a {
-        Value::Rock(rock) => rock_attribute(alloc, store, side, rock, word),
-        Value::Ref(at) => attribute_at(alloc, store, *at, name, word),
+        Value::Rock(rock) => rock_attribute(alloc, store, names, side, rock, name),
+        Value::Ref(at) => attribute_at(alloc, store, names, *at, name),
         Value::Prox(at) => {
-            let value = attribute_at(alloc, store, *at, name, word)?;
+            let value = attribute_at(alloc, store, names, *at, name)?;
             Ok(lent(value))
         }
     }
@@ -54,13 +54,12 @@ pub fn attribute(
 fn rock_attribute(
     alloc: Global,
     store: &mut Store,
+    names: &Names,
     side: Side,
     rock: &Rock,
-    word: &str,
+    name: Name,
 ) -> Result<Value, OpEnd>
-    requires kept { IsKept store.old.heap }
-    ensures plain { (steps : ℕ) → Meets result (state_of store.new steps) (rock_attribute side rock.now (chars word.now) (state_of store.old steps)) }
-    ensures kept { IsKept store.new.heap }
+    ensures plain { (steps : ℕ) → Meets result (state_of store.new steps) (rock_attribute side rock.now (word_of names.now name) (state_of store.old steps)) }
     ensures sound { IfOk result (λ v. IsSound store.new.heap v) }
     ensures shape { KeepsShape store.old.heap store.new.heap }
     ensures same { OnErr result (store.new ≡ store.old) }
@@ -68,63 +67,62 @@ fn rock_attribute(
     match rock {
         Rock::Text(text) => {
             let receiver = Value::Rock(Rock::Text(text.copy()?));
-            let callee = native(text_method(word));
-            bind(alloc, store, side, receiver, callee, word)
+            let callee = native(text_method(word_of(names, name)));
+            bind(alloc, store, names, side, receiver, callee, name)
         }
-        _ => Err(no_attribute(alloc, word)),
+        _ => Err(no_attribute(alloc, names, name)),
     }
 }
 
 /// The field of the object at a place, else a method bound to it.
+#[inline(always)]
 fn attribute_at(
     alloc: Global,
     store: &mut Store,
+    names: &Names,
     at: Oid,
     name: Name,
-    word: &str,
 ) -> Result<Value, OpEnd>
-    requires kept { IsKept store.old.heap }
     requires sound { IsSound store.old.heap (Value.Ref at) }
-    ensures plain { (steps : ℕ) → Meets result (state_of store.new steps) (attribute_at at name (chars word.now) (state_of store.old steps)) }
-    ensures kept { IsKept store.new.heap }
+    ensures plain { (steps : ℕ) → Meets result (state_of store.new steps) (attribute_at at name (word_of names.now name) (state_of store.old steps)) }
     ensures sound { IfOk result (λ v. IsSound store.new.heap v) }
     ensures shape { KeepsShape store.old.heap store.new.heap }
     ensures same { OnErr result (store.new ≡ store.old) }
 {
-    if let Some(value) = store.object(at).field(name) {
+    if let Some(value) = store.field(at, name) {
         return Ok(value.copy()?);
     }
-    let callee = method_of(store, at, name, word);
+    let callee = method_of(store, names, at, name);
     let owner = store.owner(at);
-    bind(alloc, store, owner, Value::Ref(at), callee, word)
+    bind(alloc, store, names, owner, Value::Ref(at), callee, name)
 }
 
 /// A bound method, made for a side.
 fn bind(
     alloc: Global,
     store: &mut Store,
+    names: &Names,
     owner: Side,
     receiver: Value,
     callee: Option<Callee>,
-    word: &str,
+    name: Name,
 ) -> Result<Value, OpEnd>
-    requires kept { IsKept store.old.heap }
     requires sound { IsSound store.old.heap receiver }
     requires receiver { IsReceiver store.old.heap owner receiver }
     requires callee { IfSome callee (IsCallee store.old.heap) }
-    ensures plain { (steps : ℕ) → Meets result (state_of store.new steps) (bound owner receiver callee (chars word.now) (state_of store.old steps)) }
-    ensures kept { IsKept store.new.heap }
+    ensures plain { (steps : ℕ) → Meets result (state_of store.new steps) (bound owner receiver callee (word_of names.now name) (state_of store.old steps)) }
     ensures sound { IfOk result (λ v. IsSound store.new.heap v) }
     ensures shape { KeepsShape store.old.heap store.new.heap }
     ensures same { OnErr result (store.new ≡ store.old) }
 {
     match callee {
         Some(callee) => new_object(store, owner, Object::Method { receiver, callee }),
-        None => Err(no_attribute(alloc, word)),
+        None => Err(no_attribute(alloc, names, name)),
     }
 }
 
 /// What is got through a proxy is lent (zope.security, proxies).
+#[inline(always)]
 fn lent(value: Value) -> Value
     ensures { result ≡ lent value }
 {

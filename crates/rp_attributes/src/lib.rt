@@ -3,12 +3,8 @@
 
 mod attribute_writers;
 mod attributes;
-#[cfg(test)]
-mod instance_tests;
 mod methods;
-#[cfg(test)]
-mod tests;
-mod words;
+mod missing;
 
 pub use attribute_writers::{del_attribute, set_attribute};
 pub use attributes::attribute;

@@ -1,13 +1,17 @@
+//! The built-in methods of a kind, and the methods of classes.
+
 ghost use Rattle.std.specs.Prelude.{◌≡◌, ℕ, IfSome, chars};
 ghost use Rattle.std.specs.Option.{option_and_then, option_map};
 ghost use Rattle.rp_base.specs.Native.{native_name};
 ghost use Rattle.rp_base.specs.Same.{same_text};
 ghost use Rattle.rp_attributes.specs.Attributes.{dict_methods, list_methods, method_named, method_of, text_methods, tuple_methods};
 ghost use Rattle.rp_ops.specs.Outcome.{state_of};
+ghost use Rattle.rp_ops.specs.Words.{word_of};
 ghost use Rattle.rp_store.specs.Heap.{IsHeld, content_at, method_at};
-ghost use Rattle.rp_store.specs.Kept.{IsCallee, IsKept};
+ghost use Rattle.rp_store.specs.Kept.{IsCallee};
 
-use rp_base::{Name, NativeId, Oid};
+use rp_base::{Name, Names, NativeId, Oid};
+use rp_ops::word_of;
 use rp_store::{Callee, Object, Store};
 
 const LIST_METHODS: [NativeId; 8] = [
@@ -86,16 +90,15 @@ pub(crate) fn text_method(word: &str) -> Option<NativeId>
 
 /// What is called by the method of the object at a place: a function of an instance's class, or a built-in method of the
 /// object's kind.
-pub(crate) fn method_of(store: &Store, at: Oid, name: Name, word: &str) -> Option<Callee>
-    requires kept { IsKept store.now.heap }
+pub(crate) fn method_of(store: &Store, names: &Names, at: Oid, name: Name) -> Option<Callee>
     requires held { IsHeld store.now.heap at }
-    ensures method { (steps : ℕ) → result ≡ option_and_then (λ c. method_of c name (chars word.now) (state_of store.now steps)) (content_at store.now.heap at) }
+    ensures method { (steps : ℕ) → result ≡ option_and_then (λ c. method_of c name (word_of names.now name) (state_of store.now steps)) (content_at store.now.heap at) }
     ensures callee { IfSome result (IsCallee store.now.heap) }
 {
     match store.object(at) {
-        Object::List(_) => native(list_method(word)),
-        Object::Tuple(_) => native(tuple_method(word)),
-        Object::Dict(_) => native(dict_method(word)),
+        Object::List(_) => native(list_method(word_of(names, name))),
+        Object::Tuple(_) => native(tuple_method(word_of(names, name))),
+        Object::Dict(_) => native(dict_method(word_of(names, name))),
         Object::Instance { class, .. } => class_method(store, *class, name),
         _ => None,
     }
@@ -103,7 +106,6 @@ pub(crate) fn method_of(store: &Store, at: Oid, name: Name, word: &str) -> Optio
 
 /// A function of the class at a place.
 fn class_method(store: &Store, class: Oid, name: Name) -> Option<Callee>
-    requires kept { IsKept store.now.heap }
     requires held { IsHeld store.now.heap class }
     ensures method { result ≡ option_map (λ at. Callee.Function at) (method_at store.now.heap class name) }
     ensures callee { IfSome result (IsCallee store.now.heap) }

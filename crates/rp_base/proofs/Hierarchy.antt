@@ -1,10 +1,10 @@
 -- How far the kinds of exceptions stand above one another.
-use Rattle.std.proofs.Common.{◌≡◌, refl, sym, ℕ, zero, suc, ◌↔◌, Bool, true, false, ◌||◌, IsTrue}
+use Rattle.std.proofs.Common.{◌≡◌, refl, sym, ◌∙◌, ℕ, zero, suc, ◌↔◌, Bool, true, false, true≢false, ◌||◌, IsTrue}
 use denote.Enum.Bare.{same_true, true_same}
 use Rattle.rp_base.specs.declared.kind.Kind.{Kind}
 use Rattle.rp_base.specs.declared.kind.Kind.TheVariants.{Exception, ZeroDivisionError, OverflowError, IndexError, KeyError, UnboundLocalError, RecursionError, ForbiddenAttribute}
 use Rattle.rp_base.specs.contracts.kind.Kind.{the_type}
-use Rattle.rp_base.specs.Kind.{is_same_kind, reaches}
+use Rattle.rp_base.specs.Kind.{is_same_kind, is_under, reaches}
 
 one_parent : (b : Bool) → IsTrue ((b || false) || false) → IsTrue b
 one_parent true t = refl
@@ -63,3 +63,43 @@ at_others kind handler other lower = (λ t. (1, t), λ (n, t). back n t)
     back (suc zero) t = t
     back (suc (suc zero)) t = absurd (lower (sym (reaches-two kind handler t)))
     back (suc (suc (suc n))) t = let none = reaches-three n kind handler in cc
+
+same_truth : (a b : Bool) → (IsTrue a → IsTrue b) → (IsTrue b → IsTrue a) → a ≡ b
+same_truth true b there back = sym (there refl)
+same_truth false true there back = back refl
+same_truth false false there back = refl
+
+under-first : (a b c : Bool) → IsTrue a → IsTrue (a || (b || c))
+under-first true b c t = refl
+under-first false b c t = absurd (true≢false (sym t))
+
+under-second : (a b c : Bool) → IsTrue b → IsTrue (a || (b || c))
+under-second true b c t = refl
+under-second false true c t = refl
+under-second false false c t = absurd (true≢false (sym t))
+
+under-third : (a b c : Bool) → IsTrue c → IsTrue (a || (b || c))
+under-third true b c t = refl
+under-third false true c t = refl
+under-third false false c t = t
+
+-- a kind that so many steps lead to from another is one that this one stands under
+under-reaches : (kind handler : Kind) (n : ℕ) → IsTrue (reaches n kind handler) → IsTrue (is_under kind handler)
+under-reaches kind handler zero t = under-first (reaches 0 kind handler) (reaches 1 kind handler) (reaches 2 kind handler) t
+under-reaches kind handler (suc zero) t = under-second (reaches 0 kind handler) (reaches 1 kind handler) (reaches 2 kind handler) t
+under-reaches kind handler (suc (suc zero)) t = under-third (reaches 0 kind handler) (reaches 1 kind handler) (reaches 2 kind handler) t
+under-reaches kind handler (suc (suc (suc n))) t = absurd (true≢false (sym t ∙ reaches-three n kind handler))
+
+-- one that stands under another is some steps below it
+reaches-under : (kind handler : Kind) → IsTrue (is_under kind handler) → (n : ℕ) × IsTrue (reaches n kind handler)
+reaches-under kind handler t = by (reaches 0 kind handler) (reaches 1 kind handler) (reaches 2 kind handler) refl refl refl t
+  where
+    by : (a b c : Bool) → reaches 0 kind handler ≡ a → reaches 1 kind handler ≡ b → reaches 2 kind handler ≡ c → IsTrue (a || (b || c)) → (n : ℕ) × IsTrue (reaches n kind handler)
+    by true b c first second third t = (0, first)
+    by false true c first second third t = (1, second)
+    by false false c first second third t = (2, third ∙ t)
+
+-- what tells whether some steps lead from a kind to another tells whether it stands under it
+pub is_under-decided : (b : Bool) (kind handler : Kind) → IsTrue b ↔ ((n : ℕ) × IsTrue (reaches n kind handler)) → b ≡ is_under kind handler
+is_under-decided b kind handler decides =
+    same_truth b (is_under kind handler) (λ t. let (n, steps) = decides.0 t in under-reaches kind handler n steps) (λ t. decides.1 (reaches-under kind handler t))

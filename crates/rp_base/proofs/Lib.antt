@@ -1,4 +1,6 @@
 pub mod FirstWords
 pub mod Hierarchy
+mod Plain
+pub mod Spelling
 pub mod Texts
 pub mod Words

@@ -6,14 +6,16 @@ use Rattle.std.specs.Option.{option_map}
 use Rattle.std.specs.Rc.{rc_str_bytes}
 use Rattle.std.specs.declared.alloc.Global.{Global}
 use Rattle.std.specs.declared.rc.RcStr.{RcStr}
-use Rattle.std.specs.Cmp.Lexicographic.{pointwise, bytes_decides}
+use Rattle.std.specs.Cmp.{on_equiv}
+use Rattle.std.specs.Cmp.Lexicographic.{pointwise, bytes_decides, nat_list_eq_equiv}
 use Rattle.std.proofs.lemmas.Str.{IsUtf8-string_bytes, encodes-chars, encodes_same}
 use Rattle.std.proofs.lemmas.List.{get_or-map, length-map, map_push}
 use Rattle.std.proofs.lemmas.List.Elements.{All-push}
 use Rattle.std.proofs.lemmas.List.Quantifiers.{position-Some}
 use Rattle.std.proofs.lemmas.Map.Keys.{IsDistinct-cons, IsDistinct-head, IsDistinct-tail, apart_from_distinct}
 use Rattle.std.proofs.lemmas.Option.{get_or_from_slice_get, slice_get-get_or, slice_get-map, slice_get_within}
-use Rattle.indexmap.specs.IndexSet.{insert_key}
+use Rattle.indexmap.specs.IndexSet.{insert_all, insert_key}
+use Rattle.indexmap.proofs.SetLemmas.{set_all_distinct}
 use Rattle.rp_base.specs.Identifier.{IsIdentifier}
 use Rattle.rp_base.specs.Names.{HoldsEachOnce, is_held, with_word}
 use Rattle.rp_base.specs.Same.{same_text}
@@ -124,3 +126,7 @@ identifier_at ts i t all within stands =
     let inside : i < length ts = simp length-map at within in
     let shown : get_or (words_of ts) i [] ≡ chars (rc_str_bytes t) = get_or-map (λ t. chars (rc_str_bytes t)) ts i t [] inside ∙ ap (λ t. chars (rc_str_bytes t)) (sym stands) in
     rw shown at (all i [] within)
+
+-- texts that differ, put into an empty set one after another, are all there in their order
+pub put_anew : (ts : List (RcStr Global)) → IsDistinct (λ x y. bytes_eq (rc_str_bytes x) (rc_str_bytes y)) ts → insert_all (λ x y. bytes_eq (rc_str_bytes x) (rc_str_bytes y)) [] ts ≡ ts
+put_anew ts distinct = set_all_distinct (on_equiv rc_str_bytes nat_list_eq_equiv) [] ts distinct

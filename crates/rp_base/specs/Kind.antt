@@ -1,9 +1,10 @@
 -- The kinds of exceptions: their names, and which kinds a handler takes (Python Library Reference, "Exception hierarchy").
-use Rattle.std.specs.Prelude.{ℕ, zero, suc, Bool, List, [], ◌∷◌, codes}
+use Rattle.std.specs.Prelude.{ℕ, zero, suc, Bool, ◌||◌, List, [], ◌∷◌, codes}
 use Rattle.std.specs.List.{list_any}
 use denote.Enum.Bare.{sameb}
 use Rattle.rp_base.specs.contracts.kind.Kind.{the_type}
 use Rattle.rp_base.specs.declared.kind.Kind.{Kind}
+pub use Rattle.rp_base.specs.declared.kind.TheConstants.Kind.{ALL}
 use Rattle.rp_base.specs.declared.kind.Kind.TheVariants.{Exception, ArithmeticError, ZeroDivisionError, OverflowError, LookupError, IndexError, KeyError, NameError, UnboundLocalError, RuntimeError, RecursionError, ValueError, TypeError, AttributeError, AssertionError, Unauthorized, Forbidden, ForbiddenAttribute}
 
 -- the name of a kind, as its bytes
@@ -56,3 +57,7 @@ is_same_kind = sameb the_type
 abbrev pub reaches : ℕ → Kind → Kind → Bool
 reaches zero kind handler = is_same_kind kind handler
 reaches (suc n) kind handler = list_any (λ above. reaches n above handler) (kinds_above kind)
+
+-- the first kind is the second, or stands under it: at most two steps lead from a kind to `Exception`
+abbrev pub is_under : Kind → Kind → Bool
+is_under kind handler = reaches 0 kind handler || (reaches 1 kind handler || reaches 2 kind handler)

@@ -1,3 +1,4 @@
+pub mod FirstNames
 pub mod Identifier
 pub mod InMemory
 pub mod Keyword

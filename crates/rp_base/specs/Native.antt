@@ -1,6 +1,7 @@
 -- The names of the built-in functions, and of the built-in methods.
 use Rattle.std.specs.Prelude.{ℕ, List, codes}
 use Rattle.rp_base.specs.declared.native.NativeId.{NativeId}
+pub use Rattle.rp_base.specs.declared.native.TheConstants.NativeId.{FUNCTIONS, METHODS}
 use Rattle.rp_base.specs.declared.native.NativeId.TheVariants.{Len, Bool, Str, Int, Abs, Sum, Min, Max, Sorted, List as ListOf, Tuple, Dict, Range, Enumerate, Zip, GetAttr, SetAttr, Print, RemoveSecurityProxy, Append, Extend, Insert, Pop, Remove, Index, Count, Reverse, Get, Keys, Values, Items, SetDefault, Update, Copy, Join, Split, Strip, StartsWith, EndsWith, Find, Replace, IsDigit}
 
 abbrev pub native_name : NativeId → List ℕ

@@ -1,7 +1,10 @@
+//! The trait of the files of the outside.
+
 ghost use Rattle.std.specs.Prelude.{◌≡◌, ◌<◌, ◌≤◌, ◌+◌, ◌==◌, ℕ, Bool, true, false, not, length, take, drop, List, Option, Some, None, option_map, IfOk, IfSome, OnOk, OnErr, IsErrOf};
 ghost use Rattle.rp_base.specs.Reading.{ReadsFront};
 
 use crate::text::Text;
+use rp_hash::Seed;
 
 /// A call of the outside did not do its work.
 #[derive(Clone, Copy, Debug, PartialEq, Eq)]
@@ -73,4 +76,8 @@ pub trait Files {
 
         ensures sound { OnOk result (faults self.new ≡ faults self.old) }
         ensures failed { OnErr result (faults self.old < faults self.new) };
+
+    /// The secret from which the run's tables hash their keys: random where the host has random bytes. Nothing that is
+    /// proved or printed depends on it.
+    fn seed(&self) -> Seed;
 }

@@ -1,17 +1,19 @@
-ghost use Rattle.std.specs.Prelude.{◌≡◌, IfOk, IfSome, chars};
+//! Identifiers and keywords.
+
+ghost use Rattle.std.specs.Prelude.{◌≡◌, ◌↔◌, ◌&&◌, IfOk, IfSome, IsTrue, chars, length, nat_le};
 ghost use Rattle.std.specs.List.{list_all};
 ghost use Rattle.unicode_ident.specs.Ident.{is_xid_continue};
-ghost use Rattle.rp_base.specs.Identifier.{IsIdentifier, begins_well, identifier_of, is_identifier, is_start};
+ghost use Rattle.rp_base.specs.Identifier.{IsIdentifier, begins_well, identifier_of, is_identifier, is_identifier_word, is_start, longest_name};
 ghost use Rattle.rp_base.specs.Keyword.{is_keyword};
 
 use crate::memory::Memory;
 use crate::text::Text;
 use std::alloc::Global;
 use unicode_ident::{is_xid_continue, is_xid_start};
-use unicode_normalization::to_nfkc;
+use unicode_normalization::{is_nfkc, to_nfkc};
 
 /// The most bytes of UTF-8 that an identifier has.
-const LONGEST: usize = 255;
+pub const LONGEST_NAME: usize = 255;
 
 /// The keywords of Python 3 (Python Language Reference, "Keywords").
 const KEYWORDS: [&str; 35] = [
@@ -34,11 +36,26 @@ pub fn identifier(alloc: Global, word: &str) -> Result<Option<Text>, Memory>
         return Ok(None);
     }
     let form = to_nfkc(alloc, word)?;
-    if is_identifier(form.as_str()) && form.len() <= LONGEST {
+    if is_identifier(form.as_str()) && form.len() <= LONGEST_NAME {
         Ok(Some(Text::new(alloc, form.as_str())?))
     } else {
         Ok(None)
     }
+}
+
+/// Whether a word is an identifier, spelled in its form NFKC, of at most `LONGEST_NAME` bytes (UAX 31, UAX 15). It takes
+/// memory only for a word of which the characters alone do not tell whether it is in that form.
+///
+/// # Errors
+/// `Memory` where a growth was refused.
+pub fn is_identifier_word(alloc: Global, word: &str) -> Result<bool, Memory>
+    ensures value { IfOk result (λ is. is ≡ is_identifier_word (chars word.now)) }
+    ensures identifier { IfOk result (λ is. IsTrue is ↔ IsIdentifier (chars word.now)) }
+{
+    if !is_short_identifier(word) {
+        return Ok(false);
+    }
+    Ok(is_nfkc(alloc, word)?)
 }
 
 /// Whether the word is a keyword of Python 3.
@@ -46,6 +63,12 @@ pub fn is_keyword(word: &str) -> bool
     ensures { result ≡ is_keyword word.now }
 {
     KEYWORDS.contains(&word)
+}
+
+fn is_short_identifier(word: &str) -> bool
+    ensures { result ≡ (is_identifier (chars word.now) && nat_le (length word.now) longest_name) }
+{
+    word.len() <= LONGEST_NAME && is_identifier(word)
 }
 
 fn is_identifier(word: &str) -> bool

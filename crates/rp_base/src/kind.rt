@@ -1,5 +1,7 @@
+//! The kinds of exceptions, and which stands under which.
+
 ghost use Rattle.std.specs.Prelude.{◌≡◌, ◌↔◌, ℕ, IsTrue};
-ghost use Rattle.rp_base.specs.Kind.{kind_name, reaches};
+ghost use Rattle.rp_base.specs.Kind.{is_under, kind_name, reaches};
 
 /// The kinds of exceptions.
 #[derive(Clone, Copy, Debug, PartialEq, Eq, Hash)]
@@ -25,6 +27,28 @@ pub enum Kind {
 }
 
 impl Kind {
+    /// All kinds.
+    pub const ALL: [Kind; 18] = [
+        Kind::Exception,
+        Kind::ArithmeticError,
+        Kind::ZeroDivisionError,
+        Kind::OverflowError,
+        Kind::LookupError,
+        Kind::IndexError,
+        Kind::KeyError,
+        Kind::NameError,
+        Kind::UnboundLocalError,
+        Kind::RuntimeError,
+        Kind::RecursionError,
+        Kind::ValueError,
+        Kind::TypeError,
+        Kind::AttributeError,
+        Kind::AssertionError,
+        Kind::Unauthorized,
+        Kind::Forbidden,
+        Kind::ForbiddenAttribute,
+    ];
+
     /// The name, as a script writes it.
     pub fn as_str(self) -> &'static str
         ensures { result.now ≡ kind_name self }
@@ -55,7 +79,8 @@ impl Kind {
 /// Whether a handler of the kind `handler` takes an exception of the kind `kind`: whether it is that kind
 /// or stands under it.
 pub fn is_kind(kind: Kind, handler: Kind) -> bool
-    ensures { IsTrue result ↔ ((n : ℕ) × IsTrue (reaches n kind handler)) }
+    ensures value { result ≡ is_under kind handler }
+    ensures reaches { IsTrue result ↔ ((n : ℕ) × IsTrue (reaches n kind handler)) }
 {
     kind == handler || handler == Kind::Exception || is_directly_under(kind, handler)
 }

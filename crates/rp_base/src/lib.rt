@@ -11,16 +11,13 @@ mod meter;
 mod names;
 mod native;
 mod operator;
-#[cfg(test)]
-mod outside_tests;
 mod sink;
-#[cfg(test)]
-mod tests;
 mod text;
 mod value;
+pub mod word;
 
 pub use files::{Failed, Files, NoFile};
-pub use identifiers::{identifier, is_keyword};
+pub use identifiers::{LONGEST_NAME, identifier, is_identifier_word, is_keyword};
 pub use kind::{Kind, is_kind};
 pub use memory::Memory;
 pub use memory_files::{MemFiles, SureFiles};
@@ -29,6 +26,9 @@ pub use meter::Meter;
 pub use names::Names;
 pub use native::NativeId;
 pub use operator::{BinOp, CmpOp, UnOp};
+pub use rp_hash::Seed;
 pub use sink::Sink;
-pub use text::{Printed, Text};
+#[doc(hidden)]
+pub use text::Letters;
+pub use text::{Printed, Text, ascii_at, ascii_slice};
 pub use value::{ClassTag, Line, Name, Oid, Op, OpEnd, Raised, Rock, Side, Status, Value};

@@ -1,3 +1,5 @@
+//! Want of memory.
+
 use std::alloc::{AllocError, AllocFailed};
 
 /// A growth was refused: the machine has no more memory to give.

@@ -1,3 +1,5 @@
+//! Files in memory, which fail where they are told to.
+
 ghost use Rattle.std.specs.Prelude.{◌≡◌, ◌≢◌, ◌<◌, ◌≤◌, ◌+◌, ◌==◌, ◌↔◌, ◌⊎◌, [], min, true, false, not, length, Some, None, option_map, IsTrue, IsSome, IsNone, IsOk, IfOk, IfSome, OnOk, OnErr, IsErr, IsErrOf};
 ghost use Rattle.std.specs.Option.{option_copied};
 ghost use Rattle.rp_base.specs.InMemory.{after_fault, after_work, begun_at, bytes_at, file_at, last_bytes, new_plan, next_number, FailsNext};
@@ -5,6 +7,7 @@ ghost use Rattle.rp_base.specs.Reading.{ReadsFront};
 
 use crate::files::{Failed, Files, NoFile};
 use crate::text::Text;
+use rp_hash::Seed;
 use std::marker::Model;
 
 /// Which calls are to fail, by their numbers from 1.
@@ -184,6 +187,10 @@ impl Files for SureFiles {
         self.is_open = count > 0;
         Ok(count)
     }
+
+    fn seed(&self) -> Seed {
+        Seed::from_bytes([0; 16])
+    }
 }
 
 /// Files in memory of which a read hands out few bytes, and some calls fail.
@@ -296,5 +303,9 @@ impl Files for MemFiles {
         }
         let most = self.most.min(into.len());
         self.held.read(&mut into[..most])
+    }
+
+    fn seed(&self) -> Seed {
+        self.held.seed()
     }
 }

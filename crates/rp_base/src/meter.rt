@@ -1,3 +1,5 @@
+//! The steps that are left.
+
 ghost use Rattle.std.specs.Prelude.{◌≡◌, ◌-◌, ◌↔◌, IsTrue, ◌<◌};
 
 /// The steps that a session may still take.

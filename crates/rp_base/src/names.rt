@@ -1,10 +1,13 @@
-ghost use Rattle.std.specs.Prelude.{◌≡◌, ◌<◌, [], All, IfOk, IsOk, IsTrue, OnErr, OnOk, Some, chars, fold, length, map, slice_get};
+//! The words of the program, each held once.
+
+ghost use Rattle.std.specs.Prelude.{◌≡◌, ◌<◌, [], All, IfOk, IfSome, IsOk, IsTrue, OnErr, OnOk, Some, chars, fold, is_some, length, map, slice_get};
 ghost use Rattle.rp_base.specs.Identifier.{IsIdentifier};
 ghost use Rattle.rp_base.specs.Names.{HoldsEachOnce, first_words, is_held, with_word};
 
 use crate::memory::Memory;
 use crate::value::Name;
 use indexmap::IndexSet;
+use rp_hash::Seed;
 use std::alloc::Global;
 use std::marker::Model;
 use std::rc::RcStr;
@@ -76,7 +79,7 @@ const FIRST_WORDS: [&str; 59] = [
 /// Each is an identifier in its form.
 #[derive(Drop)]
 pub struct Names {
-    words: IndexSet<RcStr>,
+    words: IndexSet<RcStr, Seed>,
 }
 
 impl Model for Names {
@@ -92,15 +95,15 @@ impl Model for Names {
 }
 
 impl Names {
-    /// The words of operations, at their fixed places.
+    /// The words of operations, at their fixed places. Words are hashed from the seed.
     ///
     /// # Errors
     /// `Memory` where a growth was refused.
-    pub fn new(alloc: Global) -> Result<Names, Memory>
+    pub fn new(alloc: Global, seed: Seed) -> Result<Names, Memory>
         ensures { IfOk result (λ n. n ≡ first_words) }
     {
         let mut names = Names {
-            words: IndexSet::new(alloc),
+            words: IndexSet::with_hasher(alloc, seed),
         };
         names.intern_all(&FIRST_WORDS)?;
         Ok(names)
@@ -124,6 +127,34 @@ impl Names {
         let text = RcStr::from_str(alloc, word)?;
         let (place, _) = self.words.insert_full(text)?;
         Ok(Name(place))
+    }
+
+    /// The name of the word, where it is held.
+    pub fn find(&self, word: &str) -> Option<Name>
+        ensures held { is_some result ≡ is_held self.now (chars word.now) }
+        ensures place { IfSome result (λ name. slice_get self.now name.0 ≡ Some (chars word.now)) }
+    {
+        let place = self.words.get_index_of(word)?;
+        Some(Name(place))
+    }
+
+    /// The seed from which words are hashed now.
+    pub fn seed(&self) -> Seed {
+        *self.words.hasher()
+    }
+
+    /// Hashes all words anew, from this seed. Each keeps its place.
+    ///
+    /// # Errors
+    /// `Memory` where a growth was refused; then they are hashed as before.
+    pub fn rekey(&mut self, seed: Seed) -> Result<(), Memory>
+        ensures same { self.new ≡ self.old }
+    {
+        let alloc = *self.words.allocator();
+        let mut words = IndexSet::with_capacity_and_hasher(alloc, self.words.len(), seed)?;
+        words.append(&mut self.words)?;
+        self.words = words;
+        Ok(())
     }
 
     /// The word of a name.

@@ -1,3 +1,5 @@
+//! The built-in functions and methods.
+
 /// The built-in functions, and the names of built-in methods.
 #[derive(Clone, Copy, Debug, PartialEq, Eq, Hash)]
 pub enum NativeId {
@@ -48,6 +50,56 @@ pub enum NativeId {
 impl NativeId {
     ghost use Rattle.std.specs.Prelude.{◌≡◌};
     ghost use Rattle.rp_base.specs.Native.{native_name};
+
+    /// The functions that scripts may call (Python Library Reference, "Built-in Functions"); `removeSecurityProxy` is for
+    /// trusted code alone.
+    pub const FUNCTIONS: [NativeId; 18] = [
+        NativeId::Len,
+        NativeId::Bool,
+        NativeId::Str,
+        NativeId::Int,
+        NativeId::Abs,
+        NativeId::Sum,
+        NativeId::Min,
+        NativeId::Max,
+        NativeId::Sorted,
+        NativeId::List,
+        NativeId::Tuple,
+        NativeId::Dict,
+        NativeId::Range,
+        NativeId::Enumerate,
+        NativeId::Zip,
+        NativeId::GetAttr,
+        NativeId::SetAttr,
+        NativeId::Print,
+    ];
+
+    /// The names of the methods of lists, tuples, dicts and texts.
+    pub const METHODS: [NativeId; 23] = [
+        NativeId::Append,
+        NativeId::Extend,
+        NativeId::Insert,
+        NativeId::Pop,
+        NativeId::Remove,
+        NativeId::Index,
+        NativeId::Count,
+        NativeId::Reverse,
+        NativeId::Get,
+        NativeId::Keys,
+        NativeId::Values,
+        NativeId::Items,
+        NativeId::SetDefault,
+        NativeId::Update,
+        NativeId::Copy,
+        NativeId::Join,
+        NativeId::Split,
+        NativeId::Strip,
+        NativeId::StartsWith,
+        NativeId::EndsWith,
+        NativeId::Find,
+        NativeId::Replace,
+        NativeId::IsDigit,
+    ];
 
     /// The name by which scripts call the function or the method.
     pub fn as_str(self) -> &'static str

@@ -1,3 +1,5 @@
+//! The operators.
+
 /// The binary operators (Python Language Reference, binary arithmetic, shifting and bitwise operations).
 #[derive(Clone, Copy, Debug, PartialEq, Eq, Hash)]
 pub enum BinOp {

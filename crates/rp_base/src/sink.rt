@@ -1,3 +1,5 @@
+//! The trait of what takes the written bytes.
+
 ghost use Rattle.std.specs.Prelude.{◌≡◌, ◌<◌, ◌≤◌, ◌++◌, ℕ, length, take, List, Option, option_map, IfOk, OnOk, OnErr};
 
 use crate::files::Failed;

@@ -1,4 +1,7 @@
-ghost use Rattle.std.specs.Prelude.{◌≡◌, ◌↔◌, ◌++◌, [], chars, IfOk, IsTrue, OnOk, OnErr};
+//! Shared texts, and the text that grows.
+
+ghost use Rattle.std.specs.Prelude.{◌≡◌, ◌≤◌, ◌↔◌, ◌++◌, [], chars, IfOk, IfSome, IsSome, IsTrue, OnOk, OnErr, length, slice_get, slice_range, string_bytes};
+ghost use Rattle.std.specs.Str.{IsAscii};
 ghost use Rattle.rp_base.specs.Same.{same_text};
 
 use crate::memory::Memory;
@@ -6,22 +9,30 @@ use std::alloc::Global;
 use std::cmp::Ordering;
 use std::hash::{Hash, Hasher};
 use std::marker::Model;
-use std::rc::RcStr;
+use std::rc::Rc;
 
-/// A shared text, seen as the list of its characters. Texts are compared by their UTF-8 bytes,
-/// which is the order of their characters.
+/// The characters of a text, and how many they are.
+#[derive(Drop)]
+pub struct Letters {
+    text: String,
+    count: usize,
+}
+
+/// A shared text, seen as the list of its characters, which knows how many they are. Texts are compared by their UTF-8
+/// bytes, which is the order of their characters.
 #[derive(Drop)]
 pub struct Text {
-    shared: RcStr,
+    shared: Rc<Letters>,
 }
 
 impl Model for Text {
-    ghost use Rattle.std.specs.Prelude.{ℕ, List, chars};
-    ghost use Rattle.std.specs.Rc.{rc_str_bytes};
+    ghost use Rattle.std.specs.Prelude.{◌≡◌, ℕ, List, chars, length, string_bytes};
 
     ghost Value = { List ℕ };
 
-    ghost view = { λ t. chars (rc_str_bytes t.shared) };
+    ghost view = { λ t. chars (string_bytes t.shared.value.text) };
+
+    ghost invariant = { λ t. t.shared.value.count ≡ length (chars (string_bytes t.shared.value.text)) };
 }
 
 impl Text {
@@ -29,16 +40,48 @@ impl Text {
     pub fn new(alloc: Global, text: &str) -> Result<Text, Memory>
         ensures { IfOk result (λ t. t ≡ chars text.now) }
     {
-        Ok(Text {
-            shared: RcStr::from_str(alloc, text)?,
-        })
+        Text::from_string(alloc, String::from_str(alloc, text)?)
+    }
+
+    /// A text with the characters of a string, which are not copied. It is refused only for want of memory.
+    pub fn from_string(alloc: Global, text: String) -> Result<Text, Memory>
+        ensures { IfOk result (λ t. t ≡ chars (string_bytes text)) }
+    {
+        let count = count(text.as_str());
+        match Rc::new(alloc, Letters { text, count }) {
+            Ok(shared) => Ok(Text { shared }),
+            Err(_) => Err(Memory),
+        }
     }
 
     /// The characters.
+    #[inline(always)]
     pub fn as_str(&self) -> &str
         ensures { chars result.now ≡ self.now }
     {
-        self.shared.as_str()
+        self.shared.text.as_str()
+    }
+
+    /// The number of characters, in constant time.
+    #[inline(always)]
+    pub fn len(&self) -> usize
+        ensures { result ≡ length self.now }
+    {
+        self.shared.count
+    }
+
+    /// The characters where each is ASCII, so one byte. It takes constant time.
+    #[inline(always)]
+    pub fn ascii(&self) -> Option<&str>
+        ensures same { IfSome result (λ text. text.now ≡ self.now) }
+        ensures ascii { IfSome result (λ text. IsAscii text.now) }
+        ensures each { IsAscii self.now → IsSome result }
+    {
+        let text = self.shared.text.as_str();
+        if text.len() == self.shared.count {
+            return Some(text);
+        }
+        None
     }
 
     /// Whether these are its characters.
@@ -51,6 +94,7 @@ impl Text {
 
     /// An equal text, which shares the characters and allocates nothing. It is refused only where
     /// the count of its owners is full.
+    #[inline(always)]
     pub fn copy(&self) -> Result<Text, Memory>
         ensures { IfOk result (λ t. t ≡ self.now) }
     {
@@ -58,6 +102,36 @@ impl Text {
             shared: self.shared.clone()?,
         })
     }
+}
+
+fn count(text: &str) -> usize
+    ensures { result ≡ length (chars text.now) }
+{
+    text.chars().count()
+}
+
+/// The character at a place of an ASCII text.
+#[inline(always)]
+pub fn ascii_at(text: &str, place: usize) -> Option<char>
+    requires { IsAscii text.now }
+    ensures { result ≡ slice_get text.now place }
+{
+    let bytes = text.as_bytes();
+    if place < bytes.len() {
+        return Some(bytes[place] as char);
+    }
+    None
+}
+
+/// The characters of an ASCII text from one place up to another.
+#[inline(always)]
+pub fn ascii_slice(text: &str, from: usize, to: usize) -> &str
+    requires ascii { IsAscii text.now }
+    requires order { from ≤ to }
+    requires within { to ≤ length text.now }
+    ensures { result.now ≡ slice_range text.now from to }
+{
+    &text[from..to]
 }
 
 impl PartialEq for Text {
@@ -71,7 +145,7 @@ impl PartialEq for Text {
     ghost laws = { on_per encode_utf8_all (partial_equiv_from_equiv nat_list_eq_equiv) };
 
     fn eq(&self, other: &Text) -> bool {
-        self.shared == other.shared
+        self.as_str() == other.as_str()
     }
 }
 
@@ -113,7 +187,7 @@ impl Ord for Text {
     ghost matches_eq = { λ x y. texts_ties (encode_utf8_all x) (encode_utf8_all y) };
 
     fn cmp(&self, other: &Text) -> Ordering {
-        self.shared.cmp(&other.shared)
+        self.as_str().cmp(other.as_str())
     }
 }
 
@@ -128,7 +202,7 @@ impl Hash for Text {
     ghost respects_eq = { Prim.search (hashing, rules) };
 
     fn hash<H: Hasher>(&self, state: &mut H) {
-        self.shared.hash(state);
+        self.as_str().hash(state);
     }
 }
 

@@ -1,3 +1,5 @@
+//! Values, and what names and references are.
+
 ghost use Rattle.std.specs.Prelude.{◌≡◌, IfOk};
 
 use crate::kind::Kind;
@@ -98,6 +100,7 @@ pub enum Op {
 
 impl Rock {
     /// An equal rock; its text is shared. It is refused only where the count of a text's owners is full.
+    #[inline(always)]
     pub fn copy(&self) -> Result<Rock, Memory>
         ensures { IfOk result (λ r. r ≡ self.now) }
     {
@@ -115,6 +118,7 @@ impl Rock {
 
 impl Value {
     /// An equal value; its text is shared. It is refused only where the count of a text's owners is full.
+    #[inline(always)]
     pub fn copy(&self) -> Result<Value, Memory>
         ensures { IfOk result (λ v. v ≡ self.now) }
     {

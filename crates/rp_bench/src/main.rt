@@ -3,7 +3,7 @@
 //! over, and `rp_bench parse N TEXT` its tree too. It writes nothing; whatever else it is given, it does nothing.
 #![tactic(auto)]
 
-use rp_base::{ClassTag, Memory, Names, Op, Text};
+use rp_base::{ClassTag, Memory, Names, Op, Seed, Text};
 use rp_checker::Checkers;
 use rp_decl::{Decl, DeclFault, Perm, Row, declarations};
 use rp_interact::{Interaction, WhoFault};
@@ -103,7 +103,7 @@ fn script(alloc: Global, text: &str, turns: u64, parsed: bool) -> Result<(), Fai
     for _ in 0..turns {
         script.push_str(text)?;
     }
-    let mut names = Names::new(alloc)?;
+    let mut names = Names::new(alloc, Seed::from_bytes([0; 16]))?;
     if parsed {
         return read_tree(alloc, script.as_str(), &mut names);
     }
@@ -131,7 +131,7 @@ fn declared(alloc: Global, names: &mut Names) -> Result<Decl, Failure> {
 }
 
 fn decide(alloc: Global, turns: u64) -> Result<(), Failure> {
-    let mut names = Names::new(alloc)?;
+    let mut names = Names::new(alloc, Seed::from_bytes([0; 16]))?;
     let decl = declared(alloc, &mut names)?;
     let mut who = Vec::new(alloc);
     who.push(Text::new(alloc, "u")?)?;
@@ -153,7 +153,7 @@ fn decide(alloc: Global, turns: u64) -> Result<(), Failure> {
 }
 
 fn rows(alloc: Global, turns: u64) -> Result<(), Failure> {
-    let mut names = Names::new(alloc)?;
+    let mut names = Names::new(alloc, Seed::from_bytes([0; 16]))?;
     let decl = declared(alloc, &mut names)?;
     let checkers = Checkers::new(alloc, &decl)?;
     let [class] = decl.classes() else {

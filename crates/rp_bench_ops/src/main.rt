@@ -1,13 +1,18 @@
-//! Loops for bench/operators.sh: `rp_bench_ops add N` and its kin do a plain operation N times, and `rp_bench_ops list N SIZE` and
-//! its kin fill a store with N cells of objects of that size. It writes nothing; whatever else it is given, it does nothing.
+//! Loops for bench/operators.sh and bench/hostile/run.sh: `rp_bench_ops add N` and its kin do a plain operation N times,
+//! `rp_bench_ops list N SIZE` and its kin fill a store with N cells of objects of that size, and `rp_bench_ops keys` takes each
+//! line of its input as a key of a dict. It writes nothing; whatever else it is given, it does nothing.
 #![tactic(auto)]
 
 mod cells;
+mod hostile;
+mod objects;
 mod operators;
+mod texts;
 
 use rp_base::{Memory, OpEnd};
 use rp_store::StoreFault;
 use std::alloc::{AllocError, AllocFailed, Global};
+use std::io::{BufReader, Input};
 use std::process::ExitCode;
 use std::rt::Env;
 
@@ -55,14 +60,20 @@ fn main(rt: HostRuntime) -> ExitCode {
     }
 }
 
-fn run<R: Env + AllocGlobal>(rt: &R) -> Result<(), Failure> {
+fn run<R: Env + Input + AllocGlobal>(rt: &R) -> Result<(), Failure> {
     let alloc = rt.alloc();
     let Ok(words) = std::env::args(rt) else {
         return Err(Failure::Memory);
     };
     let mut words = words.skip(1);
-    let (Some(what), Some(turns)) = (words.next(), words.next()) else {
+    let Some(what) = words.next() else {
         return Ok(());
+    };
+    let Some(turns) = words.next() else {
+        return match what.as_str() {
+            "keys" => keys_of_input(rt),
+            _ => Ok(()),
+        };
     };
     let Ok(turns) = turns.parse::<u64>() else {
         return Ok(());
@@ -76,23 +87,65 @@ fn run<R: Env + AllocGlobal>(rt: &R) -> Result<(), Failure> {
     }
 }
 
+/// Takes each line of the input as a key of a dict.
+fn keys_of_input<R: Input + AllocGlobal>(rt: &R) -> Result<(), Failure> {
+    let alloc = rt.alloc();
+    match BufReader::new(alloc, rt.reader()) {
+        Ok(input) => hostile::keys(alloc, input),
+        Err(_) => Err(Failure::Memory),
+    }
+}
+
 /// So far one key is behind the last where they are not next to each other. It has no divisor in common with 1,000,000.
 const FAR: i64 = 618_033;
 
 /// Does an operation so many times.
 fn operate(alloc: Global, what: &str, turns: u64) -> Result<(), Failure> {
     match what {
+        "idle" => operators::idle(turns),
         "add" => operators::add(alloc, turns),
-        "join" => operators::join(alloc, turns),
         "get_item" => operators::get_item(alloc, turns),
+        "slice_list" => operators::slice_list(alloc, turns),
+        "in" => operators::seek(alloc, turns),
+        "equal" => operators::equate(alloc, turns),
+        "walk" => operators::walk(alloc, turns),
         "append" => operators::append(alloc, turns),
+        "show" => operators::show_list(alloc, turns),
+        "field" => objects::field(alloc, turns),
+        "method" => objects::method(alloc, turns),
+        "key_errors" => hostile::key_errors(alloc, turns),
+        _ => on_dict(alloc, what, turns),
+    }
+}
+
+/// Does an operation on a dict so many times.
+fn on_dict(alloc: Global, what: &str, turns: u64) -> Result<(), Failure> {
+    match what {
         "get_key_10" => operators::get_key(alloc, 10, 1, turns),
         "get_key_1000000" => operators::get_key(alloc, 1_000_000, 1, turns),
         "get_far_key_1000000" => operators::get_key(alloc, 1_000_000, FAR, turns),
         "set_key_10" => operators::set_key(alloc, 10, 1, turns),
         "set_key_1000000" => operators::set_key(alloc, 1_000_000, 1, turns),
         "set_far_key_1000000" => operators::set_key(alloc, 1_000_000, FAR, turns),
-        "show" => operators::show_list(alloc, turns),
+        "replace_key_10" => operators::replace_key(alloc, 10, 1, turns),
+        "replace_key_1000000" => operators::replace_key(alloc, 1_000_000, FAR, turns),
+        "empty_front" => operators::empty_front(alloc, turns),
+        _ => on_text(alloc, what, turns),
+    }
+}
+
+/// Does an operation on a text so many times.
+fn on_text(alloc: Global, what: &str, turns: u64) -> Result<(), Failure> {
+    match what {
+        "join" => texts::join(alloc, turns),
+        "letter_10" => texts::letter(alloc, 10, true, turns),
+        "slice_text" => texts::short_slice(alloc, turns),
+        "length_ascii" => texts::length(alloc, true, turns),
+        "length_other" => texts::length(alloc, false, turns),
+        "letter_ascii" => texts::letter(alloc, 100_000, true, turns),
+        "letter_other" => texts::letter(alloc, 100_000, false, turns),
+        "slice_ascii" => texts::far_slice(alloc, true, turns),
+        "slice_other" => texts::far_slice(alloc, false, turns),
         _ => Ok(()),
     }
 }

@@ -1,14 +1,15 @@
-//! Loops over the plain operators, each on one store.
+//! Loops over the plain operators on numbers, lists and dicts, each on one store.
 ghost use Rattle.std.specs.Prelude.{List, IfOk, IfSome, IsTrue};
 ghost use Rattle.rp_store.specs.Heap.{IsHeld, Names as IsAt, Owned};
-ghost use Rattle.rp_store.specs.Kept.{AreSound, IsKept, IsSound};
+ghost use Rattle.rp_store.specs.Kept.{AreSound, IsSound};
 ghost use Rattle.rp_store.specs.Parts.{IsList};
 
 use crate::Failure;
-use rp_base::{BinOp, Meter, Names, Oid, Rock, Side, Text, Value};
+use rp_base::{BinOp, CmpOp, Meter, Names, Oid, OpEnd, Rock, Seed, Side, Value};
+use rp_compare::{compare, contains};
 use rp_dict::Dict;
-use rp_items::{item, set_item};
-use rp_ops::{binary, new_object};
+use rp_items::{SliceParts, del_item, item, set_item, slice};
+use rp_ops::{binary, elements, new_object};
 use rp_show::show;
 use rp_store::{Object, Store};
 use std::alloc::Global;
@@ -19,26 +20,44 @@ const ELEMENTS: i64 = 1_000;
 /// Where the list or dict stands that a loop works on: it is made first.
 const FRONT: Oid = Oid(0);
 
+/// The seed of the tables: times are to repeat.
+pub(crate) fn seed() -> Seed {
+    Seed::from_bytes([7; 16])
+}
+
+/// An empty store.
+pub(crate) fn store(alloc: Global) -> Store {
+    Store::new(alloc, u64::MAX, seed())
+}
+
+/// A number made in each turn, as the other loops make it.
+pub(crate) fn idle(turns: u64) -> Result<(), Failure> {
+    let mut sum = 0i64;
+    for turn in 0..turns {
+        sum = sum.wrapping_add(touched(&Value::Rock(Rock::Int(small(turn)))));
+    }
+    if sum < 0 {
+        return Err(Failure::Answer);
+    }
+    Ok(())
+}
+
+#[inline(never)]
+fn touched(value: &Value) -> i64 {
+    match value {
+        Value::Rock(Rock::Int(n)) => *n,
+        _ => 0,
+    }
+}
+
 /// `x + 1`.
 pub(crate) fn add(alloc: Global, turns: u64) -> Result<(), Failure> {
-    let mut store = Store::new(alloc, u64::MAX);
+    let mut store = store(alloc);
     let mut meter = Meter { left: 0 };
     for turn in 0..turns {
         let x = Value::Rock(Rock::Int(small(turn)));
         let one = Value::Rock(Rock::Int(1));
         binary(alloc, &mut store, &mut meter, Side(1), BinOp::Add, &x, &one)?;
-    }
-    Ok(())
-}
-
-/// `s + t`, of texts of ten characters.
-pub(crate) fn join(alloc: Global, turns: u64) -> Result<(), Failure> {
-    let mut store = Store::new(alloc, u64::MAX);
-    let mut meter = Meter { left: 0 };
-    let s = Value::Rock(Rock::Text(Text::new(alloc, "0123456789")?));
-    let t = Value::Rock(Rock::Text(Text::new(alloc, "abcdefghij")?));
-    for _ in 0..turns {
-        binary(alloc, &mut store, &mut meter, Side(1), BinOp::Add, &s, &t)?;
     }
     Ok(())
 }
@@ -52,6 +71,79 @@ pub(crate) fn get_item(alloc: Global, turns: u64) -> Result<(), Failure> {
         };
         let i = Value::Rock(Rock::Int(small(turn)));
         item(alloc, &mut store, &list, &i)?;
+    }
+    Ok(())
+}
+
+/// `xs[1:9]`, on a list of ten numbers.
+pub(crate) fn slice_list(alloc: Global, turns: u64) -> Result<(), Failure> {
+    let mut store = list_of(alloc, 10)?;
+    for _ in 0..turns {
+        let Some(list) = front(&store) else {
+            return Err(Failure::Answer);
+        };
+        slice_between(alloc, &mut store, &list, 1, 9)?;
+    }
+    Ok(())
+}
+
+/// The items between two places of a value.
+pub(crate) fn slice_between(
+    alloc: Global,
+    store: &mut Store,
+    a: &Value,
+    from: i64,
+    to: i64,
+) -> Result<Value, OpEnd>
+    requires { IsSound store.old.heap a.now }
+{
+    let (from, to) = (Value::Rock(Rock::Int(from)), Value::Rock(Rock::Int(to)));
+    let parts = SliceParts {
+        from: &from,
+        to: &to,
+        step: &Value::Rock(Rock::Nil),
+    };
+    slice(alloc, store, a, parts)
+}
+
+/// `x in xs`, where x is the last of ten numbers.
+pub(crate) fn seek(alloc: Global, turns: u64) -> Result<(), Failure> {
+    let store = list_of(alloc, 10)?;
+    let mut meter = Meter { left: u64::MAX };
+    for _ in 0..turns {
+        let Some(list) = front(&store) else {
+            return Err(Failure::Answer);
+        };
+        let last = Value::Rock(Rock::Int(9));
+        contains(alloc, &store, &mut meter, &last, &list)?;
+    }
+    Ok(())
+}
+
+/// `xs == ys`, of two lists of ten numbers.
+pub(crate) fn equate(alloc: Global, turns: u64) -> Result<(), Failure> {
+    let mut store = list_of(alloc, 10)?;
+    let other = Object::List(numbers(alloc, 10)?);
+    let other = new_object(&mut store, Side(1), other)?;
+    let mut meter = Meter { left: u64::MAX };
+    for _ in 0..turns {
+        let Some(list) = front(&store) else {
+            return Err(Failure::Answer);
+        };
+        compare(alloc, &store, &mut meter, CmpOp::Eq, &list, &other)?;
+    }
+    Ok(())
+}
+
+/// Walks a list of ten numbers, as `tuple(xs)` does.
+pub(crate) fn walk(alloc: Global, turns: u64) -> Result<(), Failure> {
+    let mut store = list_of(alloc, 10)?;
+    let mut meter = Meter { left: u64::MAX };
+    for _ in 0..turns {
+        let Some(list) = front(&store) else {
+            return Err(Failure::Answer);
+        };
+        elements(alloc, &mut store, &mut meter, &list)?;
     }
     Ok(())
 }
@@ -87,15 +179,42 @@ pub(crate) fn set_key(alloc: Global, entries: i64, stride: i64, turns: u64) -> R
     let mut store = dict_of(alloc, entries)?;
     let mut key = 0;
     for _ in 0..turns {
-        set(alloc, &mut store, key, 1)?;
+        set(alloc, &mut store, Rock::Int(key), 1)?;
         key = next(key, stride, entries);
+    }
+    Ok(())
+}
+
+/// `del d[k]; d[k] = 1`, on a dict of so many entries, each so far behind the last.
+pub(crate) fn replace_key(
+    alloc: Global,
+    entries: i64,
+    stride: i64,
+    turns: u64,
+) -> Result<(), Failure> {
+    let mut store = dict_of(alloc, entries)?;
+    let mut key = 0;
+    for _ in 0..turns {
+        del(alloc, &mut store, key)?;
+        set(alloc, &mut store, Rock::Int(key), 1)?;
+        key = next(key, stride, entries);
+    }
+    Ok(())
+}
+
+/// Deletes each key of a dict of so many, from the front.
+pub(crate) fn empty_front(alloc: Global, entries: u64) -> Result<(), Failure> {
+    let entries = (entries & 0xFFFF_FFFF) as i64;
+    let mut store = dict_of(alloc, entries)?;
+    for key in 0..entries {
+        del(alloc, &mut store, key)?;
     }
     Ok(())
 }
 
 /// `str(xs)`.
 pub(crate) fn show_list(alloc: Global, turns: u64) -> Result<(), Failure> {
-    let names = Names::new(alloc)?;
+    let names = Names::new(alloc, seed())?;
     let mut store = list_of(alloc, ELEMENTS)?;
     let mut meter = Meter { left: u64::MAX };
     for _ in 0..turns {
@@ -108,7 +227,7 @@ pub(crate) fn show_list(alloc: Global, turns: u64) -> Result<(), Failure> {
 }
 
 /// A number below the length of the list.
-fn small(turn: u64) -> i64 {
+pub(crate) fn small(turn: u64) -> i64 {
     (turn % 1_000) as i64
 }
 
@@ -134,42 +253,51 @@ fn numbers(alloc: Global, count: i64) -> Result<Vec<Value>, Failure>
 }
 
 /// A store with a list of numbers.
-fn list_of(alloc: Global, count: i64) -> Result<Store, Failure>
-    ensures { IfOk result (λ s. IsKept s.heap) }
-{
-    let mut store = Store::new(alloc, u64::MAX);
+fn list_of(alloc: Global, count: i64) -> Result<Store, Failure> {
+    let mut store = store(alloc);
     let list = Object::List(numbers(alloc, count)?);
     new_object(&mut store, Side(1), list)?;
     Ok(store)
 }
 
+/// A store with an empty dict.
+pub(crate) fn with_dict(alloc: Global) -> Result<Store, Failure> {
+    let mut store = store(alloc);
+    let dict = Object::Dict(Dict::new(alloc, seed()));
+    new_object(&mut store, Side(1), dict)?;
+    Ok(store)
+}
+
 /// A store with a dict of numbers by numbers.
-fn dict_of(alloc: Global, count: i64) -> Result<Store, Failure>
-    ensures { IfOk result (λ s. IsKept s.heap) }
-{
-    let mut store = Store::new(alloc, u64::MAX);
-    new_object(&mut store, Side(1), Object::Dict(Dict::new(alloc)))?;
+fn dict_of(alloc: Global, count: i64) -> Result<Store, Failure> {
+    let mut store = with_dict(alloc)?;
     for key in 0..count {
-        set(alloc, &mut store, key, key)?;
+        set(alloc, &mut store, Rock::Int(key), key)?;
     }
     Ok(store)
 }
 
 /// `d[k] = n`.
-fn set(alloc: Global, store: &mut Store, key: i64, n: i64) -> Result<(), Failure>
-    requires { IsKept store.old.heap }
-    ensures { IsKept store.new.heap }
-{
+pub(crate) fn set(alloc: Global, store: &mut Store, key: Rock, n: i64) -> Result<(), Failure> {
     let Some(dict) = front(store) else {
         return Err(Failure::Answer);
     };
-    let key = Value::Rock(Rock::Int(key));
+    let key = Value::Rock(key);
     set_item(alloc, store, &dict, &key, Value::Rock(Rock::Int(n)))?;
     Ok(())
 }
 
+/// `del d[k]`.
+fn del(alloc: Global, store: &mut Store, key: i64) -> Result<(), Failure> {
+    let Some(dict) = front(store) else {
+        return Err(Failure::Answer);
+    };
+    del_item(alloc, store, &dict, &Value::Rock(Rock::Int(key)))?;
+    Ok(())
+}
+
 /// A reference to the list or dict that was made first.
-fn front(store: &Store) -> Option<Value>
+pub(crate) fn front(store: &Store) -> Option<Value>
     ensures { IfSome result (λ v. IsSound store.now.heap v) }
 {
     if FRONT.0 >= store.len() {

@@ -1,3 +1,5 @@
+//! The checkers of declarations: the row of a class for an operation.
+
 ghost use Rattle.std.specs.Prelude.{◌≡◌, IfOk, ℕ, List, length};
 ghost use Rattle.rp_checker.specs.Answers.{AnswersAs, AreRowsWithin, IsReadWith};
 ghost use Rattle.rp_checker.specs.Tables.{listed, row_in};

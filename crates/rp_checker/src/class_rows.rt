@@ -1,3 +1,5 @@
+//! The rows of one class, over those of the class that it is like.
+
 ghost use Rattle.std.specs.Prelude.{◌≡◌, ◌++◌, IfOk, [], map, option_map};
 ghost use Rattle.std.specs.Option.{option_map_or, option_or};
 ghost use Rattle.std.specs.Map.{lookup};

@@ -5,8 +5,6 @@ mod checkers;
 mod class_rows;
 mod plan;
 mod table;
-#[cfg(test)]
-mod tests;
 mod words;
 
 pub use checkers::Checkers;

@@ -1,3 +1,5 @@
+//! The order in which the rows of classes are made: a class after the one that it is like.
+
 ghost use Rattle.std.specs.Prelude.{◌≡◌, ◌<◌, ℕ, IfOk, OnOk, [], true, map, length, slice_get, option_copied, option_and_then, vec_len};
 ghost use Rattle.std.specs.Option.{option_or};
 ghost use Rattle.std.specs.Map.{lookup};

@@ -1,3 +1,5 @@
+//! Tables from names to values, looked up by halving.
+
 ghost use Rattle.std.specs.Prelude.{◌≡◌, IfOk, []};
 ghost use Rattle.std.specs.Map.{lookup};
 ghost use Rattle.rp_base.specs.declared.value.Name.{Name};

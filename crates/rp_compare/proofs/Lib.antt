@@ -2,4 +2,3 @@ mod CompareExamples
 mod Parts
 mod Rounds
 mod Sought
-mod Turned

@@ -1,7 +1,8 @@
 -- Equality of values (Python Language Reference, Value comparisons), with the steps that it takes. Other way: what containers hold is
 -- compared by a test that is handed in, none where it lies too deep, and goes down both lists at once, the dicts searched as lists
--- of entries; the code counts the depth left down and loops, on a pair of iterators or an index, and asks the right dict for the key.
+-- of entries; the code counts the depth left down and loops, on a pair of iterators or a walk, and asks the right dict for the key.
 use Rattle.std.specs.Prelude.{ℕ, zero, suc, ◌==◌, ℤ, Bool, true, false, ◌&&◌, List, [], ◌∷◌, length, Option, Some, None, if◌then◌else◌}
+use Rattle.std.specs.List.{zip}
 use Rattle.std.specs.Map.{lookup}
 use Rattle.std.specs.Option.{option_map_or}
 use Rattle.std.specs.Ordering.{int_eq}
@@ -27,32 +28,33 @@ use Rattle.rp_ops.specs.Outcome.{State, Outcome, gives, on_value, stepped}
 abbrev pub Test : Type 0
 Test = Value → Value → State → Outcome Bool
 
--- each pair takes a step, up to the first that is unequal
-abbrev pub pairs_equal : Test → List Value → List Value → State → Outcome Bool
-pairs_equal same [] ys s = gives true s
-pairs_equal same (x ∷ xs) [] s = gives true s
-pairs_equal same (x ∷ xs) (y ∷ ys) s = stepped s (λ s. on_value (same x y s) (λ b s. if b then pairs_equal same xs ys s else gives false s))
+-- each of them is tested, up to the first that is unequal
+abbrev pub all_equal : {A : Type 0} → (A → State → Outcome Bool) → List A → State → Outcome Bool
+all_equal one [] s = gives true s
+all_equal one (x ∷ xs) s = on_value (one x s) (λ b s. if b then all_equal one xs s else gives false s)
 
--- an entry of the left dict with what the right one has at its key: none there makes the dicts unequal
-abbrev pub entry_equal : Test → Value → Option (Rock × Value) → State → (State → Outcome Bool) → Outcome Bool
-entry_equal same v None s go = gives false s
-entry_equal same v (Some f) s go = stepped s (λ s. on_value (same v f.1 s) (λ b s. if b then go s else gives false s))
+-- a pair of values takes a step
+abbrev pub pair_equal : Test → Value × Value → State → Outcome Bool
+pair_equal same pair s = stepped s (same pair.0 pair.1)
 
--- the entries of the left dict in their order
-abbrev pub entries_equal : Test → List (Key × (Rock × Value)) → List (Key × (Rock × Value)) → State → Outcome Bool
-entries_equal same [] fs s = gives true s
-entries_equal same (e ∷ es) fs s = entry_equal same e.1.1 (lookup (same_key e.0) fs) s (entries_equal same es fs)
+-- a value of the left dict and the entry of the right one at its key: where there is none the dicts are unequal
+abbrev pub found_equal : Test → Value → Option (Rock × Value) → State → Outcome Bool
+found_equal same v found s = option_map_or (λ entry. pair_equal same (v, entry.1) s) found (gives false s)
+
+abbrev pub entry_equal : Test → List (Key × (Rock × Value)) → Key × (Rock × Value) → State → Outcome Bool
+entry_equal same fs e s = found_equal same e.1.1 (lookup (same_key e.0) fs) s
 
 -- containers of different lengths are unequal, and nothing in them is compared
 abbrev pub of_length : ℕ → ℕ → State → Outcome Bool → Outcome Bool
 of_length m n s go = if m == n then go else gives false s
 
--- the elements of two lists or two tuples
+-- the elements of two lists or two tuples, pair by pair
 abbrev pub elements_equal : Test → List Value → List Value → State → Outcome Bool
-elements_equal same xs ys s = of_length (length xs) (length ys) s (pairs_equal same xs ys s)
+elements_equal same xs ys s = of_length (length xs) (length ys) s (all_equal (pair_equal same) (zip xs ys) s)
 
+-- the entries of the left dict, in their order
 abbrev pub dicts_equal : Test → List (Key × (Rock × Value)) → List (Key × (Rock × Value)) → State → Outcome Bool
-dicts_equal same es fs s = of_length (length es) (length fs) s (entries_equal same es fs s)
+dicts_equal same es fs s = of_length (length es) (length fs) s (all_equal (entry_equal same fs) es s)
 
 -- two different objects: containers of one kind by what they hold, all else is unequal
 abbrev pub contents_equal : Option Test → Content → Content → State → Outcome Bool

@@ -1,11 +1,11 @@
+//! Equality of values.
 ghost use Rattle.std.specs.Prelude.{◌≡◌, ◌<◌, ◌≤◌, IfErr, IfOk, None, Some};
-ghost use Rattle.rp_compare.specs.Equality.{dicts_equal, elements_equal, equal, objects_equal, within};
+ghost use Rattle.std.specs.Option.{option_copied};
+ghost use Rattle.rp_compare.specs.Equality.{contents_equal, dicts_equal, elements_equal, equal, found_equal, objects_equal, pair_equal, within};
 ghost use Rattle.rp_ops.specs.Depth.{deepest};
 ghost use Rattle.rp_ops.specs.Outcome.{Meets, Raises, state_of};
 ghost use Rattle.rp_ops.specs.Refused.{raised_by};
-ghost use Rattle.rp_store.specs.Heap.{IsHeld};
-ghost use Rattle.rp_store.specs.Kept.{AreSound, IsEntry, IsKept, IsSound};
-ghost use Rattle.std.specs.List.{All};
+ghost use Rattle.rp_store.specs.Object.{content_of};
 
 use crate::rocks::equal_rocks;
 use rp_base::{Meter, Oid, OpEnd, Rock, Value};
@@ -35,9 +35,6 @@ pub fn equal(
     a: &Value,
     b: &Value,
 ) -> Result<bool, OpEnd>
-    requires kept { IsKept store.now.heap }
-    requires a { IsSound store.now.heap a.now }
-    requires b { IsSound store.now.heap b.now }
     ensures plain { Meets result (state_of store.now meter.new.left) (equal deepest a.now b.now (state_of store.now meter.old.left)) }
     ensures fewer { meter.new.left ≤ meter.old.left }
 {
@@ -54,9 +51,6 @@ fn equal_values(
     a: &Value,
     b: &Value,
 ) -> Result<bool, OpEnd>
-    requires kept { IsKept store.now.heap }
-    requires a { IsSound store.now.heap a.now }
-    requires b { IsSound store.now.heap b.now }
     ensures plain { Meets result (state_of store.now meter.new.left) (equal depth a.now b.now (state_of store.now meter.old.left)) }
     ensures fewer { meter.new.left ≤ meter.old.left }
 {
@@ -79,16 +73,32 @@ fn equal_objects(
     x: Oid,
     y: Oid,
 ) -> Result<bool, OpEnd>
-    requires kept { IsKept store.now.heap }
-    requires x { IsHeld store.now.heap x }
-    requires y { IsHeld store.now.heap y }
     ensures plain { Meets result (state_of store.now meter.new.left) (objects_equal (within depth) x y (state_of store.now meter.old.left)) }
     ensures fewer { meter.new.left ≤ meter.old.left }
 {
     if x == y {
         return Ok(true);
     }
-    match (store.object(x), store.object(y)) {
+    match (store.get(x), store.get(y)) {
+        (Some(left), Some(right)) => equal_contents(alloc, store, meter, depth, left, right),
+        _ => Ok(false),
+    }
+}
+
+/// Two different objects.
+#[cycle(equality)]
+fn equal_contents(
+    alloc: Global,
+    store: &Store,
+    meter: &mut Meter,
+    depth: usize,
+    left: &Object,
+    right: &Object,
+) -> Result<bool, OpEnd>
+    ensures plain { Meets result (state_of store.now meter.new.left) (contents_equal (within depth) (content_of left.now) (content_of right.now) (state_of store.now meter.old.left)) }
+    ensures fewer { meter.new.left ≤ meter.old.left }
+{
+    match (left, right) {
         (Object::List(xs), Object::List(ys)) => {
             equal_elements(alloc, store, meter, inner_depth(alloc, depth)?, xs, ys)
         }
@@ -125,9 +135,6 @@ fn equal_elements(
     xs: &[Value],
     ys: &[Value],
 ) -> Result<bool, OpEnd>
-    requires kept { IsKept store.now.heap }
-    requires xs { AreSound store.now.heap xs.now }
-    requires ys { AreSound store.now.heap ys.now }
     ensures plain { Meets result (state_of store.now meter.new.left) (elements_equal (equal depth) xs.now ys.now (state_of store.now meter.old.left)) }
     ensures fewer { meter.new.left ≤ meter.old.left }
 {
@@ -135,8 +142,7 @@ fn equal_elements(
         return Ok(false);
     }
     for (x, y) in xs.iter().zip(ys) {
-        step(meter)?;
-        if !equal_values(alloc, store, meter, depth, x, y)? {
+        if !equal_pair(alloc, store, meter, depth, x, y)? {
             return Ok(false);
         }
     }
@@ -153,25 +159,53 @@ fn equal_entries(
     es: &Dict<Key, (Rock, Value)>,
     fs: &Dict<Key, (Rock, Value)>,
 ) -> Result<bool, OpEnd>
-    requires kept { IsKept store.now.heap }
-    requires es { All (IsEntry store.now.heap) es.now }
-    requires fs { All (IsEntry store.now.heap) fs.now }
     ensures plain { Meets result (state_of store.now meter.new.left) (dicts_equal (equal depth) es.now fs.now (state_of store.now meter.old.left)) }
     ensures fewer { meter.new.left ≤ meter.old.left }
 {
     if es.len() != fs.len() {
         return Ok(false);
     }
-    let mut i = 0;
-    while let Some((key, (_, value))) = es.at(i) {
-        let Some((_, other)) = fs.get(key) else {
-            return Ok(false);
-        };
-        step(meter)?;
-        if !equal_values(alloc, store, meter, depth, value, other)? {
+    let mut walk = es.walk();
+    while let Some((key, (_, value))) = walk.next() {
+        if !equal_found(alloc, store, meter, depth, value, fs.get(key))? {
             return Ok(false);
         }
-        i += 1;
     }
     Ok(true)
+}
+
+/// A value of the left dict, and the entry of the right one at its key.
+#[cycle(equality)]
+fn equal_found(
+    alloc: Global,
+    store: &Store,
+    meter: &mut Meter,
+    depth: usize,
+    value: &Value,
+    found: Option<&(Rock, Value)>,
+) -> Result<bool, OpEnd>
+    ensures plain { Meets result (state_of store.now meter.new.left) (found_equal (equal depth) value.now (option_copied found.entry) (state_of store.now meter.old.left)) }
+    ensures fewer { meter.new.left ≤ meter.old.left }
+{
+    match found {
+        Some((_, other)) => equal_pair(alloc, store, meter, depth, value, other),
+        None => Ok(false),
+    }
+}
+
+/// A pair of values, for a step.
+#[cycle(equality)]
+fn equal_pair(
+    alloc: Global,
+    store: &Store,
+    meter: &mut Meter,
+    depth: usize,
+    x: &Value,
+    y: &Value,
+) -> Result<bool, OpEnd>
+    ensures plain { Meets result (state_of store.now meter.new.left) (pair_equal (equal depth) (x.now, y.now) (state_of store.now meter.old.left)) }
+    ensures fewer { meter.new.left ≤ meter.old.left }
+{
+    step(meter)?;
+    equal_values(alloc, store, meter, depth, x, y)
 }

@@ -2,13 +2,9 @@
 #![tactic(auto)]
 
 mod equality;
-#[cfg(test)]
-mod fixtures;
 mod membership;
 mod order;
 mod rocks;
-#[cfg(test)]
-mod tests;
 
 pub use equality::equal;
 pub use membership::contains;

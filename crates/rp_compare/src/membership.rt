@@ -1,9 +1,9 @@
+//! Membership of values.
 ghost use Rattle.std.specs.Prelude.{◌≡◌, ◌≤◌, is_some};
-ghost use Rattle.rp_compare.specs.Membership.{contains, found_in, is_text_part, object_contains, rock_contains};
+ghost use Rattle.rp_compare.specs.Membership.{contains, content_contains, found_in, is_text_part, object_contains, rock_contains};
 ghost use Rattle.rp_ops.specs.Keys.{entry_in, key_named};
 ghost use Rattle.rp_ops.specs.Outcome.{Meets, State, gives, on_found, state_of};
-ghost use Rattle.rp_store.specs.Heap.{IsHeld};
-ghost use Rattle.rp_store.specs.Kept.{AreSound, IsKept, IsSound};
+ghost use Rattle.rp_store.specs.Object.{content_of};
 
 use crate::equality::equal;
 use rp_base::{Meter, Oid, OpEnd, Rock, Text, Value};
@@ -30,9 +30,6 @@ pub fn contains(
     a: &Value,
     of: &Value,
 ) -> Result<bool, OpEnd>
-    requires kept { IsKept store.now.heap }
-    requires a { IsSound store.now.heap a.now }
-    requires of { IsSound store.now.heap of.now }
     ensures plain { Meets result (state_of store.now meter.new.left) (contains a.now of.now (state_of store.now meter.old.left)) }
     ensures fewer { meter.new.left ≤ meter.old.left }
 {
@@ -65,13 +62,26 @@ fn object_contains(
     at: Oid,
     a: &Value,
 ) -> Result<bool, OpEnd>
-    requires kept { IsKept store.now.heap }
-    requires at { IsHeld store.now.heap at }
-    requires a { IsSound store.now.heap a.now }
     ensures plain { Meets result (state_of store.now meter.new.left) (object_contains at a.now (state_of store.now meter.old.left)) }
     ensures fewer { meter.new.left ≤ meter.old.left }
 {
-    match store.object(at) {
+    match store.get(at) {
+        Some(object) => content_contains(alloc, store, meter, object, a),
+        None => Err(Refusal::Operand.end(alloc)),
+    }
+}
+
+fn content_contains(
+    alloc: Global,
+    store: &Store,
+    meter: &mut Meter,
+    object: &Object,
+    a: &Value,
+) -> Result<bool, OpEnd>
+    ensures plain { Meets result (state_of store.now meter.new.left) (content_contains (content_of object.now) a.now (state_of store.now meter.old.left)) }
+    ensures fewer { meter.new.left ≤ meter.old.left }
+{
+    match object {
         Object::List(elements) => is_among(alloc, store, meter, a, elements),
         Object::Tuple(elements) => is_among(alloc, store, meter, a, elements),
         Object::Dict(entries) => has_key(alloc, entries, a),
@@ -87,9 +97,6 @@ fn is_among(
     a: &Value,
     elements: &[Value],
 ) -> Result<bool, OpEnd>
-    requires kept { IsKept store.now.heap }
-    requires a { IsSound store.now.heap a.now }
-    requires elements { AreSound store.now.heap elements.now }
     ensures plain { Meets result (state_of store.now meter.new.left) (found_in a.now elements.now (state_of store.now meter.old.left)) }
     ensures fewer { meter.new.left ≤ meter.old.left }
 {

@@ -1,12 +1,12 @@
-ghost use Rattle.std.specs.Prelude.{◌≡◌, ◌≤◌};
-ghost use Rattle.rp_compare.specs.Order.{compare, less, numbers_less, ordered, texts_less};
-ghost use Rattle.rp_ops.specs.Operand.{operand};
+//! The comparison operators, and the order of numbers and texts.
+ghost use Rattle.std.specs.Prelude.{◌≡◌, ◌≤◌, not, option_map};
+ghost use Rattle.rp_compare.specs.Order.{compare, less, numbers_less, ordered, rocks_less, texts_less};
 ghost use Rattle.rp_ops.specs.Outcome.{Meets, State, state_of};
-ghost use Rattle.rp_store.specs.Kept.{IsKept, IsSound};
 
 use crate::equality::equal;
-use rp_base::{CmpOp, Meter, OpEnd, Text, Value};
-use rp_ops::{Operand, Refusal, operand_of};
+use crate::rocks::number_of;
+use rp_base::{CmpOp, Meter, OpEnd, Rock, Text, Value};
+use rp_ops::Refusal;
 use rp_store::Store;
 use std::alloc::Global;
 
@@ -26,40 +26,51 @@ pub fn compare(
     a: &Value,
     b: &Value,
 ) -> Result<bool, OpEnd>
-    requires kept { IsKept store.now.heap }
-    requires a { IsSound store.now.heap a.now }
-    requires b { IsSound store.now.heap b.now }
     ensures plain { Meets result (state_of store.now meter.new.left) (compare op a.now b.now (state_of store.now meter.old.left)) }
     ensures fewer { meter.new.left ≤ meter.old.left }
 {
     match op {
         CmpOp::Eq => equal(alloc, store, meter, a, b),
         CmpOp::Ne => Ok(!equal(alloc, store, meter, a, b)?),
-        CmpOp::Lt => ordered(alloc, less(store, a, b)),
-        CmpOp::Gt => ordered(alloc, less(store, b, a)),
-        CmpOp::Le => Ok(!ordered(alloc, less(store, b, a))?),
-        CmpOp::Ge => Ok(!ordered(alloc, less(store, a, b))?),
+        CmpOp::Lt => ordered(alloc, less(a, b)),
+        CmpOp::Gt => ordered(alloc, less(b, a)),
+        CmpOp::Le => ordered(alloc, negated(less(b, a))),
+        CmpOp::Ge => ordered(alloc, negated(less(a, b))),
     }
 }
 
 /// An answer of order, or the exception where there is no order.
 fn ordered(alloc: Global, less: Option<bool>) -> Result<bool, OpEnd>
-    ensures { (s : State) → Meets result s (ordered (λ l. l) less s) }
+    ensures { (s : State) → Meets result s (ordered less s) }
 {
     less.ok_or_else(|| Refusal::Operand.end(alloc))
 }
 
-/// Whether the first is less, of two numbers or two texts; all else has no order.
-fn less(store: &Store, a: &Value, b: &Value) -> Option<bool>
-    requires a { IsSound store.now.heap a.now }
-    requires b { IsSound store.now.heap b.now }
-    ensures { result ≡ less (operand store.now.heap a.now) (operand store.now.heap b.now) }
+/// At most is not greater, and at least is not less.
+#[inline(always)]
+fn negated(less: Option<bool>) -> Option<bool>
+    ensures { result ≡ option_map not less }
 {
-    let x = operand_of(store, a);
-    let y = operand_of(store, b);
-    match (&x, &y) {
-        (Operand::Text(x), Operand::Text(y)) => Some(is_less_text(x, y)),
-        _ => less_numbers(x.number(), y.number()),
+    Some(!less?)
+}
+
+/// Whether the first is less, of two numbers or two texts; all else has no order.
+#[inline(always)]
+fn less(a: &Value, b: &Value) -> Option<bool>
+    ensures { result ≡ less a.now b.now }
+{
+    match (a, b) {
+        (Value::Rock(q), Value::Rock(r)) => less_rocks(q, r),
+        _ => None,
+    }
+}
+
+fn less_rocks(q: &Rock, r: &Rock) -> Option<bool>
+    ensures { result ≡ rocks_less q.now r.now }
+{
+    match (q, r) {
+        (Rock::Text(t), Rock::Text(u)) => Some(is_less_text(t, u)),
+        _ => less_numbers(number_of(q), number_of(r)),
     }
 }
 
@@ -69,6 +80,7 @@ fn is_less_text(x: &Text, y: &Text) -> bool
     x < y
 }
 
+#[inline(always)]
 fn less_numbers(x: Option<i64>, y: Option<i64>) -> Option<bool>
     ensures { result ≡ numbers_less x y }
 {

@@ -1,3 +1,4 @@
+//! Equality of values that are no objects.
 ghost use Rattle.std.specs.Prelude.{◌≡◌};
 ghost use Rattle.rp_compare.specs.Equality.{numbers_equal, rocks_equal};
 ghost use Rattle.rp_ops.specs.Operand.{number_of, rock_operand};
@@ -19,6 +20,7 @@ pub(crate) fn equal_rocks(q: &Rock, r: &Rock) -> bool
     }
 }
 
+#[inline(always)]
 fn equal_numbers(m: Option<i64>, n: Option<i64>) -> bool
     ensures { result ≡ numbers_equal m n }
 {
@@ -29,7 +31,8 @@ fn equal_numbers(m: Option<i64>, n: Option<i64>) -> bool
 }
 
 /// The number that a rock is; True and False count as 1 and 0.
-fn number_of(rock: &Rock) -> Option<i64>
+#[inline(always)]
+pub(crate) fn number_of(rock: &Rock) -> Option<i64>
     ensures { result ≡ number_of (rock_operand rock.now) }
 {
     match rock {

@@ -5,8 +5,6 @@ mod refusal;
 mod rewrite;
 mod script;
 mod script_name;
-#[cfg(test)]
-mod script_tests;
 mod source;
 mod tree;
 mod word;

@@ -1,3 +1,5 @@
+//! Why a script is not compiled, and the line that tells it.
+
 ghost use Rattle.std.specs.Prelude.{◌≡◌, ◌++◌, true, chars, IfOk, OnOk};
 ghost use Rattle.std.specs.Char.{is_ascii};
 ghost use Rattle.std.specs.List.{list_all};

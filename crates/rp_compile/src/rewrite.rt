@@ -1,3 +1,5 @@
+//! The rewriting of a script: a guard at each read of an attribute.
+
 ghost use Rattle.std.specs.Prelude.{◌≡◌, ℕ, List, true, map};
 ghost use Rattle.std.specs.List.{All, list_all};
 ghost use Rattle.rp_compile.specs.Rewrites.{is_guarded, is_guarded_expression};

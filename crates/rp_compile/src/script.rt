@@ -1,3 +1,5 @@
+//! Scripts from bytes.
+
 ghost use Rattle.std.specs.Prelude.{◌≡◌, ◌≢◌, IfErr, IfOk, List, map};
 ghost use Rattle.std.specs.List.{All};
 ghost use Rattle.rp_base.specs.Names.{HoldsEachOnce};

@@ -1,3 +1,5 @@
+//! The names that a script may use.
+
 ghost use Rattle.std.specs.Prelude.{◌≡◌, map};
 ghost use Rattle.rp_compile.specs.Word.{is_among, is_plain_name};
 ghost use Rattle.rp_compile.specs.Reserved.{is_reserved};

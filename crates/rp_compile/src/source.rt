@@ -1,3 +1,5 @@
+//! The statements of the first form that a tree is.
+
 ghost use Rattle.std.specs.Prelude.{◌≡◌, ◌∷◌, [], IfErr, IfOk, IfSome, IsTrue, List, Some, map, option_and_then, option_map};
 ghost use Rattle.std.specs.List.{All};
 ghost use Rattle.rp_tree.specs.Expressions as t;

@@ -1,3 +1,5 @@
+//! The statements of compiled scripts.
+
 use rp_base::Name;
 
 /// The guard that marks a form at which the machine decides (RestrictedPython, transformer).

@@ -1,20 +1,19 @@
+//! ASCII identifiers.
+
 ghost use Rattle.std.specs.Prelude.{◌≡◌};
 ghost use Rattle.std.specs.List.{list_all};
 ghost use Rattle.rp_compile.specs.Word.{begins_identifier, is_name_character, is_plain_name};
 
-use rp_base::is_keyword;
+use rp_base::{LONGEST_NAME, is_keyword};
 
-/// The most bytes of a name.
-const LONGEST: usize = 255;
-
-/// Whether a word is an ASCII identifier of at most 255 bytes and no keyword (Python Language Reference,
+/// Whether a word is an ASCII identifier of at most `LONGEST_NAME` bytes and no keyword (Python Language Reference,
 /// "Identifiers and keywords").
 pub(crate) fn is_plain_name(word: &str) -> bool
     ensures { result ≡ is_plain_name word.now }
 {
     begins_identifier(word)
         && has_name_characters(word)
-        && word.len() <= LONGEST
+        && word.len() <= LONGEST_NAME
         && !is_keyword(word)
 }
 

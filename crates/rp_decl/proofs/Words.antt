@@ -9,10 +9,10 @@ use Rattle.std.proofs.lemmas.Str.{chars-IsAscii, encodes-IsAscii, encodes-chars}
 use Rattle.std.proofs.lemmas.Str.Ascii.{IsAscii-nil, IsAscii-cons}
 use Rattle.unicode_normalization.specs.Forms.{nfkc, Nfkc, is_in_form}
 use Rattle.rp_base.proofs.Words.{same_text-equal, same_text-refl}
-use Rattle.rp_base.specs.Identifier.{IsIdentifier, identifier_of, is_identifier}
+use Rattle.rp_base.specs.Identifier.{IsIdentifier, identifier_of, is_identifier, is_identifier_word, longest_name}
 use Rattle.rp_base.specs.Keyword.{keywords, is_keyword}
 use Rattle.rp_base.specs.Same.{same_text}
-use Rattle.rp_decl.specs.Word.{is_id, is_id_character, longest_id, is_form_of, is_declared_name, is_word_of}
+use Rattle.rp_decl.specs.Word.{is_id, is_id_character, is_form_of, is_declared_name, is_word_of}
 
 pub IsAscii-from_test : (test : ℕ → Bool) → ((c : ℕ) → test c ≡ true → c < 128) → (word : List ℕ) → list_all test word ≡ true → IsAscii word
 IsAscii-from_test test below [] h = IsAscii-nil
@@ -67,7 +67,7 @@ pub is_keyword-chars : (word : List ℕ) → IsUtf8 word → is_keyword word ≡
 is_keyword-chars word text = is_word_of-chars keywords word refl text
 
 form-by : (same : Bool) (word : List ℕ) → is_in_form Nfkc word ≡ same
-    → is_form_of word (identifier_of word) ≡ ((is_identifier word && nat_le (length (encode_utf8_all word)) longest_id) && same)
+    → is_form_of word (identifier_of word) ≡ ((is_identifier word && nat_le (length (encode_utf8_all word)) longest_name) && same)
 form-by true word h =
     let form : nfkc word ≡ word = (bytes_decides (nfkc word) word).0 h in
     rw form (by (is_identifier word) (nat_le (length (encode_utf8_all word)) 255))
@@ -86,13 +86,11 @@ form-by false word h =
     by true true e = absurd (true≢false (sym ((bytes_decides (nfkc word) word).1 (same_text-equal _ _ e)) ∙ h))
 
 -- a word is its own form where it is a short identifier in the form
-pub is_form_of-is : (word : List ℕ) → is_form_of word (identifier_of word) ≡ ((is_identifier word && nat_le (length (encode_utf8_all word)) longest_id) && is_in_form Nfkc word)
+pub is_form_of-is : (word : List ℕ) → is_form_of word (identifier_of word) ≡ is_identifier_word word
 is_form_of-is word = form-by (is_in_form Nfkc word) word refl
 
-pub is_declared_name-is : (word : List ℕ) → IsUtf8 word
-    → is_declared_name (chars word) ≡ (((is_identifier (chars word) && nat_le (length word) longest_id) && is_in_form Nfkc (chars word)) && not (is_keyword word))
-is_declared_name-is word text =
-    rw (is_form_of-is (chars word), encodes-chars word text, is_keyword-chars word text) refl
+pub is_declared_name-is : (word : List ℕ) → IsUtf8 word → is_declared_name (chars word) ≡ (is_identifier_word (chars word) && not (is_keyword word))
+is_declared_name-is word text = rw (is_form_of-is (chars word), is_keyword-chars word text) refl
 
 -- a declared name is an identifier in its form
 pub IsIdentifier-is_declared_name : (word : List ℕ) → is_declared_name word ≡ true → IsIdentifier word

@@ -3,21 +3,17 @@ use Rattle.std.specs.Prelude.{ℕ, Bool, false, ◌&&◌, ◌||◌, ◌==◌, no
 use Rattle.std.specs.Char.{is_ascii_alphanumeric}
 use Rattle.std.specs.Cmp.Lexicographic.{pointwise}
 use Rattle.std.specs.List.{list_all, list_any}
-use Rattle.rp_base.specs.Identifier.{identifier_of}
+use Rattle.rp_base.specs.Identifier.{identifier_of, longest_name}
 use Rattle.rp_base.specs.Keyword.{is_keyword}
 use Rattle.rp_base.specs.Same.{same_text}
-
--- the most bytes of an id
-abbrev pub longest_id : ℕ
-longest_id = 255
 
 -- `.`, `-` and `_`, and ASCII letters and digits
 abbrev pub is_id_character : ℕ → Bool
 is_id_character c = is_ascii_alphanumeric c || ((c == 46 || c == 45) || c == 95)
 
--- an id: ASCII letters, digits, dots, dashes and underscores
+-- an id: ASCII letters, digits, dots, dashes and underscores, no more than a name may have
 abbrev pub is_id : List ℕ → Bool
-is_id word = (nat_lt 0 (length word) && nat_le (length word) longest_id) && list_all is_id_character word
+is_id word = (nat_lt 0 (length word) && nat_le (length word) longest_name) && list_all is_id_character word
 
 abbrev pub is_form_of : List ℕ → Option (List ℕ) → Bool
 is_form_of word (Some form) = same_text form word

@@ -1,3 +1,5 @@
+//! What documents name and do not declare: permissions, classes, groups and roles, the least of each.
+
 ghost use Rattle.std.specs.Prelude.{◌≡◌, ◌∷◌, [], IfOk, chars, codes};
 ghost use Rattle.std.specs.Option.{option_map_or};
 ghost use Rattle.toml.specs.Data.{get_member};

@@ -1,3 +1,5 @@
+//! The records of a declaration file, whole.
+
 use crate::consistency::text_member;
 use crate::known::Known;
 use crate::reading::{names_at, records_at};

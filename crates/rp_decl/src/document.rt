@@ -1,3 +1,5 @@
+//! TOML documents: reading one, its version and the members of its tables.
+
 ghost use Rattle.std.specs.Prelude.{◌≡◌, ℕ, List, codes, option_map, IfOk, IfErr, Ok, Some};
 ghost use Rattle.toml.specs.Data.{get_member, same_key};
 ghost use Rattle.toml.specs.View.{view, table_view};

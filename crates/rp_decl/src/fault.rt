@@ -1,3 +1,5 @@
+//! Why a declaration file has no records, and the line that tells it.
+
 ghost use Rattle.std.specs.Prelude.{◌≡◌, ◌≢◌, ◌++◌, IfOk, IsTrue, chars, nat_lt, string_bytes};
 ghost use Rattle.std.specs.List.{list_all};
 ghost use Rattle.rp_decl.specs.Faults.{IsFaultHeld, fault_line, line_of};

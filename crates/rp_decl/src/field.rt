@@ -1,3 +1,5 @@
+//! The fields of declared objects.
+
 ghost use Rattle.std.specs.Prelude.{◌≡◌, IfOk};
 ghost use Rattle.toml.specs.View.{array_view, table_view, view};
 ghost use Rattle.rp_decl.specs.Document.{entries_of, field_of, fields_of};

@@ -1,3 +1,5 @@
+//! The permissions, roles and groups that a document declares.
+
 ghost use Rattle.std.specs.Prelude.{◌≡◌, IfOk, codes};
 ghost use Rattle.toml.specs.View.{table_view};
 ghost use Rattle.rp_decl.specs.Document.{each_at, key_text, records_of};

@@ -1,3 +1,5 @@
+//! The lesser of two texts in byte order.
+
 ghost use Rattle.std.specs.Prelude.{◌≡◌};
 ghost use Rattle.rp_decl.specs.Order.{lesser_of};
 

@@ -20,8 +20,6 @@ mod shape;
 mod shapes;
 mod sorted;
 mod test;
-#[cfg(test)]
-mod tests;
 mod word;
 
 pub use decl::Decl;

@@ -1,3 +1,5 @@
+//! The members of tables as records: of classes, roles, groups, principals and objects.
+
 ghost use Rattle.std.specs.Prelude.{IfOk, IfSome, codes};
 ghost use Rattle.toml.specs.View.{table_view, view};
 ghost use Rattle.rp_decl.specs.Document.{members_of, text_at};

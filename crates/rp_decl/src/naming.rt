@@ -1,3 +1,5 @@
+//! The least text that a part of a document names and that is not known.
+
 ghost use Rattle.std.specs.Prelude.{◌≡◌, ◌∷◌, [], ℕ, List, IfOk, chars};
 ghost use Rattle.toml.specs.Data.{Data};
 ghost use Rattle.toml.specs.View.{array_view, table_view, view};

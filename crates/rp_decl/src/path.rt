@@ -1,3 +1,5 @@
+//! Paths of faults: keys from the root, joined by dots.
+
 ghost use Rattle.std.specs.Prelude.{◌≡◌, IfOk, chars, string_bytes};
 ghost use Rattle.rp_decl.specs.Path.{path_of};
 ghost use Rattle.rp_decl.specs.Shape.{within};

@@ -1,3 +1,5 @@
+//! The bytes of a declaration file to its records, or to the first refusal.
+
 ghost use Rattle.std.specs.Prelude.{◌≡◌, ℕ, List, [], IfOk, IfErr, OnOk, Ok, Result};
 ghost use Rattle.toml.specs.View.{table_view};
 ghost use Rattle.rp_decl.specs.Consistency.{IsConsistent, class_faults, class_names, group_faults, group_ids, permission_faults, role_faults, role_ids};

@@ -1,3 +1,5 @@
+//! Arrays and tables of a document as lists of places, names and records.
+
 ghost use Rattle.std.specs.Prelude.{◌≡◌, ℕ, List, [], IfOk, IsSome, chars, codes};
 ghost use Rattle.std.specs.List.{AllByRecursion};
 ghost use Rattle.toml.specs.Data.{Data};

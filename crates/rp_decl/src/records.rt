@@ -1,3 +1,5 @@
+//! The records of declarations: classes, roles, groups, principals and objects.
+
 use rp_base::{Name, Text};
 
 /// A permission, by its place among those of the declarations.

@@ -1,3 +1,5 @@
+//! Rings of classes that are like one another.
+
 ghost use Rattle.std.specs.Prelude.{◌≡◌, ℕ, List, IfOk, None, Some, codes, filter, if◌then◌else◌, length, map, option_and_then};
 ghost use Rattle.toml.specs.View.{table_view, view};
 ghost use Rattle.rp_decl.specs.Consistency.{class_names, is_on_ring};

@@ -1,3 +1,5 @@
+//! What an operation on an object needs.
+
 use crate::records::Perm;
 
 /// What a checker asks of whoever reads or sets a name (zope.security: checkers).

@@ -1,3 +1,5 @@
+//! Shapes of values and tables: the least fault in them, by its path.
+
 ghost use Rattle.std.specs.Prelude.{◌≡◌, ℕ, Bool, List, [], ◌∷◌, ◌++◌, chars, map, IfOk};
 ghost use Rattle.toml.specs.Data.{Data};
 ghost use Rattle.toml.specs.View.{view, array_view, table_view};

@@ -1,3 +1,5 @@
+//! The shape of each part of a declaration file.
+
 ghost use Rattle.std.specs.Prelude.{◌≡◌, ◌++◌, ◌||◌, [], ◌∷◌, IfOk, codes, is_some, map};
 ghost use Rattle.std.specs.List.{list_any};
 ghost use Rattle.toml.specs.Data.{get_member, same_key, table as table_data};

@@ -1,3 +1,5 @@
+//! Ids or names in byte order, each once, and the place of each.
+
 ghost use Rattle.std.specs.Prelude.{◌≡◌, ◌∷◌, [], IfOk, OnOk, chars, codes, fold};
 ghost use Rattle.std.specs.BTreeSet.{insert_key};
 ghost use Rattle.toml.specs.View.{array_view, table_view, view};

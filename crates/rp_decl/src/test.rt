@@ -1,3 +1,5 @@
+//! What texts of a document have to be.
+
 ghost use Rattle.std.specs.Prelude.{◌≡◌, chars, IfOk, is_some};
 ghost use Rattle.toml.specs.Data.{get_member};
 ghost use Rattle.toml.specs.View.{table_view, view};

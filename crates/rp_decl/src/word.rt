@@ -1,16 +1,11 @@
-ghost use Rattle.std.specs.Prelude.{◌≡◌, ◌&&◌, nat_le, length, IfOk, chars};
+//! Ids, and names of classes, objects and fields.
+
+ghost use Rattle.std.specs.Prelude.{◌≡◌, IfOk, chars};
 ghost use Rattle.std.specs.List.{list_all};
-ghost use Rattle.unicode_ident.specs.Ident.{is_xid_continue};
-ghost use Rattle.rp_base.specs.Identifier.{begins_well, is_identifier, is_start};
-ghost use Rattle.rp_decl.specs.Word.{is_id, is_declared_name, is_id_character, longest_id};
+ghost use Rattle.rp_decl.specs.Word.{is_id, is_declared_name, is_id_character};
 
-use rp_base::{Memory, is_keyword};
+use rp_base::{LONGEST_NAME, Memory, is_identifier_word, is_keyword};
 use std::alloc::Global;
-use unicode_ident::{is_xid_continue, is_xid_start};
-use unicode_normalization::is_nfkc;
-
-/// The most bytes of an id or a name.
-const LONGEST: usize = 255;
 
 /// Whether a word is an id: 1 to 255 ASCII letters, digits, dots, dashes and underscores.
 pub fn is_id(word: &str) -> bool
@@ -31,16 +26,13 @@ pub fn is_declared_name(alloc: Global, word: &str) -> Result<bool, Memory>
     if is_keyword(word) {
         return Ok(false);
     }
-    if !is_short_identifier(word) {
-        return Ok(false);
-    }
-    Ok(is_nfkc(alloc, word)?)
+    Ok(is_identifier_word(alloc, word)?)
 }
 
 fn is_id_by_bytes(word: &str) -> bool
     ensures { result ≡ is_id word.now }
 {
-    !word.is_empty() && word.len() <= LONGEST && has_id_characters(word)
+    !word.is_empty() && word.len() <= LONGEST_NAME && has_id_characters(word)
 }
 
 fn has_id_characters(word: &str) -> bool
@@ -53,37 +45,4 @@ fn is_id_character(byte: u8) -> bool
     ensures { result ≡ is_id_character byte }
 {
     byte.is_ascii_alphanumeric() || byte == b'.' || byte == b'-' || byte == b'_'
-}
-
-fn is_short_identifier(word: &str) -> bool
-    ensures { result ≡ (is_identifier (chars word.now) && nat_le (length word.now) longest_id) }
-{
-    is_identifier(word) && word.len() <= LONGEST
-}
-
-fn is_identifier(word: &str) -> bool
-    ensures { result ≡ is_identifier (chars word.now) }
-{
-    begins_well(word) && continues_well(word)
-}
-
-fn begins_well(word: &str) -> bool
-    ensures { result ≡ begins_well (chars word.now) }
-{
-    match word.chars().next() {
-        Some(first) => is_start(first),
-        None => false,
-    }
-}
-
-fn continues_well(word: &str) -> bool
-    ensures { result ≡ list_all is_xid_continue (chars word.now) }
-{
-    word.chars().all(|ch| is_xid_continue(ch))
-}
-
-fn is_start(ch: char) -> bool
-    ensures { result ≡ is_start ch }
-{
-    ch == '_' || is_xid_start(ch)
 }

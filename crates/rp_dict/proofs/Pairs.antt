@@ -1,11 +1,12 @@
 -- What the place of a key says of the pairs.
-use Rattle.std.proofs.Common.{◌≡◌, ℕ, zero, suc, ◌<◌, Bool, true, false, cond, List, [], ◌∷◌, ◌++◌, length, get_or, position, None, Some, refl, sym, ap, ◌∙◌, remove, slice_set, if◌then◌else◌, arith, not, ◌+◌, nat_lt, subst, append-nil, append_assoc}
+use Rattle.std.proofs.Common.{◌≡◌, ℕ, zero, suc, ◌<◌, Bool, true, false, cond, List, [], ◌∷◌, ◌++◌, length, get_or, position, None, Some, refl, sym, ap, ◌∙◌, remove, slice_set, if◌then◌else◌, arith, not, ◌+◌, nat_lt, subst, append-nil, append_assoc, Result, Ok, Err, OnOk, OnErr, IfErr}
 use Rattle.std.specs.Cmp.{IsEquivalence}
 use Rattle.std.specs.List.{AllByRecursion, IsDistinct, position_or_len}
 use Rattle.std.specs.Map.{keys_of, lookup, remove_entry}
 use Rattle.std.proofs.lemmas.List.Quantifiers.{position-Some}
 use Rattle.std.proofs.lemmas.Map.{NonePasses, none_passes_from_lookup}
 use Rattle.indexmap.specs.IndexMap.{insert_all, insert_entry}
+use Rattle.rp_dict.specs.Dict.{with_second}
 use Rattle.indexmap.proofs.MapLemmas.{absent_before, absent_from_lookup, insert_entry-absent, Missing-position}
 
 module _ {K V : Type 0} (eq : K → K → Bool) (k : K) where
@@ -121,3 +122,47 @@ module _ {K V : Type 0} (test : K → Bool) where
       by : (b : Bool) → IsDistinct eq (keys_of (remove_entry test es)) → IsDistinct eq (keys_of (cond b es (e ∷ remove_entry test es)))
       by true rest = d.1
       by false rest = (all-remove_entry (λ y. eq e.0 y ≡ false) es d.0, rest)
+
+module _ {K A B : Type 0} (eq : K → K → Bool) (k : K) (v : B) where
+  -- the pair at the place of a key has another second part
+  second_at : (es : List (K × (A × B))) (i : ℕ) (d : K × (A × B)) → i < length es → eq k (get_or es i d).0 ≡ true → ((j : ℕ) → j < i → eq k (get_or es j d).0 ≡ false)
+      → with_second (eq k) v es ≡ slice_set es i ((get_or es i d).0, ((get_or es i d).1.0, v))
+  second_at [] i d within here before = absurd (omega arith)
+  second_at (e ∷ es) zero d within here before = ap (λ b. if b then (e.0, (e.1.0, v)) ∷ es else e ∷ with_second (eq k) v es) here
+  second_at (e ∷ es) (suc i) d within here before =
+      ap (λ b. if b then (e.0, (e.1.0, v)) ∷ es else e ∷ with_second (eq k) v es) (before 0 (omega arith))
+      ∙ ap (λ l. e ∷ l) (second_at es i d (omega arith) here (λ j below. before (suc j) (omega arith)))
+
+  pub second_held : (es : List (K × (A × B))) (i : ℕ) (d : K × (A × B)) → position (has_key eq k) es ≡ Some i
+      → with_second (eq k) v es ≡ slice_set es i ((get_or es i d).0, ((get_or es i d).1.0, v))
+  second_held es i d found =
+      let at = position-Some (has_key eq k) es i d found in
+      second_at es i d at.0 at.1 at.2
+
+module _ {K A B : Type 0} (test : K → Bool) (v : B) where
+  pub with_second-missing : (es : List (K × (A × B))) → lookup test es ≡ None → with_second test v es ≡ es
+  with_second-missing es none = apart es (none_passes_from_lookup test es none)
+    where
+      apart : (fs : List (K × (A × B))) → NonePasses test fs → with_second test v fs ≡ fs
+      apart [] h = refl
+      apart (f ∷ fs) h = ap (λ b. if b then (f.0, (f.1.0, v)) ∷ fs else f ∷ with_second test v fs) h.0 ∙ ap (λ l. f ∷ l) (apart fs h.1)
+
+  -- the keys stay
+  pub keys-with_second : (es : List (K × (A × B))) → keys_of (with_second test v es) ≡ keys_of es
+  keys-with_second [] = refl
+  keys-with_second (e ∷ es) = by (test e.0) (keys-with_second es)
+    where
+      by : (b : Bool) → keys_of (with_second test v es) ≡ keys_of es → keys_of (if b then (e.0, (e.1.0, v)) ∷ es else e ∷ with_second test v es) ≡ e.0 ∷ keys_of es
+      by true rest = refl
+      by false rest = ap (λ l. e.0 ∷ l) rest
+
+  -- where the value comes back, the pairs stay
+  pub same-with_second : (r : Result B B) (new es : List (K × (A × B))) → new ≡ with_second test v es → IfErr r (λ same. (same ≡ v) × (lookup test es ≡ None)) → OnErr r (new ≡ es)
+  same-with_second (Ok x) new es set absent = tt
+  same-with_second (Err e) new es set absent = set ∙ with_second-missing es absent.1
+
+-- keys stay distinct where a key got its value, or nothing was written
+pub distinct-set : {K V A E : Type 0} (eq : K → K → Bool) → IsEquivalence eq → (old new : List (K × V)) (k : K) (v : V) (r : Result A E)
+    → OnOk r (new ≡ insert_entry eq old k v) → OnErr r (new ≡ old) → IsDistinct eq (keys_of old) → IsDistinct eq (keys_of new)
+distinct-set eq laws old new k v (Ok x) set same distinct = subst (λ l. IsDistinct eq (keys_of l)) (sym set) (distinct-insert_entry eq laws old k v distinct)
+distinct-set eq laws old new k v (Err e) set same distinct = subst (λ l. IsDistinct eq (keys_of l)) (sym same) distinct

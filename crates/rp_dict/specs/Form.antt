@@ -7,4 +7,4 @@ module _ {K V : Type 0} where
   -- the pairs, in order
   abbrev pub pairs_of : Form K V → List (K × V)
   pairs_of (Few pairs) = pairs.items
-  pairs_of (Many map) = map.value.entries
+  pairs_of (Many table) = table.value

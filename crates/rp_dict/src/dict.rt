@@ -1,4 +1,5 @@
-ghost use Rattle.std.specs.Prelude.{◌≡◌, ◌↔◌, ◌^◌, ◌<◌, [], IfOk, IsTrue, None, OnErr, OnOk, length, option_map, slice_get};
+//! The dict that callers see.
+ghost use Rattle.std.specs.Prelude.{◌≡◌, ◌↔◌, ◌^◌, ◌<◌, [], IfErr, IfOk, IsTrue, None, OnErr, OnOk, Some, length, option_map, slice_get};
 ghost use Rattle.std.specs.Option.{option_copied};
 ghost use Rattle.std.specs.Map.{lookup, remove_entry};
 ghost use Rattle.std.specs.Map.Iter.{deref_pair};
@@ -6,16 +7,20 @@ ghost use Rattle.indexmap.specs.IndexMap.{insert_entry};
 ghost use Rattle.rp_dict.specs.Dict.{HasDistinctKeys};
 
 use crate::form::Form;
+use crate::walk::Walk;
+use rp_hash::Seed;
 use std::alloc::{AllocError, Global};
 use std::hash::Hash;
 use std::marker::Model;
 
 /// A dict in the order of insertion, seen as the list of its pairs. No two keys are equal.
 ///
-/// A dict of few pairs is one vector of about their size, one of many is a hash table of `indexmap`.
+/// A dict of few pairs is one vector of about their size, one of many is a hash table that hashes its keys from a
+/// secret seed. Nothing of the seed is seen in what a dict answers.
 #[derive(Drop)]
 pub struct Dict<K: Eq + Hash, V> {
     form: Form<K, V>,
+    seed: Seed,
 }
 
 impl<K: Eq + Hash, V> Model for Dict<K, V> {
@@ -32,11 +37,12 @@ impl<K: Eq + Hash, V> Model for Dict<K, V> {
 
 impl<K: Eq + Hash, V> Dict<K, V> {
     /// The empty dict. It takes no memory yet.
-    pub fn new(alloc: Global) -> Dict<K, V>
+    pub fn new(alloc: Global, seed: Seed) -> Dict<K, V>
         ensures { result ≡ [] }
     {
         Dict {
             form: Form::Few(Vec::new(alloc)),
+            seed,
         }
     }
 
@@ -44,14 +50,15 @@ impl<K: Eq + Hash, V> Dict<K, V> {
     ///
     /// # Errors
     /// `AllocError` where the growth was refused.
-    pub fn with_capacity(alloc: Global, n: usize) -> Result<Dict<K, V>, AllocError>
+    pub fn with_capacity(alloc: Global, n: usize, seed: Seed) -> Result<Dict<K, V>, AllocError>
     where
         K: Drop,
         V: Drop,
         ensures { IfOk result (λ d. d ≡ []) }
     {
         Ok(Dict {
-            form: Form::with_capacity(alloc, n)?,
+            form: Form::with_capacity(alloc, n, seed)?,
+            seed,
         })
     }
 
@@ -78,12 +85,32 @@ impl<K: Eq + Hash, V> Dict<K, V> {
         self.form.get(key)
     }
 
-    /// The pair at a place, counted from 0. None exactly where the place is not below the length.
+    /// The pair at a place, counted from 0. None exactly where the place is not below the length. After keys were taken
+    /// out of a dict of many it may walk to the pair: `walk` gives all in turn, and `close_up` helps.
     pub fn at(&self, i: usize) -> Option<(&K, &V)>
         ensures pair { option_map deref_pair result ≡ slice_get self.now i }
         ensures distinct { HasDistinctKeys K.eq self.now }
     {
         self.form.at(i)
+    }
+
+    /// A walk over the pairs, in their order.
+    pub fn walk(&self) -> Walk<'_, K, V>
+        ensures pairs { result ≡ self.now }
+        ensures distinct { HasDistinctKeys K.eq self.now }
+    {
+        self.form.walk()
+    }
+
+    /// Makes `at` take constant time until a key is taken out; the pairs stay. It takes time by their number where a
+    /// key was taken out since, and else none.
+    pub fn close_up(&mut self)
+    where
+        K: Drop,
+        V: Drop,
+        ensures { self.new ≡ self.old }
+    {
+        self.form.close_up();
     }
 
     /// Gives a key its value, and answers the value that it had. A new key goes last; a held one keeps its place and
@@ -100,13 +127,30 @@ impl<K: Eq + Hash, V> Dict<K, V> {
         ensures absent { OnErr result (lookup (K.eq key) self.old ≡ None) }
         ensures same { OnErr result (self.new ≡ self.old) }
     {
-        self.form.set(key, value)
+        self.form.set(key, value, self.seed)
     }
 
-    /// Takes out a key and closes up, and answers the value that it had. None exactly where no pair has the key.
+    /// Puts a new key last.
+    ///
+    /// # Errors
+    /// `AllocError` where a growth was refused; then the dict is as before.
+    pub fn push(&mut self, key: K, value: V) -> Result<(), AllocError>
+    where
+        K: Drop,
+        V: Drop,
+        requires { lookup (K.eq key) self.old ≡ None }
+        ensures pushed { OnOk result (self.new ≡ insert_entry K.eq self.old key value) }
+        ensures same { OnErr result (self.new ≡ self.old) }
+    {
+        self.form.push(key, value, self.seed)
+    }
+
+    /// Takes out a key, in amortised constant time, and answers the value that it had. None exactly where no pair has
+    /// the key.
     pub fn remove(&mut self, key: &K) -> Option<V>
     where
         K: Drop,
+        V: Drop,
         ensures removed { self.new ≡ remove_entry (K.eq key.now) self.old }
         ensures held { result ≡ lookup (K.eq key.now) self.old }
     {
@@ -121,5 +165,23 @@ impl<K: Eq + Hash, V> Dict<K, V> {
         ensures { self.new ≡ [] }
     {
         self.form.clear();
+    }
+}
+
+impl<K: Eq + Hash, A, B> Dict<K, (A, B)> {
+    ghost use Rattle.rp_dict.specs.Dict.{with_second};
+
+    /// Gives the second part of what a key has this value, and answers the one that it had; the first part stays, as do
+    /// the key and its place.
+    ///
+    /// # Errors
+    /// The value exactly where no pair has the key; then the dict is as before.
+    pub fn set_second(&mut self, key: &K, value: B) -> Result<B, B>
+        ensures set { self.new ≡ with_second (K.eq key.now) value self.old }
+        ensures held { IfOk result (λ old. option_map (λ pair. pair.1) (lookup (K.eq key.now) self.old) ≡ Some old) }
+        ensures absent { IfErr result (λ same. (same ≡ value) × (lookup (K.eq key.now) self.old ≡ None)) }
+        ensures same { OnErr result (self.new ≡ self.old) }
+    {
+        self.form.set_second(key, value)
     }
 }

@@ -1,14 +1,12 @@
 //! Pairs in one vector, walked from the front.
-ghost use Rattle.std.specs.Prelude.{◌≡◌, ◌+◌, ◌<◌, ◌≤◌, ◌^◌, ◌∷◌, ◌++◌, [], IfErr, IfOk, None, OnErr, OnOk, Some, length, option_map, position, slice_get};
+ghost use Rattle.std.specs.Prelude.{◌≡◌, ◌∷◌, [], IfErr, IfOk, MatchOption, None, OnErr, OnOk, Some, drop, option_map, position, slice_get};
 ghost use Rattle.std.specs.Option.{option_copied};
-ghost use Rattle.std.specs.Map.{keys_of, lookup, remove_entry};
+ghost use Rattle.std.specs.Map.{lookup, remove_entry};
 ghost use Rattle.std.specs.Map.Iter.{deref_pair};
-ghost use Rattle.indexmap.specs.IndexMap.{insert_all, insert_entry, spare};
-ghost use Rattle.rp_dict.specs.Dict.{HasDistinctKeys};
+ghost use Rattle.indexmap.specs.IndexMap.{insert_entry};
+ghost use Rattle.rp_dict.specs.Dict.{with_second};
 
-use indexmap::IndexMap;
 use std::alloc::AllocError;
-use std::hash::Hash;
 use std::mem::replace;
 
 /// The value of a key.
@@ -26,6 +24,17 @@ pub fn at<K, V>(pairs: &[(K, V)], i: usize) -> Option<(&K, &V)>
     if i < pairs.len() {
         let pair = &pairs[i];
         return Some((&pair.0, &pair.1));
+    }
+    None
+}
+
+/// The first pair at a place or after it, and the place after it.
+pub fn next<'a, K, V>(pairs: &'a [(K, V)], place: usize) -> Option<(usize, &'a K, &'a V)>
+    ensures { MatchOption result (drop place pairs.now ≡ []) (λ r. drop place pairs.now ≡ (r.1.now, r.2.now) ∷ drop r.0 pairs.now) }
+{
+    if place < pairs.len() {
+        let pair = &pairs[place];
+        return Some((place + 1, &pair.0, &pair.1));
     }
     None
 }
@@ -48,6 +57,23 @@ pub fn set_held<K: Eq, V>(pairs: &mut Vec<(K, V)>, key: &K, value: V) -> Result<
         Some(i) => {
             let pair = &mut pairs[i];
             Ok(replace(&mut pair.1, value))
+        }
+        None => Err(value),
+    }
+}
+
+/// Gives the second part of what a key has this value, if there is such a key; the first part stays. Else the value
+/// comes back.
+pub fn set_second<K: Eq, A, B>(pairs: &mut Vec<(K, (A, B))>, key: &K, value: B) -> Result<B, B>
+    ensures set { pairs.new.items ≡ with_second (K.eq key.now) value pairs.old.items }
+    ensures held { IfOk result (λ old. option_map (λ pair. pair.1) (lookup (K.eq key.now) pairs.old.items) ≡ Some old) }
+    ensures absent { IfErr result (λ same. (same ≡ value) × (lookup (K.eq key.now) pairs.old.items ≡ None)) }
+    ensures same { OnErr result (pairs.new.items ≡ pairs.old.items) }
+{
+    match place(pairs.as_slice(), key) {
+        Some(i) => {
+            let pair = &mut pairs[i];
+            Ok(replace(&mut pair.1.1, value))
         }
         None => Err(value),
     }
@@ -79,41 +105,4 @@ pub fn remove<K: Eq + Drop, V>(pairs: &mut Vec<(K, V)>, key: &K) -> Option<V>
     let i = place(pairs.as_slice(), key)?;
     let (_, value) = pairs.remove(i);
     Some(value)
-}
-
-/// Moves the pairs and a new one into a hash table. After a refusal they are as before.
-pub fn hashed<K: Eq + Hash + Drop, V: Drop>(
-    pairs: &mut Vec<(K, V)>,
-    key: K,
-    value: V,
-) -> Result<Box<IndexMap<K, V>>, AllocError>
-    requires small { length pairs.old.items < 2 ^ 63 }
-    requires distinct { HasDistinctKeys K.eq pairs.old.items }
-    ensures hashed { IfOk result (λ map. map.value.entries ≡ insert_entry K.eq pairs.old.items key value) }
-    ensures same { OnErr result (pairs.new.items ≡ pairs.old.items) }
-{
-    let alloc = *pairs.allocator();
-    let mut map = Box::new(alloc, IndexMap::with_capacity(alloc, pairs.len() + 1)?)?;
-    fill(&mut map, replace(pairs, Vec::new(alloc)));
-    add(&mut map, key, value);
-    Ok(map)
-}
-
-fn fill<K: Eq + Hash + Drop, V: Drop>(map: &mut IndexMap<K, V>, pairs: Vec<(K, V)>)
-    requires room { length pairs.items ≤ spare map.old }
-    ensures all { map.new.entries ≡ insert_all K.eq map.old.entries pairs.items }
-    ensures room { spare map.old ≤ spare map.new + length pairs.items }
-{
-    for (key, value) in pairs {
-        add(map, key, value);
-    }
-}
-
-fn add<K: Eq + Hash + Drop, V: Drop>(map: &mut IndexMap<K, V>, key: K, value: V)
-    requires room { 0 < spare map.old }
-    ensures added { map.new.entries ≡ insert_entry K.eq map.old.entries key value }
-    ensures room { spare map.old ≤ spare map.new + 1 }
-{
-    // With room to spare it is never refused.
-    let _ = map.insert(key, value);
 }

@@ -4,10 +4,18 @@
 mod dict;
 mod few;
 mod form;
-#[cfg(test)]
-mod tests;
+mod slot;
+mod table;
+mod walk;
 
 pub use dict::Dict;
-// A crate can name a dict in a contract only if the type of its field is exported.
+// A crate can name a dict in a contract only if the types of its fields are exported.
 #[doc(hidden)]
 pub use form::Form;
+#[doc(hidden)]
+pub use slot::Slot;
+#[doc(hidden)]
+pub use table::Table;
+#[doc(hidden)]
+pub use walk::Rest;
+pub use walk::Walk;

@@ -611,8 +611,8 @@ module _ (d : ℕ) (rs : Readers) (inner : AreComplete d rs) where
   test_begins {ts = ts} (g.is_none h i) = record { begins = ap (λ k. f.starts_test k (first (skip ts))) h; front = at 8 kind.Is ts h (omega arith) }
   test_begins {ts = ts} (g.is_not_none h i j) = record { begins = ap (λ k. f.starts_test k (first (skip ts))) h; front = at 8 kind.Is ts h (omega arith) }
 
-  test_complete : {x : Test} {e : Expr} {ts us : Tokens} (p : g.Tested x e ts us) → nest_tested p ≤ d → 8 < binds (first us) → r.test rs ts ≡ Some ((x, e), us)
-  unfolding r.test
+  test_complete : {x : Test} {e : Expr} {ts us : Tokens} (p : g.Tested x e ts us) → nest_tested p ≤ d → 8 < binds (first us) → r.comparison rs ts ≡ Some ((x, e), us)
+  unfolding r.comparison
   test_complete {ts = ts} (g.test (g.order {o = o} h) p) small ends = order_by (first ts) o (skip ts) h ∙ compared_complete (Order o) p small ends
   test_complete (g.test (g.within h) p) small ends = rw h (compared_complete Within p small ends)
   test_complete (g.test (g.not_within h i) p) small ends = rw (h, i) (compared_complete NotWithin p small ends)
@@ -623,10 +623,10 @@ module _ (d : ℕ) (rs : Readers) (inner : AreComplete d rs) where
   compared_front g.tests_end ends = omega arith
   compared_front (g.tests_go p q) ends = (test_begins p).front
 
-  tests_complete : {xs : Tests} {ts us : Tokens} (p : g.Compared xs ts us) → nest_compared p ≤ d → 9 < binds (first us) → (n : ℕ) → length ts < n → many t.no_tests r.with_test r.at_test (r.test rs) n ts ≡ Some (xs, us)
-  tests_complete {ts = ts} g.tests_end small ends n lt = many_ends t.no_tests r.with_test r.at_test (r.test rs) n ts (no_test (first ts) (first (skip ts)) ends) lt
+  tests_complete : {xs : Tests} {ts us : Tokens} (p : g.Compared xs ts us) → nest_compared p ≤ d → 9 < binds (first us) → (n : ℕ) → length ts < n → many t.no_tests r.with_test r.at_test (r.comparison rs) n ts ≡ Some (xs, us)
+  tests_complete {ts = ts} g.tests_end small ends n lt = many_ends t.no_tests r.with_test r.at_test (r.comparison rs) n ts (no_test (first ts) (first (skip ts)) ends) lt
   tests_complete (g.tests_go {f = e} {x = x} {xs = xs} {us = us} {vs = vs} {ws = ws} p q) small ends n lt =
-      many_goes t.no_tests r.with_test r.at_test (r.test rs) n us vs ws (x, e) xs (test_begins p).begins (test_complete p (omega arith) (compared_front q ends)) lt (tested_takes p) (λ m lt. tests_complete q (omega arith) ends m lt)
+      many_goes t.no_tests r.with_test r.at_test (r.comparison rs) n us vs ws (x, e) xs (test_begins p).begins (test_complete p (omega arith) (compared_front q ends)) lt (tested_takes p) (λ m lt. tests_complete q (omega arith) ends m lt)
 
   compare_complete : {e : Expr} {ts us : Tokens} (p : g.Compare e ts us) → nest_compare p ≤ d → 9 < binds (first us) → r.compare rs ts ≡ Some (e, us)
   unfolding r.compare r.tests

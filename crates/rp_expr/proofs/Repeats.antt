@@ -1,64 +1,75 @@
--- Names that stand twice in a list, met from left to right.
-use Rattle.std.proofs.Common.{◌≡◌, ℕ, ◌+◌, ◌<◌, Bool, true, false, not, cond, ◌&&◌, ◌||◌, ◌==◌, List, [], ◌∷◌, ◌++◌, append_assoc, length, get_or, drop, refl, sym, ap, ◌∙◌, arith}
-use Rattle.std.specs.List.{list_any}
-use Rattle.std.proofs.lemmas.List.{drop_more}
-use Rattle.std.proofs.lemmas.List.Folds.{list_any-append}
+-- Names that stand twice, found where their places are sorted.
+use Rattle.std.proofs.Common.{◌≡◌, ◌↔◌, ℕ, Bool, true, false, not, ◌&&◌, List, [], ◌∷◌, map, IsTrue, refl, sym, subst, true≢false, arith}
+use Rattle.std.specs.Ordering.{nat_cmp}
+use Rattle.std.specs.declared.cmp.Ordering.TheVariants.{Less}
+use Rattle.std.specs.List.{list_any, IsDistinct, AllByRecursion}
+use Rattle.std.specs.List.Sorted.{IsPermutation, IsSorted, IsStrictlyIncreasing, IsStrictlySortedBy}
+use Rattle.std.proofs.Math.Dec.{eqb}
+use Rattle.std.proofs.lemmas.List.Sorted.{IsPermutation-sym, IsNonDecreasingBy-from_sort}
+use Rattle.std.proofs.lemmas.Map.Keys.{IsDistinct-IsPermutation, IsStrictlyIncreasing-from_distinct, sorted_from_strictly_increasing}
 use Rattle.rp_base.specs.declared.value.Name.{Name}
 use Rattle.rp_expr.specs.Expressions.{distinct, same_name}
 
-flipped : (a b : ℕ) → (a == b) ≡ (b == a)
+abbrev place : Name → ℕ
+place n = n.0
+
+flipped : (a b : ℕ) → eqb a b ≡ eqb b a
 flipped a b = grind arith
 
-flip : (m n : Name) (b : Bool) → same_name m n ≡ b → same_name n m ≡ b
-flip m n b h = flipped n.0 m.0 ∙ h
+none_same : (n : Name) (ns : List Name) → AllByRecursion (λ y. eqb n.0 y ≡ false) (map place ns) → list_any (same_name n) ns ≡ false
+none_same n [] a = refl
+none_same n (m ∷ ms) a = rw (a.0, none_same n ms a.1) refl
 
-or_true : (a : Bool) → (a || true) ≡ true
-or_true true = refl
-or_true false = refl
+all_others : (n : Name) (ns : List Name) → list_any (same_name n) ns ≡ false → AllByRecursion (λ y. eqb n.0 y ≡ false) (map place ns)
+all_others n [] h = tt
+all_others n (m ∷ ms) h = others_by n m ms (same_name n m) refl h (λ i. all_others n ms i)
+  where
+    others_by : (n m : Name) (ms : List Name) (b : Bool) → same_name n m ≡ b → list_any (same_name n) (m ∷ ms) ≡ false
+        → (list_any (same_name n) ms ≡ false → AllByRecursion (λ y. eqb n.0 y ≡ false) (map place ms)) → AllByRecursion (λ y. eqb n.0 y ≡ false) (map place (m ∷ ms))
+    others_by n m ms true e h more = absurd cc
+    others_by n m ms false e h more = (e, more cc)
 
-and_false : (a : Bool) → (a && false) ≡ false
-and_false true = refl
-and_false false = refl
+to_distinct : (ns : List Name) → IsDistinct eqb (map place ns) → distinct ns ≡ true
+unfolding IsDistinct
+to_distinct [] d = refl
+to_distinct (n ∷ ns) d = rw (none_same n ns d.0, to_distinct ns d.1) refl
 
-twice_by : (m : Name) (xs : List Name) (n : Name) (ys : List Name) (b : Bool) → same_name n m ≡ b → (b || list_any (same_name n) xs) ≡ true
-    → (list_any (same_name n) xs ≡ true → distinct (xs ++ n ∷ ys) ≡ false) → distinct (m ∷ xs ++ n ∷ ys) ≡ false
-twice_by m xs n ys true same h more = rw (list_any-append (same_name m) xs (n ∷ ys), flip n m true same, or_true (list_any (same_name m) xs)) refl
-twice_by m xs n ys false other h more = rw (more h) (and_false (not (list_any (same_name m) (xs ++ n ∷ ys))))
+from_by : (n : Name) (ns : List Name) (a b : Bool) → list_any (same_name n) ns ≡ a → distinct ns ≡ b → (not a && b) ≡ true → (list_any (same_name n) ns ≡ false) × (distinct ns ≡ true)
+from_by n ns true b none apart h = absurd cc
+from_by n ns false true none apart h = (none, apart)
+from_by n ns false false none apart h = absurd cc
 
--- a name among those before it
-pub stands_twice : (xs : List Name) (n : Name) (ys : List Name) → list_any (same_name n) xs ≡ true → distinct (xs ++ n ∷ ys) ≡ false
-stands_twice [] n ys h = absurd cc
-stands_twice (m ∷ xs) n ys h = twice_by m xs n ys (same_name n m) refl h (λ i. stands_twice xs n ys i)
+from_distinct : (ns : List Name) → distinct ns ≡ true → IsDistinct eqb (map place ns)
+unfolding IsDistinct
+from_distinct [] h = tt
+from_distinct (n ∷ ns) h =
+    let parts = from_by n ns (list_any (same_name n) ns) (distinct ns) refl refl h in
+    (all_others n ns parts.0, from_distinct ns parts.1)
 
-distinct_by : (m : Name) (xs : List Name) (n : Name) (a b c : Bool) → list_any (same_name m) xs ≡ a → distinct xs ≡ b → same_name n m ≡ c → (not a && b) ≡ true → (c || list_any (same_name n) xs) ≡ false
-    → (distinct xs ≡ true → list_any (same_name n) xs ≡ false → distinct (xs ++ n ∷ []) ≡ true) → distinct (m ∷ xs ++ n ∷ []) ≡ true
-distinct_by m xs n true b c none apart other h i more = absurd cc
-distinct_by m xs n false false c none apart other h i more = absurd cc
-distinct_by m xs n false true true none apart other h i more = absurd cc
-distinct_by m xs n false true false none apart other h i more = rw (list_any-append (same_name m) xs (n ∷ []), none, flip n m false other, more apart i) refl
+below_apart : (x y : ℕ) → nat_cmp x y ≡ Less → eqb x y ≡ false
+below_apart x y l = grind arith
 
--- a name that is not among those before it
-pub stays_distinct : (xs : List Name) (n : Name) → distinct xs ≡ true → list_any (same_name n) xs ≡ false → distinct (xs ++ n ∷ []) ≡ true
-stays_distinct [] n h i = refl
-stays_distinct (m ∷ xs) n h i = distinct_by m xs n (list_any (same_name m) xs) (distinct xs) (same_name n m) refl refl refl h i (λ j k. stays_distinct xs n j k)
+all_apart : (x : ℕ) (xs : List ℕ) → AllByRecursion (λ y. nat_cmp x y ≡ Less) xs → AllByRecursion (λ y. eqb x y ≡ false) xs
+all_apart x [] a = tt
+all_apart x (y ∷ ys) a = (below_apart x y a.0, all_apart x ys a.1)
 
-other : (b c : Bool) → not b ≡ c → b ≡ not c
-other true c h = ap not h
-other false c h = ap not h
+rising_apart : (ps : List ℕ) → IsStrictlySortedBy nat_cmp ps → IsDistinct eqb ps
+unfolding IsDistinct IsStrictlySortedBy
+rising_apart [] s = tt
+rising_apart (x ∷ xs) s = (all_apart x xs s.0, rising_apart xs s.1)
 
--- ---- a walk over names, where those seen are the ones before the place
+apart_by : (ns : List Name) (ps : List ℕ) (d : Bool) → distinct ns ≡ d → IsPermutation (map place ns) ps → IsSorted nat_cmp ps → (IsStrictlyIncreasing ps → ⊥) → false ≡ distinct ns
+apart_by ns ps false e p s never = sym e
+apart_by ns ps true e p s never = absurd (never (IsStrictlyIncreasing-from_distinct ps (IsNonDecreasingBy-from_sort (λ x. x) ps s) (IsDistinct-IsPermutation eqb flipped (map place ns) ps p (from_distinct ns e))))
 
-pub met_again : (all seen : List Name) (i : ℕ) (d : Name) (is_new : Bool) → i < length all → all ≡ seen ++ drop i all → is_new ≡ not (list_any (same_name (get_or all i d)) seen) → is_new ≡ false → distinct all ≡ false
-met_again all seen i d is_new lt split added again =
-    let n = get_or all i d in
-    ap distinct (split ∙ ap (λ (l : List Name). seen ++ l) (drop_more all i d lt)) ∙ stands_twice seen n (drop (i + 1) all) (other (list_any (same_name n) seen) false (sym added ∙ again))
+never_rises : (ps : List ℕ) → (IsTrue false ↔ IsStrictlyIncreasing ps) → IsStrictlyIncreasing ps → ⊥
+never_rises ps r i = true≢false (sym (r.1 i))
 
-pub met_first : (all seen seen' : List Name) (i : ℕ) (d : Name) (is_new : Bool) → i < length all → all ≡ seen ++ drop i all → is_new ≡ not (list_any (same_name (get_or all i d)) seen) → is_new ≡ true → distinct seen ≡ true
-    → seen' ≡ cond (list_any (same_name (get_or all i d)) seen) seen (seen ++ get_or all i d ∷ []) → (all ≡ seen' ++ drop (i + 1) all) × (distinct seen' ≡ true)
-met_first all seen seen' i d is_new lt split added fresh apart inserted =
-    let n = get_or all i d in
-    let rest = drop (i + 1) all in
-    let none : list_any (same_name n) seen ≡ false = other (list_any (same_name n) seen) true (sym added ∙ fresh) in
-    let grown : seen' ≡ seen ++ n ∷ [] = inserted ∙ ap (λ (b : Bool). cond b seen (seen ++ n ∷ [])) none in
-    let moved : seen ++ n ∷ rest ≡ seen' ++ rest = sym (ap (λ (l : List Name). l ++ rest) grown ∙ append_assoc seen (n ∷ []) rest) in
-    (split ∙ ap (λ (l : List Name). seen ++ l) (drop_more all i d lt) ∙ moved, ap distinct grown ∙ stays_distinct seen n apart none)
+decided : (ns : List Name) (ps : List ℕ) (b : Bool) → IsPermutation (map place ns) ps → IsSorted nat_cmp ps → (IsTrue b ↔ IsStrictlyIncreasing ps) → distinct ns ≡ b
+decided ns ps true p s r = to_distinct ns (IsDistinct-IsPermutation eqb flipped ps (map place ns) (IsPermutation-sym (map place ns) ps p) (rising_apart ps (sorted_from_strictly_increasing ps (r.0 cc))))
+decided ns ps false p s r = sym (apart_by ns ps (distinct ns) refl p s (never_rises ps r))
+
+-- the places of names, once sorted, rise where no name stands twice
+pub sorted_rise : (ns : List Name) (ps qs rs : List ℕ) (b : Bool) → ps ≡ map place ns → IsPermutation ps qs → IsSorted nat_cmp qs → rs ≡ qs → (IsTrue b ↔ IsStrictlyIncreasing rs) → distinct ns ≡ b
+sorted_rise ns ps qs rs b places moved sorted same rise =
+    decided ns qs b (subst (λ (l : List ℕ). IsPermutation l qs) places moved) sorted (subst (λ (l : List ℕ). IsTrue b ↔ IsStrictlyIncreasing l) same rise)

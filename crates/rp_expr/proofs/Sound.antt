@@ -476,8 +476,8 @@ module _ (rs : Readers) (inner : AreSound rs) where
   test_by_sound kind.Is ts x is h = is_sound (first (skip ts)) ts x is refl h
   test_by_sound k ts x is h = order_sound _ ts x (ap order_of is) h
 
-  pub test_sound : Sound TestAt (r.test rs)
-  unfolding r.test
+  pub test_sound : Sound TestAt (r.comparison rs)
+  unfolding r.comparison
   test_sound ts x h = test_by_sound (first ts) ts x refl h
 
   compare_sound : Sound g.Compare (r.compare rs)
@@ -488,8 +488,8 @@ module _ (rs : Readers) (inner : AreSound rs) where
       elim (chosen (r.at_test e.1) _ _ _ more) [
         | inl (begun, h) ↦
             let (xs, tested, all) = bind_some _ _ _ h in
-            let (x, n, others, one, further, same) = many_first t.no_tests r.with_test r.at_test (r.test rs) _ e.1 xs begun tested in
-            let rest = many_sound t.no_tests r.with_test r.at_test (r.test rs) TestAt g.Compared (λ ts. g.tests_end) (λ x xs ts us vs p q. g.tests_go p q) (λ ts x begun h. test_sound ts x h) n x.1 others further in
+            let (x, n, others, one, further, same) = many_first t.no_tests r.with_test r.at_test (r.comparison rs) _ e.1 xs begun tested in
+            let rest = many_sound t.no_tests r.with_test r.at_test (r.comparison rs) TestAt g.Compared (λ ts. g.tests_end) (λ x xs ts us vs p q. g.tests_go p q) (λ ts x begun h. test_sound ts x h) n x.1 others further in
             got g.Compare ts all (got (λ (z : Tests) ts us. g.Compare (t.node (line_of e.0) (t.compare e.0 z)) ts us) ts (ap read_some same) (g.compared base (test_sound e.1 x one) rest))
         | inr (over, h) ↦ got g.Compare ts h (g.single base)
       ]

@@ -43,7 +43,7 @@ operations_short d k ts x begun h =
     let (binary, loose, right) = operation_sound k (r.chain (r.readers d) k) (chain_sound (r.readers d) (readers_sound d) k) ts x h in
     omega (arith, chain_takes right, skip_within ts)
 
-pub tests_short : (d : ℕ) → Shortens r.at_test (r.test (r.readers d))
+pub tests_short : (d : ℕ) → Shortens r.at_test (r.comparison (r.readers d))
 tests_short d ts x begun h = tested_takes (test_sound (r.readers d) (readers_sound d) ts x h)
 
 pub ands_short : (d : ℕ) → Shortens (r.at f.is_and) (r.behind (r.not (r.readers d)))

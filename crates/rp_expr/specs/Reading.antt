@@ -293,8 +293,8 @@ test_by kind.Is r ts = is_by (first ts) ts
 test_by k r ts = order_of k >>= λ o. compared_with r (Order o) ts
 
 -- an operator of comparison and its right operand
-unfoldable pub test : Readers → Tokens → Read (Test × Expr)
-test r ts = test_by (first ts) r (skip ts)
+unfoldable pub comparison : Readers → Tokens → Read (Test × Expr)
+comparison r ts = test_by (first ts) r (skip ts)
 
 abbrev pub at_test : Tokens → Bool
 at_test ts = starts_test (first ts) (first (skip ts))
@@ -303,7 +303,7 @@ abbrev pub with_test : Test × Expr → Tests → Tests
 with_test x xs = t.test x.0 x.1 xs
 
 unfoldable pub tests : Readers → Tokens → Read Tests
-tests r ts = all_many t.no_tests with_test at_test (test r) ts
+tests r ts = all_many t.no_tests with_test at_test (comparison r) ts
 
 unfoldable pub compare : Readers → Tokens → Read Expr
 compare r ts = chain r loosest ts >>= λ e.

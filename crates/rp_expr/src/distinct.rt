@@ -1,26 +1,46 @@
-ghost use Rattle.std.specs.Prelude.{◌≡◌, ◌++◌, Some, map, option_to_list};
+//! Names that stand once in a list.
+
+ghost use Rattle.std.specs.Prelude.{◌≡◌, ◌↔◌, ◌++◌, IfOk, IsTrue, Some, map, option_to_list};
+ghost use Rattle.std.specs.List.Sorted.{IsStrictlyIncreasing};
 ghost use Rattle.rp_tree.specs.ExpressionViews as v;
 ghost use Rattle.rp_expr.specs.Expressions as g;
 ghost use Rattle.rp_expr.specs.Gives.{Gives};
 
 use crate::fault::Fault;
-use indexmap::IndexSet;
 use rp_base::Name;
 use rp_tree::{Arg, Expr, Named, Params};
-use std::alloc::Global;
+use std::alloc::{AllocError, Global};
 
-/// Whether no name stands twice.
+/// Whether no name stands twice: their places, sorted, rise. It takes the time of a sort, whatever the names.
 fn are_distinct(alloc: Global, names: &[Name]) -> Result<bool, Fault>
     ensures { Gives (λ b. b) result (Some (g.distinct names.now)) }
 {
-    let mut seen = IndexSet::new(alloc);
+    let mut places = places(alloc, names)?;
+    places.sort()?;
+    Ok(do_rise(&places))
+}
+
+/// The places of the names.
+fn places(alloc: Global, names: &[Name]) -> Result<Vec<usize>, AllocError>
+    ensures { IfOk result (λ v. v.items ≡ map (λ n. n.0) names.now) }
+{
+    let mut places = Vec::with_capacity(alloc, names.len())?;
     'names: for name in names {
-        let (_, is_new) = seen.insert_full(*name)?;
-        if !is_new {
-            return Ok(false);
+        places.push(name.0)?;
+    }
+    Ok(places)
+}
+
+/// Whether each number is below the next.
+fn do_rise(numbers: &[usize]) -> bool
+    ensures { IsTrue result ↔ IsStrictlyIncreasing numbers.now }
+{
+    'numbers: for place in 1..numbers.len() {
+        if numbers[place - 1] >= numbers[place] {
+            return false;
         }
     }
-    Ok(true)
+    true
 }
 
 /// Whether no two arguments have one name.

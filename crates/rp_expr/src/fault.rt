@@ -1,3 +1,5 @@
+//! Why tokens could not be read.
+
 ghost use Rattle.std.specs.Prelude.{◌≡◌};
 ghost use Rattle.rp_expr.specs.declared.fault.Fault.TheVariants.{Memory as OutOfMemory};
 

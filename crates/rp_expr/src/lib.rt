@@ -13,10 +13,6 @@ mod node;
 mod operators;
 mod parameters;
 mod readers;
-#[cfg(test)]
-mod shown;
-#[cfg(test)]
-mod tests;
 mod text;
 mod trailers;
 

@@ -1,3 +1,5 @@
+//! Nodes, and what a reader answers.
+
 ghost use Rattle.std.specs.Prelude.{Some};
 ghost use Rattle.rp_tree.specs.Expressions as t;
 ghost use Rattle.rp_tree.specs.ExpressionViews.{view_expr, view_form};

@@ -1,3 +1,5 @@
+//! Operators.
+
 ghost use Rattle.std.specs.Prelude.{◌≡◌, suc, Some, map, option_map};
 ghost use Rattle.rp_tree.specs.Expressions as t;
 ghost use Rattle.rp_tree.specs.ExpressionViews as v;
@@ -173,9 +175,9 @@ fn test_at<'a>(
 }
 
 #[cycle(expr)]
-#[tactic(auto, unfolding(crate::specs::Reading::test))]
+#[tactic(auto, unfolding(crate::specs::Reading::comparison))]
 fn test(alloc: Global, tokens: &[Token], depth: usize) -> Read<'_, (Test, Expr)>
-    ensures { Gives (λ x. (v.view_test x.0, x.1.now)) result (r.test (r.readers depth) tokens.now) }
+    ensures { Gives (λ x. (v.view_test x.0, x.1.now)) result (r.comparison (r.readers depth) tokens.now) }
 {
     match tokens {
         [] => Err(Fault::Syntax),

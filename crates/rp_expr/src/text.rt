@@ -1,3 +1,5 @@
+//! Adjacent text literals.
+
 ghost use Rattle.std.specs.Prelude.{◌≡◌, option_map};
 ghost use Rattle.rp_expr.specs.Front.{text_of};
 ghost use Rattle.rp_expr.specs.Gives.{Gives};

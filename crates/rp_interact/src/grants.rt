@@ -1,3 +1,5 @@
+//! What a principal is granted and denied, and the first rule that decides.
+
 ghost use Rattle.std.specs.Prelude.{◌≡◌, ◌<◌, All, IfOk, length, map};
 ghost use Rattle.rp_decl.specs.Places.{AreBelow};
 ghost use Rattle.rp_interact.specs.Answers.{granted_of, group_granted, role_granted};

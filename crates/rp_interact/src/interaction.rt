@@ -1,3 +1,5 @@
+//! The principals of a session, and the answers that are kept.
+
 ghost use Rattle.std.specs.Prelude.{◌≡◌, ◌⊎◌, ◌≤◌, ◌<◌, ℕ, IfOk, IfErr, IsSome, IsNone, List, None, Some, [], find, length, option_copied, position};
 ghost use Rattle.std.specs.List.{list_all};
 ghost use Rattle.std.specs.Map.{lookup};

@@ -4,8 +4,6 @@
 mod grants;
 mod interaction;
 mod reason;
-#[cfg(test)]
-mod tests;
 mod who_fault;
 
 pub use interaction::Interaction;

@@ -1,3 +1,5 @@
+//! Why a principal has a permission or not.
+
 ghost use Rattle.std.specs.Prelude.{◌≡◌};
 ghost use Rattle.rp_interact.specs.Granted.{is_yes};
 

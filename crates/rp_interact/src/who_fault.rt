@@ -1,3 +1,5 @@
+//! Why there is no interaction of some ids.
+
 use rp_base::{Memory, Text};
 use std::alloc::{AllocError, AllocFailed};
 

@@ -1,17 +1,16 @@
--- What is found in the objects of a store is sound, and what deleting a key comes to.
-use Rattle.std.proofs.Common.{◌≡◌, ℕ, Bool, true, false, cond, List, [], ◌∷◌, codes, Option, Some, None, is_some, Ok, slice_get, refl, sym, ap, subst, ◌∙◌}
-use Rattle.std.specs.List.{All}
-use Rattle.std.specs.Map.{lookup}
-use Rattle.std.specs.Option.{IfSome, option_and_then, option_map, option_map_or}
-use Rattle.std.proofs.lemmas.List.Elements.{All-head, All-tail}
+-- What reading and deleting at a key come to.
+use Rattle.std.proofs.Common.{◌≡◌, ℕ, zero, suc, Bool, true, false, true≢false, cond, not, List, [], ◌∷◌, codes, Option, Some, None, is_some, Result, Ok, Err, IsErrAnd, slice_get, refl, sym, ap, subst, ◌∙◌}
+use Rattle.std.specs.Map.{lookup, remove_entry}
+use Rattle.std.specs.Option.{option_and_then, option_map, option_map_or}
 use Rattle.rp_base.specs.declared.kind.Kind.TheVariants.{TypeError}
 use Rattle.rp_base.specs.declared.value.Oid.{Oid}
+use Rattle.rp_base.specs.declared.value.OpEnd.{OpEnd}
+use Rattle.rp_base.specs.declared.value.OpEnd.TheVariants as end
+use Rattle.rp_base.specs.declared.value.Raised.{Raised}
 use Rattle.rp_base.specs.declared.value.Rock.{Rock}
-use Rattle.rp_base.specs.declared.value.Side.{Side}
 use Rattle.rp_base.specs.declared.value.Value.{Value}
 use Rattle.rp_base.specs.declared.value.Value.TheVariants as value
-use Rattle.rp_store.specs.Heap.{Owned, content_at, entry_at, entry_of}
-use Rattle.rp_store.specs.Kept.{Holds, IsEntry, IsKept, IsSound}
+use Rattle.rp_store.specs.Heap.{Owned, changed_from, content_at, entry_at, entry_of}
 use Rattle.rp_store.specs.Key.{key_form, same_key}
 use Rattle.rp_store.specs.Object as object
 use Rattle.rp_store.specs.Object.{Content}
@@ -21,63 +20,89 @@ use Rattle.rp_store.specs.Writers.{without_entry}
 use Rattle.rp_store.specs.declared.key.Key.{Key}
 use Rattle.rp_ops.specs.Keys.{key_named}
 use Rattle.rp_ops.specs.Numbers.{refused}
-use Rattle.rp_ops.specs.Outcome.{Outcome, State, gives, on_found, state_of}
-use Rattle.rp_ops.specs.View.{handed}
-use Rattle.rp_ops.proofs.Growth.{handed_sound}
-use Rattle.rp_items.specs.Items.{changed, content_del, missing_key, no_items, without_rock}
-use Rattle.rp_items.proofs.SlicePlaces.{slice_get-each}
-
--- what the object at a place may hold
-pub Holds-at : (heap : List Owned) (at : Oid) (c : Content) (Q : Type 0) → IsKept heap → content_at heap at ≡ Some c → ((side : Side) → Holds heap side c → Q) → Q
-Holds-at heap at c Q kept e go = by (slice_get heap at.0) (slice_get-each (λ o. Holds heap o.owner o.content) heap at.0 kept) e where
-  by : (x : Option Owned) → IfSome x (λ o. Holds heap o.owner o.content) → option_map (λ o. o.content) x ≡ Some c → Q
-  by None h e = absurd (cc)
-  by (Some o) h e = let same : o.content ≡ c = cc in go o.owner (subst (λ (d : Content). Holds heap o.owner d) same h)
+use Rattle.rp_ops.specs.Outcome.{Meets, Outcome, Raises, State, ends, gives, on_found, raised, state_of}
+use Rattle.rp_items.specs.Items.{changed, content_del, content_item, lent_out, missing_key, no_items, without_rock}
 
 abbrev Entry : Type 0
 Entry = Key × (Rock × Value)
-
-module _ (heap : List Owned) where
-  found_case : (x : Entry) (e : Rock × Value) (b : Bool) (rest : Option (Rock × Value)) → IsEntry heap x → (Some e ≡ rest → IsSound heap e.1)
-      → Some e ≡ cond b (Some x.1) rest → IsSound heap e.1
-  found_case x e true rest is more found = let same : e ≡ x.1 = cc in subst (λ (p : Rock × Value). IsSound heap p.1) (sym same) is.1
-  found_case x e false rest is more found = more found
-
-  lookup-sound : (test : Key → Bool) (es : List Entry) (e : Rock × Value) → All (IsEntry heap) es → Some e ≡ lookup test es → IsSound heap e.1
-  lookup-sound test [] e all found = absurd (cc)
-  lookup-sound test (x ∷ xs) e all found =
-      found_case x e (test x.0) (lookup test xs) (All-head (IsEntry heap) x xs all) (lookup-sound test xs e (All-tail (IsEntry heap) x xs all)) found
-
-  -- what a dict has at a key, as it is handed out
-  pub entry-sound : (lent : Bool) (test : Key → Bool) (es : List Entry) (e : Rock × Value) (v : Value) → All (IsEntry heap) es → Some e ≡ lookup test es
-      → v ≡ handed lent e.1 → IsSound heap v
-  entry-sound lent test es e v all found is =
-      subst (λ (w : Value). IsSound heap w) (sym is) (handed_sound heap lent e.1 (lookup-sound test es e all found))
 
 -- a rock with a key form is a key
 key-found : {B : Type 0} (r : Rock) (key : Key) (s : State) (go : Rock → State → Outcome B) → Some key ≡ key_form r → on_found (key_named (value.Rock r)) s go ≡ go r s
 key-found r key s go form = ap (λ (k : Option Key). on_found (option_map_or (λ _. Ok r) k (refused TypeError (codes "key"))) s go) (sym form)
 
-some_by : {A B : Type 0} (x : Option A) (y z : B) → is_some x ≡ true → option_map_or (λ _. y) x z ≡ y
-some_by None y z e = absurd (cc)
-some_by (Some a) y z e = refl
+some_by : {A B : Type 0} (x : Option A) (f : A → Value) (y z : B) → is_some (option_map f x) ≡ true → option_map_or (λ _. y) x z ≡ y
+some_by None f y z e = absurd (cc)
+some_by (Some a) f y z e = refl
+
+none_by : {A B : Type 0} (x : Option A) (f : A → Value) (y z : B) → option_map f x ≡ None → option_map_or (λ _. y) x z ≡ z
+none_by None f y z e = refl
+none_by (Some a) f y z e = absurd (cc)
+
+pub none_of : {A : Type 0} (x : Option A) (b : Bool) → is_some x ≡ not b → b ≡ true → x ≡ None
+none_of None b e none = refl
+none_of (Some a) b e none = absurd (true≢false (e ∙ ap not none))
 
 -- a dict without the key of a rock
-pub without_rock-entry : (r : Rock) (key : Key) → Some key ≡ key_form r → without_rock r ≡ without_entry key
+without_rock-entry : (r : Rock) (key : Key) → Some key ≡ key_form r → without_rock r ≡ without_entry key
 without_rock-entry r key form = ap (λ (k : Option Key). λ (c : Content). option_map_or (λ key. without_entry key c) k c) (sym form)
 
--- a key that is there is deleted
-pub entry-dropped : (old new : Cells) (at : Oid) (r : Rock) (key : Key) (steps : ℕ) → Some key ≡ key_form r → is_some (entry_at old.heap at key) ≡ true
-    → new ≡ written old at (without_entry key)
-    → on_found (key_named (value.Rock r)) (state_of old steps)
-    (λ r s. option_map_or (λ e. changed at (without_rock r) s) (entry_of old.heap at r) (missing_key r s)) ≡ gives tt (state_of new steps)
-entry-dropped old new at r key steps form some same =
-    let s : State = state_of old steps in
-    key-found r key s (λ r s. option_map_or (λ e. changed at (without_rock r) s) (entry_of old.heap at r) (missing_key r s)) form
-    ∙ ap (λ (k : Option Key). option_map_or (λ e. changed at (without_rock r) s) (option_and_then (entry_at old.heap at) k) (missing_key r s)) (sym form)
-    ∙ some_by (entry_at old.heap at key) (changed at (without_rock r) s) (missing_key r s) some
-    ∙ ap (λ (change : Content → Content). changed at change s) (without_rock-entry r key form)
-    ∙ ap (λ (c : Cells). gives tt (state_of c steps)) (sym same)
+module _ (old : Cells) (at : Oid) (r : Rock) (key : Key) (steps : ℕ) (dropped : Option Value) (form : Some key ≡ key_form r)
+    (is : dropped ≡ option_map (λ e. e.1) (entry_at old.heap at key)) where
+  abbrev before : State
+  before = state_of old steps
+
+  abbrev deleted : Outcome (Unit {0})
+  deleted = on_found (key_named (value.Rock r)) before (λ r s. option_map_or (λ e. changed at (without_rock r) s) (entry_of old.heap at r) (missing_key r s))
+
+  deleted_by : deleted ≡ option_map_or (λ e. changed at (without_rock r) before) (entry_at old.heap at key) (missing_key r before)
+  deleted_by =
+      key-found r key before (λ r s. option_map_or (λ e. changed at (without_rock r) s) (entry_of old.heap at r) (missing_key r s)) form
+      ∙ ap (λ (k : Option Key). option_map_or (λ e. changed at (without_rock r) before) (option_and_then (entry_at old.heap at) k) (missing_key r before)) (sym form)
+
+  -- a key that is there is deleted
+  pub entry-dropped : (new : Cells) → is_some dropped ≡ true → new ≡ written old at (without_entry key) → deleted ≡ gives tt (state_of new steps)
+  entry-dropped new some same =
+      deleted_by
+      ∙ some_by (entry_at old.heap at key) (λ e. e.1) (changed at (without_rock r) before) (missing_key r before) (ap is_some (sym is) ∙ some)
+      ∙ ap (λ (change : Content → Content). changed at change before) (without_rock-entry r key form)
+      ∙ ap (λ (c : Cells). gives tt (state_of c steps)) (sym same)
+
+  -- one that is not there is missed
+  pub entry-missing : dropped ≡ None → deleted ≡ missing_key r before
+  entry-missing none = deleted_by ∙ none_by (entry_at old.heap at key) (λ e. e.1) (changed at (without_rock r) before) (missing_key r before) (sym is ∙ none)
+
+-- what the dict of what stands at a place has at a key
+abbrev entry_in : Key → Option Content → Option (Rock × Value)
+entry_in key found = option_map_or (λ c. lookup (same_key key) (entries c)) found None
+
+module _ (key : Key) where
+  removed_case : (b : Bool) (e : Entry) (es rest : List Entry) → option_map (λ x. x.1) (cond b (Some e.1) (lookup (same_key key) es)) ≡ None
+      → (option_map (λ x. x.1) (lookup (same_key key) es) ≡ None → rest ≡ es) → cond b es (e ∷ rest) ≡ e ∷ es
+  removed_case true e es rest none same = absurd (cc)
+  removed_case false e es rest none same = ap (λ (xs : List Entry). e ∷ xs) (same none)
+
+  removed : (es : List Entry) → option_map (λ x. x.1) (lookup (same_key key) es) ≡ None → remove_entry (same_key key) es ≡ es
+  removed [] none = refl
+  removed (e ∷ es) none = removed_case (same_key key e.0) e es (remove_entry (same_key key) es) none (removed es)
+
+  without : (c : Content) → option_map (λ x. x.1) (lookup (same_key key) (entries c)) ≡ None → without_entry key c ≡ c
+  without (object.dict es) none = ap object.dict (removed es none)
+  without (object.list xs) none = refl
+  without (object.tuple xs) none = refl
+  without (object.instance of fs) none = refl
+  without (object.class n d ms) none = refl
+  without (object.function n u b w ds) none = refl
+  without (object.method r c) none = refl
+  without (object.scope b p vs) none = refl
+
+  unchanged : (heap : List Owned) (i : ℕ) → option_map (λ x. x.1) (entry_in key (option_map (λ o. o.content) (slice_get heap i))) ≡ None → changed_from heap i (without_entry key) ≡ heap
+  unchanged [] i none = refl
+  unchanged (o ∷ os) zero none = ap (λ (c : Content). record { owner = o.owner; content = c } ∷ os) (without o.content none)
+  unchanged (o ∷ os) (suc i) none = ap (λ (xs : List Owned). o ∷ xs) (unchanged os i none)
+
+  -- a key that is not there leaves the store as it was
+  pub written-missing : (s : Cells) (at : Oid) → option_map (λ x. x.1) (entry_at s.heap at key) ≡ None → written s at (without_entry key) ≡ s
+  written-missing s at none = ap (λ (heap : List Owned). record s { heap = heap }) (unchanged s.heap at.0 none)
 
 -- deleting from a dict
 pub entries-deleted : (heap : List Owned) (at : Oid) (es : List Entry) (i : Value) (s : State) → content_at heap at ≡ Some (object.dict es)
@@ -87,3 +112,31 @@ entries-deleted heap at es i s e =
     ap (λ (x : Option Content). option_map_or (λ c. content_del at c i s) x (no_items s)) e
     ∙ sym (ap (λ (x : Option Content). on_found (key_named i) s (λ r s. option_map_or (λ e. changed at (without_rock r) s)
     (option_and_then (λ key. option_map_or (λ c. lookup (same_key key) (entries c)) x None) (key_form r)) (missing_key r s))) e)
+
+-- reading from a dict
+pub entries-found : (heap : List Owned) (at : Oid) (es : List Entry) (i : Value) (s : State) → content_at heap at ≡ Some (object.dict es)
+    → option_map_or (λ c. content_item c i s) (content_at heap at) (no_items s)
+    ≡ on_found (key_named i) s (λ r s. option_map_or (λ e. gives e.1 s) (entry_of heap at r) (missing_key r s))
+entries-found heap at es i s e =
+    ap (λ (x : Option Content). option_map_or (λ c. content_item c i s) x (no_items s)) e
+    ∙ sym (ap (λ (x : Option Content). on_found (key_named i) s (λ r s. option_map_or (λ e. gives e.1 s)
+    (option_and_then (λ key. option_map_or (λ c. lookup (same_key key) (entries c)) x None) (key_form r)) (missing_key r s))) e)
+
+-- an exception is raised where the store is as before, or there was no memory for its text
+pub Meets-raised : {A : Type 0} (e : OpEnd) (r : Raised) (old new : Cells) (steps : ℕ) (o : Outcome A) → Raises e r → new ≡ old → o ≡ ends (raised r) (state_of old steps)
+    → Meets (Err e) (state_of new steps) o
+Meets-raised (end.Raised x) r old new steps o h same is =
+    is ∙ ap (λ (s : Cells). ends (raised r) (state_of s steps)) (sym same) ∙ ap (λ (r : Raised). ends (raised r) (state_of new steps)) (sym h)
+Meets-raised end.StopSteps r old new steps o h same is = absurd h
+Meets-raised end.StopCells r old new steps o h same is = absurd h
+Meets-raised end.Memory r old new steps o h same is = tt
+
+-- what ends through a proxy ends as it does without one
+pub lent-ends : (r : Result Value OpEnd) (e : OpEnd) (t : State) (o : Outcome Value) → IsErrAnd r (λ f. f ≡ e) → Meets {A = Value} (Err e) t o → Meets r t (lent_out o)
+lent-ends (Ok v) e t o is h = absurd is
+lent-ends (Err f) e t o is h = subst (λ (g : OpEnd). Meets {A = Value} (Err g) t (lent_out o)) (sym is) (by e h) where
+  by : (e : OpEnd) → Meets {A = Value} (Err e) t o → Meets {A = Value} (Err e) t (lent_out o)
+  by (end.Raised x) h = ap lent_out h
+  by end.StopSteps h = ap lent_out h
+  by end.StopCells h = ap lent_out h
+  by end.Memory h = tt

@@ -123,10 +123,11 @@ slice-by_text = refl
 slice-of_dict : slice it nil nil nil (holding empty) ≡ raises TypeError (codes "item") (holding empty)
 slice-of_dict = refl
 
+-- the slice of what is lent is lent, and holds the elements as they were stored
 slice-of_lent : slice lent nil nil nil (holding (object.tuple (it ∷ [])))
-    ≡ gives (value.Ref (record { 0 = 1 })) (record {
+    ≡ gives (value.Prox (record { 0 = 1 })) (record {
       store = record {
-        heap = record { owner = record { 0 = 1 }; content = object.tuple (it ∷ []) } ∷ record { owner = record { 0 = 1 }; content = object.tuple (lent ∷ []) } ∷ [];
+        heap = record { owner = record { 0 = 1 }; content = object.tuple (it ∷ []) } ∷ record { owner = record { 0 = 1 }; content = object.tuple (it ∷ []) } ∷ [];
         used = 7;
         limit = 10;
       };

@@ -1,5 +1,6 @@
 mod Collected
 mod Found
 mod ItemExamples
+mod Runs
 mod SlicePlaces
 mod Sliced

@@ -1,15 +1,13 @@
 -- The places of a slice are within its elements, and the elements there are those of the slice.
-use Rattle.std.proofs.Common.{◌≡◌, ℕ, zero, suc, ◌+◌, ◌-◌, ◌*◌, ◌<◌, ◌≤◌, ℤ, pos, negsuc, ◌+ℤ◌, ◌-ℤ◌, ◌<ℤ◌, neg_ℤ, Bool, true, false, List, [], ◌∷◌, ◌++◌, length, map, get_or, filter_map, Option, Some, None, slice_get, unsigned_abs, is_some, refl, sym, ap, subst, ◌∙◌, arith}
+use Rattle.std.proofs.Common.{◌≡◌, ℕ, zero, suc, ◌+◌, ◌-◌, ◌*◌, ◌<◌, ◌≤◌, ℤ, pos, negsuc, ◌+ℤ◌, ◌-ℤ◌, ◌<ℤ◌, neg_ℤ, Bool, true, false, List, [], ◌∷◌, ◌++◌, length, get_or, filter_map, Option, Some, None, slice_get, unsigned_abs, is_some, refl, sym, ap, subst, ◌∙◌, arith}
 use Rattle.std.specs.Int.{div_ceil}
 use Rattle.std.specs.List.{All, cons_option, range_with_len}
-use Rattle.std.specs.Option.{IfSome, option_map}
+use Rattle.std.specs.Option.{IfSome}
 use Rattle.std.proofs.Math.Nat.{mul-le-mul_right}
 use Rattle.std.proofs.lemmas.Grind.{div_ceil_times}
 use Rattle.std.proofs.lemmas.Int.{ints}
-use Rattle.std.proofs.lemmas.List.{length-map}
 use Rattle.std.proofs.lemmas.List.Elements.{All-cons, All-head, All-nil, All-tail, filter_map-append}
 use Rattle.rp_ops.specs.Binary.{times}
-use Rattle.rp_ops.proofs.Shapes.{slice_get-map}
 use Rattle.rp_items.specs.Slices.{Span, bound, count, distance, first, last, place, sliced, span_of}
 use Rattle.rp_items.specs.SliceView.{AreOf, AreWithin, place_at, taken}
 use Rattle.rp_items.specs.declared.spans.Places.{Places}
@@ -158,24 +156,6 @@ length-taken_by h a (suc c) some =
 pub length-taken : {A : Type 0} (p : Places) (xs : List A) → AreWithin (length xs) p → length (taken p xs) ≡ p.count
 length-taken p xs within =
     length-taken_by (λ m. slice_get xs (place_at p m)) 0 p.count (λ m low high. slice_get-is_some xs (place_at p m) (within m (omega arith)).1)
-
-cons-mapped : {A B : Type 0} (f : A → B) (x : Option A) (ys : List A) → cons_option (option_map f x) (map f ys) ≡ map f (cons_option x ys)
-cons-mapped f None ys = refl
-cons-mapped f (Some x) ys = refl
-
-mapped_by : {A B : Type 0} (f : A → B) (xs : List A) (at : ℕ → ℕ) (ms : List ℕ)
-    → filter_map (λ m. slice_get (map f xs) (at m)) ms ≡ map f (filter_map (λ m. slice_get xs (at m)) ms)
-mapped_by f xs at [] = refl
-mapped_by f xs at (m ∷ ms) =
-    ap (λ x. cons_option x (filter_map (λ m. slice_get (map f xs) (at m)) ms)) (slice_get-map f xs (at m))
-    ∙ ap (λ t. cons_option (option_map f (slice_get xs (at m))) t) (mapped_by f xs at ms)
-    ∙ cons-mapped f (slice_get xs (at m)) (filter_map (λ m. slice_get xs (at m)) ms)
-
--- a slice of elements that are seen otherwise
-pub sliced-map : {A B : Type 0} (f : A → B) (s : Span) (xs : List A) → sliced s (map f xs) ≡ map f (sliced s xs)
-sliced-map f s xs =
-    ap (λ (n : ℕ). filter_map (λ m. slice_get (map f xs) (unsigned_abs (place n s m))) (range_with_len 0 (count n s))) (length-map xs f)
-    ∙ mapped_by f xs (λ m. unsigned_abs (place (length xs) s m)) (range_with_len 0 (count (length xs) s))
 
 pub slice_get-each : {A : Type 0} (P : A → Type 0) (xs : List A) (i : ℕ) → All P xs → IfSome (slice_get xs i) P
 slice_get-each P [] i h = tt

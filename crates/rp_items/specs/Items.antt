@@ -1,8 +1,8 @@
 -- Items of lists, tuples, texts and dicts: reading, storing and deleting (Python Language Reference, Subscriptions, Assignment
 -- statements, The del statement; Data model, sequences and mappings). Other way: an index below 0 is a whole number to which the
 -- length is added, and elements, characters and entries are looked up in lists. The code takes the number of places before the end off
--- the length, walks the bytes of a text, and searches a dict that may be hashed.
-use Rattle.std.specs.Prelude.{ℕ, ℤ, pos, negsuc, ◌+ℤ◌, nat_lt, int_lt, List, [], ◌∷◌, length, codes, map, slice_get, Result, Ok, if◌then◌else◌}
+-- the length, takes one byte of an ASCII text and walks another, and searches a dict that may be hashed.
+use Rattle.std.specs.Prelude.{ℕ, ℤ, pos, negsuc, ◌+ℤ◌, nat_lt, int_lt, List, [], ◌∷◌, length, codes, slice_get, Result, Ok, if◌then◌else◌}
 use Rattle.std.specs.Option.{option_map_or}
 use Rattle.rp_base.specs.declared.kind.Kind.TheVariants.{TypeError, IndexError, KeyError}
 use Rattle.rp_base.specs.declared.value.Oid.{Oid}
@@ -22,7 +22,7 @@ use Rattle.rp_ops.specs.Binary.{new_text}
 use Rattle.rp_ops.specs.Numbers.{refused}
 use Rattle.rp_ops.specs.Keys.{entry_in, index_number, key_named}
 use Rattle.rp_ops.specs.Operand.{lent}
-use Rattle.rp_ops.specs.Outcome.{State, Outcome, gives, raises, charged, on_found, with_change}
+use Rattle.rp_ops.specs.Outcome.{State, Outcome, gives, raises, on_value, charged, on_found, with_change}
 use Rattle.rp_show.specs.Shown.{shown_inside}
 
 -- an index below 0 has the length added once
@@ -54,15 +54,14 @@ character_at t p s = option_map_or (λ c. new_text (c ∷ []) s) (slice_get t p)
 abbrev pub elements_item : List Value → Value → State → Outcome Value
 elements_item xs i s = on_found (place_named (length xs) i) s (element_at xs)
 
-abbrev pub entries_item : (Value → Value) → List (Key × (Rock × Value)) → Value → State → Outcome Value
-entries_item seen es i s = on_found (key_named i) s (λ r s. option_map_or (λ e. gives (seen e.1) s) (entry_in es r) (missing_key r s))
+abbrev pub entries_item : List (Key × (Rock × Value)) → Value → State → Outcome Value
+entries_item es i s = on_found (key_named i) s (λ r s. option_map_or (λ e. gives e.1 s) (entry_in es r) (missing_key r s))
 
--- of an object, of whose values each is seen so
-abbrev pub content_item : (Value → Value) → Content → Value → State → Outcome Value
-content_item seen (object.list xs) i s = elements_item (map seen xs) i s
-content_item seen (object.tuple xs) i s = elements_item (map seen xs) i s
-content_item seen (object.dict es) i s = entries_item seen es i s
-content_item seen c i s = no_items s
+abbrev pub content_item : Content → Value → State → Outcome Value
+content_item (object.list xs) i s = elements_item xs i s
+content_item (object.tuple xs) i s = elements_item xs i s
+content_item (object.dict es) i s = entries_item es i s
+content_item c i s = no_items s
 
 abbrev pub rock_item : Rock → Value → State → Outcome Value
 rock_item (rock.Text t) i s = on_found (place_named (length t) i) s (character_at t)
@@ -72,11 +71,15 @@ rock_item r i s = no_items s
 abbrev pub at_content : {A : Type 0} → Oid → State → (Content → Outcome A) → Outcome A
 at_content at s go = option_map_or go (content_at s.store.heap at) (no_items s)
 
--- `a[i]`; what is got through a proxy is lent
+-- what is got through a proxy is lent (zope.security, proxies)
+abbrev pub lent_out : Outcome Value → Outcome Value
+lent_out o = on_value o (λ v s. gives (lent v) s)
+
+-- `a[i]`
 abbrev pub item : Value → Value → State → Outcome Value
 item (value.Rock r) i s = rock_item r i s
-item (value.Ref at) i s = at_content at s (λ c. content_item (λ v. v) c i s)
-item (value.Prox at) i s = at_content at s (λ c. content_item lent c i s)
+item (value.Ref at) i s = at_content at s (λ c. content_item c i s)
+item (value.Prox at) i s = lent_out (at_content at s (λ c. content_item c i s))
 
 -- storing and deleting
 

@@ -1,21 +1,13 @@
--- The parts and the places of a slice, as the code keeps them, for the clauses of its private functions. `part_at` alone stands in a
--- public one, where it says which of the three parts is meant. Other way: the places of Slices are whole numbers that go on by the
--- step; the code's are a first place, the size of the step, its direction and how many there are.
-use Rattle.std.specs.Prelude.{◌≡◌, ℕ, ◌+◌, ◌-◌, ◌*◌, ◌<◌, ◌≤◌, true, false, length, List, slice_get, slice_index_or, filter_map, unsigned_abs, Result, Ok, Err, if◌then◌else◌}
+-- The bounds and the places of a slice, as the code keeps them, for the clauses of its private functions. Other way: the places of Slices
+-- are whole numbers that go on by the step; the code's are a first place, the size of the step, its direction and how many there are.
+use Rattle.std.specs.Prelude.{◌≡◌, ℕ, ◌+◌, ◌-◌, ◌*◌, ◌<◌, ◌≤◌, true, false, length, List, slice_get, filter_map, unsigned_abs, Result, Ok, Err, if◌then◌else◌}
 use Rattle.std.specs.List.{range_with_len}
 use Rattle.rp_base.specs.declared.value.Raised.{Raised}
-use Rattle.rp_base.specs.declared.value.Rock.TheVariants as rock
-use Rattle.rp_base.specs.declared.value.Value.{Value}
-use Rattle.rp_base.specs.declared.value.Value.TheVariants as value
 use Rattle.rp_items.specs.Slices.{Span, count, place, span_of}
 use Rattle.rp_ops.specs.Refused.{raised_by}
 use Rattle.rp_ops.specs.declared.refusal.Refusal.{Refusal}
 use Rattle.rp_items.specs.declared.spans.Places.{Places}
 use Rattle.rp_items.specs.declared.spans.Span.{Span as Kept}
-
--- the i-th part of a slice
-abbrev pub part_at : List Value → ℕ → Value
-part_at parts i = slice_index_or parts i (value.Rock rock.Nil)
 
 abbrev pub span_seen : Kept → Span
 span_seen p = span_of p.from p.to p.step

@@ -1,6 +1,7 @@
 -- Slices of lists, tuples and texts (Python Language Reference, Slicings; Python Standard Library, Common sequence operations). Other
 -- way: bounds are whole numbers held between the least and the greatest, and each place i + mk is looked up in the list of what is
--- sliced. The code bounds by cases within 64 bits, and collects the characters of a text from the front, also for a step below 0.
+-- sliced. The code bounds by cases within 64 bits, cuts an ASCII text by bytes, and collects the characters of
+-- another from the front, also for a step below 0.
 use Rattle.std.specs.Prelude.{ℕ, ℤ, pos, negsuc, ◌+ℤ◌, ◌-ℤ◌, ◌*ℤ◌, unsigned_abs, int_lt, List, length, codes, filter_map, slice_get, Option, Some, None, Result, Ok, if◌then◌else◌}
 use Rattle.std.specs.Ordering.{int_eq}
 use Rattle.std.specs.Int.{div_ceil, int_min, int_max}
@@ -8,17 +9,19 @@ use Rattle.std.specs.List.{range_with_len}
 use Rattle.std.specs.Option.{option_map_or}
 use Rattle.rp_base.specs.declared.kind.Kind.TheVariants.{TypeError, ValueError}
 use Rattle.rp_base.specs.declared.value.Raised.{Raised}
+use Rattle.rp_base.specs.declared.value.Oid.{Oid}
+use Rattle.rp_base.specs.declared.value.Rock.{Rock}
 use Rattle.rp_base.specs.declared.value.Rock.TheVariants as rock
 use Rattle.rp_base.specs.declared.value.Side.{Side}
 use Rattle.rp_base.specs.declared.value.Value.{Value}
 use Rattle.rp_base.specs.declared.value.Value.TheVariants as value
 use Rattle.rp_store.specs.Heap.{owner_at}
 use Rattle.rp_store.specs.Object as object
+use Rattle.rp_store.specs.Object.{Content}
 use Rattle.rp_ops.specs.Binary.{new_text, new_object, times}
 use Rattle.rp_ops.specs.Keys.{index_number}
-use Rattle.rp_items.specs.Items.{from_end, no_items}
+use Rattle.rp_items.specs.Items.{at_content, from_end, lent_out, no_items}
 use Rattle.rp_ops.specs.Numbers.{refused}
-use Rattle.rp_ops.specs.Operand.{Operand, text, list, tuple, operand}
 use Rattle.rp_ops.specs.Outcome.{State, Outcome, on_found}
 
 -- the bounds and the step of a slice; a bound may be missing
@@ -77,20 +80,26 @@ place n p m = first n p +ℤ pos m *ℤ p.step
 abbrev pub sliced : {A : Type 0} → Span → List A → List A
 sliced p xs = filter_map (λ m. slice_get xs (unsigned_abs (place (length xs) p m))) (range_with_len 0 (count (length xs) p))
 
--- of an operand that a side owns
-abbrev pub operand_slice : Side → Operand → Result Span Raised → State → Outcome Value
-operand_slice owner (text t) parts s = on_found parts s (λ p s. new_text (sliced p t) s)
-operand_slice owner (list xs) parts s = on_found parts s (λ p s. new_object owner (object.list (sliced p xs)) s)
-operand_slice owner (tuple xs) parts s = on_found parts s (λ p s. new_object owner (object.tuple (sliced p xs)) s)
-operand_slice owner _ parts s = no_items s
+abbrev pub rock_slice : Rock → Result Span Raised → State → Outcome Value
+rock_slice (rock.Text t) parts s = on_found parts s (λ p s. new_text (sliced p t) s)
+rock_slice r parts s = no_items s
 
--- the owner of the object that a value names; no one's for a rock
-abbrev pub owner_of : Value → State → Side
-owner_of (value.Rock r) s = record { 0 = 0 }
-owner_of (value.Ref at) s = option_map_or (λ o. o) (owner_at s.store.heap at) (record { 0 = 0 })
-owner_of (value.Prox at) s = option_map_or (λ o. o) (owner_at s.store.heap at) (record { 0 = 0 })
+-- a new list or tuple of an owner, which holds the elements as they were stored
+abbrev pub content_slice : Side → Content → Result Span Raised → State → Outcome Value
+content_slice owner (object.list xs) parts s = on_found parts s (λ p s. new_object owner (object.list (sliced p xs)) s)
+content_slice owner (object.tuple xs) parts s = on_found parts s (λ p s. new_object owner (object.tuple (sliced p xs)) s)
+content_slice owner c parts s = no_items s
 
--- `a[from:to:step]`, which is made by the owner of what is sliced; what is taken out of a lent list or tuple is lent in the new one, which
--- is a decision of this program
+-- the owner of the object at a place
+abbrev pub owner_of : Oid → State → Side
+owner_of at s = option_map_or (λ o. o) (owner_at s.store.heap at) (record { 0 = 0 })
+
+-- the owner of what is sliced owns the new one
+abbrev pub object_slice : Oid → Result Span Raised → State → Outcome Value
+object_slice at parts s = at_content at s (λ c. content_slice (owner_of at s) c parts s)
+
+-- `a[from:to:step]`
 abbrev pub slice : Value → Value → Value → Value → State → Outcome Value
-slice a from to step s = operand_slice (owner_of a s) (operand s.store.heap a) (span_named from to step) s
+slice (value.Rock r) from to step s = rock_slice r (span_named from to step) s
+slice (value.Ref at) from to step s = object_slice at (span_named from to step) s
+slice (value.Prox at) from to step s = lent_out (object_slice at (span_named from to step) s)

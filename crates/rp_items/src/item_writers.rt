@@ -1,20 +1,22 @@
+//! Setting and deleting items.
+
 ghost use Rattle.std.specs.Prelude.{◌≡◌, ℕ, is_some, length, IsSome, OnErr};
 ghost use Rattle.std.specs.Option.{option_map_or};
-ghost use Rattle.rp_store.specs.Heap.{IsHeld, Names, content_at, elements_at, entry_at, entry_of};
-ghost use Rattle.rp_store.specs.Kept.{IsKept, IsSound};
+ghost use Rattle.rp_store.specs.Heap.{IsHeld, Names, content_at, elements_at, entry_of};
+ghost use Rattle.rp_store.specs.Kept.{IsSound};
 ghost use Rattle.rp_store.specs.Key.{key_form};
 ghost use Rattle.rp_store.specs.Parts.{IsDict, IsList};
+ghost use Rattle.rp_store.specs.Shape.{KeepsShape};
 ghost use Rattle.rp_store.specs.Writers.{with_element, without_element};
 ghost use Rattle.rp_ops.specs.Keys.{key_named};
 ghost use Rattle.rp_ops.specs.Outcome.{Meets, on_found, state_of};
-ghost use Rattle.rp_ops.specs.Shape.{KeepsShape};
 ghost use Rattle.rp_items.specs.Items.{changed, content_del, content_set, del_item, entry_put, missing_key, no_items, place_named, set_item, without_rock};
 
-use crate::items::missing_key;
+use crate::missing::missing_key;
 use crate::places::place_named;
 use rp_base::{Oid, OpEnd, Rock, Value};
 use rp_ops::Refusal;
-use rp_store::{Key, Object, Store, StoreFault, key_of};
+use rp_store::{Object, Store, StoreFault, key_of};
 use std::alloc::Global;
 
 /// `a[i] = v`, on values whose access decisions have been made (Python Language Reference, Assignment statements): sets an
@@ -38,11 +40,9 @@ pub fn set_item(
     i: &Value,
     v: Value,
 ) -> Result<(), OpEnd>
-    requires kept { IsKept store.old.heap }
     requires a { IsSound store.old.heap a.now }
     requires v { IsSound store.old.heap v }
     ensures plain { (steps : ℕ) → Meets result (state_of store.new steps) (set_item a.now i.now v (state_of store.old steps)) }
-    ensures kept { IsKept store.new.heap }
     ensures same { OnErr result (store.new ≡ store.old) }
     ensures shape { KeepsShape store.old.heap store.new.heap }
 {
@@ -60,11 +60,9 @@ fn set_in_object(
     i: &Value,
     v: Value,
 ) -> Result<(), OpEnd>
-    requires kept { IsKept store.old.heap }
     requires held { IsHeld store.old.heap at }
     requires v { IsSound store.old.heap v }
     ensures plain { (steps : ℕ) → Meets result (state_of store.new steps) (option_map_or (λ c. content_set at c i.now v (state_of store.old steps)) (content_at store.old.heap at) (no_items (state_of store.old steps))) }
-    ensures kept { IsKept store.new.heap }
     ensures same { OnErr result (store.new ≡ store.old) }
     ensures shape { KeepsShape store.old.heap store.new.heap }
 {
@@ -81,12 +79,10 @@ fn set_in_object(
 }
 
 fn set_element(alloc: Global, store: &mut Store, at: Oid, i: &Value, v: Value) -> Result<(), OpEnd>
-    requires kept { IsKept store.old.heap }
     requires held { IsHeld store.old.heap at }
     requires list { Names store.old.heap IsList at }
     requires v { IsSound store.old.heap v }
     ensures plain { (steps : ℕ) → Meets result (state_of store.new steps) (on_found (place_named (length (elements_at store.old.heap at)) i.now) (state_of store.old steps) (λ p s. changed at (with_element p v) s)) }
-    ensures kept { IsKept store.new.heap }
     ensures same { OnErr result (store.new ≡ store.old) }
     ensures shape { KeepsShape store.old.heap store.new.heap }
 {
@@ -100,6 +96,7 @@ fn set_element(alloc: Global, store: &mut Store, at: Oid, i: &Value, v: Value) -
 }
 
 /// The number of elements of a list.
+#[inline(always)]
 fn list_length(store: &Store, at: Oid) -> usize
     requires held { IsHeld store.now.heap at }
     requires list { Names store.now.heap IsList at }
@@ -112,12 +109,10 @@ fn list_length(store: &Store, at: Oid) -> usize
 }
 
 fn set_entry(alloc: Global, store: &mut Store, at: Oid, i: &Value, v: Value) -> Result<(), OpEnd>
-    requires kept { IsKept store.old.heap }
     requires held { IsHeld store.old.heap at }
     requires dict { Names store.old.heap IsDict at }
     requires v { IsSound store.old.heap v }
     ensures plain { (steps : ℕ) → Meets result (state_of store.new steps) (on_found (key_named i.now) (state_of store.old steps) (λ r s. entry_put at r v s)) }
-    ensures kept { IsKept store.new.heap }
     ensures same { OnErr result (store.new ≡ store.old) }
     ensures shape { KeepsShape store.old.heap store.new.heap }
 {
@@ -133,6 +128,7 @@ fn set_entry(alloc: Global, store: &mut Store, at: Oid, i: &Value, v: Value) -> 
 }
 
 /// Whether a rock may be a key.
+#[inline(always)]
 fn is_key(rock: &Rock) -> bool
     ensures { result ≡ is_some (key_form rock.now) }
 {
@@ -143,13 +139,11 @@ fn is_key(rock: &Rock) -> bool
 }
 
 fn put_entry(store: &mut Store, at: Oid, rock: &Rock, v: Value) -> Result<(), OpEnd>
-    requires kept { IsKept store.old.heap }
     requires held { IsHeld store.old.heap at }
     requires dict { Names store.old.heap IsDict at }
     requires key { IsSome (key_form rock.now) }
     requires v { IsSound store.old.heap v }
     ensures plain { (steps : ℕ) → Meets result (state_of store.new steps) (entry_put at rock.now v (state_of store.old steps)) }
-    ensures kept { IsKept store.new.heap }
     ensures same { OnErr result (store.new ≡ store.old) }
     ensures shape { KeepsShape store.old.heap store.new.heap }
 {
@@ -174,14 +168,13 @@ fn put_entry(store: &mut Store, at: Oid, rock: &Rock, v: Value) -> Result<(), Op
 /// - `Raised` with `TypeError`, whose text is `item` where `a` is no list and no dict, `index` where `i` is no index, or
 ///   `key` where it can be no key, with `IndexError` and the text `index`, where `i` is outside the elements, or with
 ///   `KeyError`, whose text is the key as it is shown inside a container, where the dict has no such key.
-/// - `Memory` where there is none for the text of an exception, or the count of a text's owners is full.
+/// - `Memory` where there is none for the text of an exception, the count of a text's owners is full, or the store holds no
+///   more bytes of such texts.
 ///
 /// The store is then as before.
 pub fn del_item(alloc: Global, store: &mut Store, a: &Value, i: &Value) -> Result<(), OpEnd>
-    requires kept { IsKept store.old.heap }
     requires a { IsSound store.old.heap a.now }
     ensures plain { (steps : ℕ) → Meets result (state_of store.new steps) (del_item a.now i.now (state_of store.old steps)) }
-    ensures kept { IsKept store.new.heap }
     ensures same { OnErr result (store.new ≡ store.old) }
     ensures shape { KeepsShape store.old.heap store.new.heap }
 {
@@ -193,10 +186,8 @@ pub fn del_item(alloc: Global, store: &mut Store, a: &Value, i: &Value) -> Resul
 }
 
 fn del_in_object(alloc: Global, store: &mut Store, at: Oid, i: &Value) -> Result<(), OpEnd>
-    requires kept { IsKept store.old.heap }
     requires held { IsHeld store.old.heap at }
     ensures plain { (steps : ℕ) → Meets result (state_of store.new steps) (option_map_or (λ c. content_del at c i.now (state_of store.old steps)) (content_at store.old.heap at) (no_items (state_of store.old steps))) }
-    ensures kept { IsKept store.new.heap }
     ensures same { OnErr result (store.new ≡ store.old) }
     ensures shape { KeepsShape store.old.heap store.new.heap }
 {
@@ -213,11 +204,9 @@ fn del_in_object(alloc: Global, store: &mut Store, at: Oid, i: &Value) -> Result
 }
 
 fn del_element(alloc: Global, store: &mut Store, at: Oid, i: &Value) -> Result<(), OpEnd>
-    requires kept { IsKept store.old.heap }
     requires held { IsHeld store.old.heap at }
     requires list { Names store.old.heap IsList at }
     ensures plain { (steps : ℕ) → Meets result (state_of store.new steps) (on_found (place_named (length (elements_at store.old.heap at)) i.now) (state_of store.old steps) (λ p s. changed at (without_element p) s)) }
-    ensures kept { IsKept store.new.heap }
     ensures same { OnErr result (store.new ≡ store.old) }
     ensures shape { KeepsShape store.old.heap store.new.heap }
 {
@@ -231,11 +220,9 @@ fn del_element(alloc: Global, store: &mut Store, at: Oid, i: &Value) -> Result<(
 }
 
 fn del_entry(alloc: Global, store: &mut Store, at: Oid, i: &Value) -> Result<(), OpEnd>
-    requires kept { IsKept store.old.heap }
     requires held { IsHeld store.old.heap at }
     requires dict { Names store.old.heap IsDict at }
     ensures plain { (steps : ℕ) → Meets result (state_of store.new steps) (on_found (key_named i.now) (state_of store.old steps) (λ r s. option_map_or (λ e. changed at (without_rock r) s) (entry_of store.old.heap at r) (missing_key r s))) }
-    ensures kept { IsKept store.new.heap }
     ensures same { OnErr result (store.new ≡ store.old) }
     ensures shape { KeepsShape store.old.heap store.new.heap }
 {
@@ -246,27 +233,18 @@ fn del_entry(alloc: Global, store: &mut Store, at: Oid, i: &Value) -> Result<(),
 }
 
 fn drop_entry(alloc: Global, store: &mut Store, at: Oid, rock: &Rock) -> Result<(), OpEnd>
-    requires kept { IsKept store.old.heap }
     requires held { IsHeld store.old.heap at }
     requires dict { Names store.old.heap IsDict at }
     ensures plain { (steps : ℕ) → Meets result (state_of store.new steps) (on_found (key_named (Value.Rock rock.now)) (state_of store.old steps) (λ r s. option_map_or (λ e. changed at (without_rock r) s) (entry_of store.old.heap at r) (missing_key r s))) }
-    ensures kept { IsKept store.new.heap }
     ensures same { OnErr result (store.new ≡ store.old) }
     ensures shape { KeepsShape store.old.heap store.new.heap }
 {
     let Some(key) = key_of(rock)? else {
         return Err(Refusal::Key.end(alloc));
     };
-    if !has_key(store, at, &key) {
-        return Err(missing_key(alloc, rock));
+    let dropped = store.drop_key(at, &key);
+    if dropped.is_none() {
+        return Err(missing_key(alloc, store, rock));
     }
-    let _removed = store.drop_key(at, &key);
     Ok(())
-}
-
-fn has_key(store: &Store, at: Oid, key: &Key) -> bool
-    requires { IsHeld store.now.heap at }
-    ensures { result ≡ is_some (entry_at store.now.heap at key.now) }
-{
-    store.object(at).entry(key).is_some()
 }

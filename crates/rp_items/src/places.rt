@@ -1,3 +1,5 @@
+//! Indexes, as values name them.
+
 ghost use Rattle.std.specs.Prelude.{◌≡◌, ◌<◌, ◌-ℤ◌, pos, IfOk};
 ghost use Rattle.rp_ops.specs.Keys.{index_number};
 ghost use Rattle.rp_ops.specs.Refused.{described};

@@ -1,11 +1,21 @@
+//! The parts of a slice, and the places that they name.
+
 ghost use Rattle.std.specs.Prelude.{◌≡◌, ◌≢◌, ◌+◌, ◌-◌, ◌^◌, ◌<◌, ◌≤◌, ◌+ℤ◌, ◌-ℤ◌, ◌<ℤ◌, ℕ, Ok, negsuc, pos, IfOk};
 ghost use Rattle.rp_ops.specs.Refused.{described};
 ghost use Rattle.rp_items.specs.Slices.{bound, part_named, span_by, span_named};
-ghost use Rattle.rp_items.specs.SliceView.{AreOf, AreWithin, ascending, described_span, lowest, order, order_first, part_at, place_at, span_seen};
+ghost use Rattle.rp_items.specs.SliceView.{AreOf, AreWithin, ascending, described_span, lowest, order, order_first, place_at, span_seen};
 
 use crate::places::index_number;
 use rp_base::{Rock, Value};
 use rp_ops::Refusal;
+
+/// The parts of a slice, each a number, a truth value, or None where it is missing.
+#[derive(Clone, Copy)]
+pub struct SliceParts<'a> {
+    pub from: &'a Value,
+    pub to: &'a Value,
+    pub step: &'a Value,
+}
 
 /// The bounds and the step of a slice. A bound may be missing.
 #[derive(Clone, Copy)]
@@ -86,14 +96,14 @@ impl Places {
 }
 
 /// The bounds and the step that the parts of a slice give. A missing step is 1.
-pub(crate) fn span_named(parts: &[Value; 3]) -> Result<Span, Refusal>
-    ensures named { described_span result ≡ span_named (part_at parts.now 0) (part_at parts.now 1) (part_at parts.now 2) }
+pub(crate) fn span_named(parts: SliceParts<'_>) -> Result<Span, Refusal>
+    ensures named { described_span result ≡ span_named parts.entry.from.now parts.entry.to.now parts.entry.step.now }
     ensures step { IfOk result (λ p. p.step ≢ pos 0) }
 {
     span_by(
-        part_named(&parts[0]),
-        part_named(&parts[1]),
-        part_named(&parts[2]),
+        part_named(parts.from),
+        part_named(parts.to),
+        part_named(parts.step),
     )
 }
 
@@ -145,6 +155,7 @@ pub(crate) fn places_of(len: usize, span: Span) -> Places
     ensures places { AreOf len (span_seen span) result }
     ensures within { AreWithin len result }
     ensures few { result.count ≤ len }
+    ensures first { result.first ≤ len }
     ensures step { 0 < result.step }
 {
     if span.step < 0 {
@@ -159,6 +170,7 @@ fn forward(len: usize, span: Span) -> Places
     ensures places { AreOf len (span_seen span) result }
     ensures within { AreWithin len result }
     ensures few { result.count ≤ len }
+    ensures first { result.first ≤ len }
     ensures step { 0 < result.step }
 {
     let first = forward_bound(len, 0, span.from);
@@ -177,6 +189,7 @@ fn backward(len: usize, span: Span) -> Places
     ensures places { AreOf len (span_seen span) result }
     ensures within { AreWithin len result }
     ensures few { result.count ≤ len }
+    ensures first { result.first ≤ len }
     ensures step { 0 < result.step }
 {
     let behind_first = backward_bound(len, len, span.from);

@@ -2,3 +2,4 @@ mod Apart
 mod Bound
 mod Loaded
 pub mod Later
+mod Sound

@@ -63,7 +63,7 @@ module _ {X : Type 0} (p : X → Bool) where
 abbrev pub IsDeclared : List ClassDecl → Name → Type 0
 IsDeclared classes name = list_any (λ c. same_name name c.name) classes ≡ true
 
-class-found : (classes : List ClassDecl) (rest : List Owned) (name : Name) → IsDeclared classes name
+pub class-found : (classes : List ClassDecl) (rest : List Owned) (name : Name) → IsDeclared classes name
     → (c : ClassDecl) × ((same_name name c.name ≡ true) × (content_at (map class_owned classes ++ rest) (class_at classes name) ≡ Some (class c.name true [])))
 class-found classes rest name there =
     let (c, (same, stands)) = stands-first (λ c. same_name name c.name) class_owned classes rest there in

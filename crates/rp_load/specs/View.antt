@@ -1,4 +1,5 @@
 -- The fault of declarations, and the store of the declared classes and objects, as the program has them.
+use Rattle.std.specs.List.{All}
 use Rattle.std.specs.Prelude.{ℕ, Bool, true, List, [], ◌++◌, map, position, unwrap_or}
 use Rattle.rp_base.specs.declared.value.Name.{Name}
 use Rattle.rp_base.specs.declared.value.Oid.{Oid}
@@ -10,9 +11,10 @@ use Rattle.rp_decl.specs.declared.records.ClassDecl.{ClassDecl}
 use Rattle.rp_decl.specs.declared.records.Field.{Field}
 use Rattle.rp_decl.specs.declared.records.ObjectDecl.{ObjectDecl}
 use Rattle.rp_machine.specs.Store.{field_rock}
-use Rattle.rp_store.specs.Heap.{Owned}
+use Rattle.rp_store.specs.Heap.{Owned, Names}
 use Rattle.rp_store.specs.Key.{same_name}
 use Rattle.rp_store.specs.Object.{Content, instance, class}
+use Rattle.rp_store.specs.Parts.{IsClass}
 use Rattle.rp_load.specs.Load.{Fault, expose, not_yet}
 use Rattle.rp_load.specs.declared.fault.LoadFault.{LoadFault}
 use Rattle.rp_load.specs.declared.fault.LoadFault.TheVariants.{Expose, NotYet}
@@ -50,3 +52,7 @@ object_owned classes o = trusted (instance (class_at classes o.class) (fields_of
 -- the declared classes and then the declared objects, in their order
 abbrev pub loaded_heap : Placed → List Owned
 loaded_heap d = map class_owned d.classes ++ map (object_owned d.classes) d.objects
+
+-- the class of each of the objects is a class of the store
+abbrev pub AreClassed : List Owned → List ClassDecl → List ObjectDecl → Type 0
+AreClassed heap classes objects = All (λ o. Names heap IsClass (class_at classes o.class)) objects

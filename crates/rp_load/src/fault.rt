@@ -1,3 +1,5 @@
+//! Why declarations are not run, and the line that tells it.
+
 ghost use Rattle.std.specs.Prelude.{◌≡◌, ◌++◌, IfOk, IfSome, IsTrue, Some, chars, map, nat_lt, option_map, string_bytes};
 ghost use Rattle.std.specs.List.{list_all, list_any};
 ghost use Rattle.rp_decl.specs.Consistency.{unknown};

@@ -3,8 +3,6 @@
 
 mod fault;
 mod loading;
-#[cfg(test)]
-mod tests;
 
 pub use fault::{LoadFault, fault_line, load_fault};
 pub use loading::load;

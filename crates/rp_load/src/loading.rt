@@ -1,3 +1,5 @@
+//! Declared classes and objects as objects of a store.
+
 ghost use Rattle.std.specs.Prelude.{◌≡◌, ◌<◌, ◌++◌, [], IfOk, None, OnOk, map, position};
 ghost use Rattle.std.specs.List.{All, IsDistinct};
 ghost use Rattle.std.specs.Map.{keys_of};
@@ -8,11 +10,11 @@ ghost use Rattle.rp_decl.specs.Places.{GrowsTo, IsHeldBy};
 ghost use Rattle.rp_decl.specs.View.{declarations_view};
 ghost use Rattle.rp_interact.specs.Answers.{AnswersAs};
 ghost use Rattle.rp_load.specs.Load.{fault_of};
-ghost use Rattle.rp_load.specs.View.{class_at, class_owned, field_value, fields_of, object_owned};
+ghost use Rattle.rp_load.specs.View.{AreClassed, class_at, class_owned, field_value, fields_of, object_owned};
 ghost use Rattle.rp_machine.specs.World.{IsBegun};
 ghost use Rattle.rp_store.specs.Key.{same_name};
 
-use rp_base::{Memory, Name, Names, Oid, Rock, Side, Value};
+use rp_base::{Memory, Name, Names, Oid, Rock, Seed, Side, Value};
 use rp_decl::{ClassDecl, Decl, Field, ObjectDecl};
 use rp_dict::Dict;
 use rp_proxy::{Running, World};
@@ -46,9 +48,11 @@ pub fn load(
     ensures limit { IfOk result (λ w. w.store.limit ≡ limit) }
 {
     let mut world = World::new(alloc, decl, names, limit, running)?;
-    place_classes(alloc, world.decl.classes(), &mut world.store)?;
+    let seed = world.names.seed();
+    place_classes(alloc, seed, world.decl.classes(), &mut world.store)?;
     place_objects(
         alloc,
+        seed,
         world.decl.classes(),
         world.decl.objects(),
         &mut world.store,
@@ -57,14 +61,19 @@ pub fn load(
 }
 
 /// Places the declared classes behind what is in the store, without a charge.
-fn place_classes(alloc: Global, classes: &[ClassDecl], store: &mut Store) -> Result<(), Memory>
+fn place_classes(
+    alloc: Global,
+    seed: Seed,
+    classes: &[ClassDecl],
+    store: &mut Store,
+) -> Result<(), Memory>
     ensures placed { OnOk result (store.new ≡ record store.old { heap = store.old.heap ++ map class_owned classes.now }) }
 {
     for class in classes {
         let class = Object::Class {
             name: class.name,
             declared: true,
-            methods: Dict::new(alloc),
+            methods: Dict::new(alloc, seed),
         };
         store.add(Side(0), class)?;
     }
@@ -74,17 +83,19 @@ fn place_classes(alloc: Global, classes: &[ClassDecl], store: &mut Store) -> Res
 /// Places the declared objects behind what is in the store, without a charge.
 fn place_objects(
     alloc: Global,
+    seed: Seed,
     classes: &[ClassDecl],
     objects: &[ObjectDecl],
     store: &mut Store,
 ) -> Result<(), Memory>
     requires apart { All (λ o. IsDistinct same_name (keys_of o.fields.items)) objects.now }
+    requires classes { AreClassed store.old.heap classes.now objects.now }
     ensures placed { OnOk result (store.new ≡ record store.old { heap = store.old.heap ++ map (object_owned classes.now) objects.now }) }
 {
     for object in objects {
         let instance = Object::Instance {
             class: class_place(classes, object.class),
-            fields: fields_of(alloc, object.fields.as_slice())?,
+            fields: fields_of(alloc, seed, object.fields.as_slice())?,
         };
         store.add(Side(0), instance)?;
     }
@@ -105,11 +116,15 @@ fn class_position(classes: &[ClassDecl], name: Name) -> Option<usize>
 }
 
 /// The declared fields, whose names differ, with their values.
-fn fields_of(alloc: Global, declared: &[(Name, Field)]) -> Result<Dict<Name, Value>, Memory>
+fn fields_of(
+    alloc: Global,
+    seed: Seed,
+    declared: &[(Name, Field)],
+) -> Result<Dict<Name, Value>, Memory>
     requires apart { IsDistinct same_name (keys_of declared.now) }
     ensures { IfOk result (λ fields. fields ≡ fields_of declared.now) }
 {
-    let mut fields = Dict::with_capacity(alloc, declared.len())?;
+    let mut fields = Dict::with_capacity(alloc, declared.len(), seed)?;
     for (name, field) in declared {
         fields.set(*name, value_of(field)?)?;
     }

@@ -1,3 +1,5 @@
+//! The variables that a session begins with: the exposed names.
+
 ghost use Rattle.std.specs.Prelude.{◌≡◌, ◌<◌, ◌++◌, ℕ, [], fold, length, map, option_map, position, IfOk, IfSome, OnOk};
 ghost use Rattle.std.specs.List.{All};
 ghost use Rattle.rp_decl.specs.Places.{IsHeld};
@@ -24,7 +26,7 @@ pub(crate) fn exposed(alloc: Global, world: &World) -> Result<Dict<Name, Value>,
     ensures held { IfOk result (λ vs. All (λ v. IsHeld world.now.names v.0) vs) }
     ensures safe { IfOk result (λ vs. AreSafe (heap_view world.now.names world.now.store.heap) world.now.running.session (variables_view world.now.names vs)) }
 {
-    let mut variables = Dict::new(alloc);
+    let mut variables = Dict::new(alloc, world.names.seed());
     for name in world.decl.expose() {
         expose(&mut variables, world, *name)?;
     }

@@ -1,3 +1,5 @@
+//! Sessions: a run of a script in a world, statement by statement.
+
 ghost use Rattle.std.specs.Prelude.{◌≡◌, true, chars, codes, map, IfOk, OnOk};
 ghost use Rattle.std.specs.List.{All};
 ghost use Rattle.rp_base.specs.Names.{first_words};
@@ -13,6 +15,7 @@ ghost use Rattle.rp_machine.specs.World.{Ends, IsBegun, SameSetting};
 
 use crate::exposing::exposed;
 use crate::show::line_of;
+use rp_base::word::STR;
 use rp_base::{Kind, Memory, Name, Oid, Op, OpEnd, Raised, Rock, Text, Value};
 use rp_compile::{Compiled, Expr, Guard, Stmt};
 use rp_dict::Dict;
@@ -21,9 +24,6 @@ use rp_store::StoreFault;
 use rp_trail::Entry;
 use std::alloc::Global;
 use std::marker::Model;
-
-/// The name that printing a value reads, `__str__`: its place among the words of operations.
-const STR: Name = Name(9);
 
 /// One run of a script in a world: the world's running session is a script's, and these are its variables.
 #[derive(Drop)]

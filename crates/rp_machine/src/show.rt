@@ -1,3 +1,5 @@
+//! Values as text.
+
 ghost use Rattle.std.specs.Prelude.{◌≡◌, ◌++◌, chars, codes, IfOk, OnOk};
 ghost use Rattle.std.specs.Fmt.{signed_decimal};
 ghost use Rattle.rp_base.specs.Kind.{kind_name};

@@ -20,14 +20,14 @@ use Rattle.rp_ops.specs.Growth.{Gains}
 use Rattle.rp_ops.specs.Inplace.{content_inplace, extends, inplace, list_inplace, repeats_list}
 use Rattle.rp_ops.specs.Operand.{number_of, operand}
 use Rattle.rp_ops.specs.Outcome.{Meets, State, ends, gives, no_cell, state_of, with_change}
-use Rattle.rp_ops.specs.Shape.{KeepsShape}
+use Rattle.rp_store.specs.Shape.{KeepsShape}
 use Rattle.rp_ops.specs.View.{elements_of, held_by, list_place, place_if_list}
-use Rattle.rp_ops.proofs.Outcomes.{charged-over, charged-within, used}
-use Rattle.rp_ops.proofs.Shapes.{KeepsShape-grown}
+use Rattle.rp_ops.proofs.CallerLemmas.{charged-over, charged-within, used}
+use Rattle.rp_store.proofs.Shapes.{KeepsShape-of, ShapeStays-grown}
 
 -- what gained objects kept its shape
 pub KeepsShape-Gains : (P : Owned → Type 0) (old new : List Owned) → Gains P old new → KeepsShape old new
-KeepsShape-Gains P old new gains = KeepsShape-grown old new gains.0 gains.1.0
+KeepsShape-Gains P old new gains = KeepsShape-of old new (ShapeStays-grown old new gains.0 gains.1.0)
 
 -- elements that are not lent are as they are
 pub elements_of-own : (heap : List Owned) (at : Oid) → elements_of heap (record { at = at; lent = false }) ≡ option_map_or held_by (content_at heap at) []
@@ -138,3 +138,5 @@ pub more-cells : (n : ℤ) (copies more size : ℕ) (xs : List Value) → more �
 more-cells n copies more size xs e f l = zero_plus (more * size) ∙ ap (λ k. k * size) (e ∙ ap (λ k. k - 1) f) ∙ ap (λ k. (times n - 1) * k) (sym l) where
   zero_plus : (k : ℕ) → 0 + k ≡ k
   zero_plus k = omega arith
+
+pub ruleset gains = (KeepsShape-Gains)

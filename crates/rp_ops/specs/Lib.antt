@@ -9,4 +9,5 @@ pub mod Walk
 pub mod Inplace
 pub mod Growth
 pub mod View
-pub mod Shape
+pub mod Words
+pub mod Standing

@@ -1,11 +1,12 @@
+//! Augmented assignment: lists grow in place.
 ghost use Rattle.std.specs.Prelude.{◌≡◌, ◌≤◌, ◌-◌, ℕ, [], None, Some, IfOk, OnErr};
 ghost use Rattle.std.specs.Option.{option_map_or};
 ghost use Rattle.rp_store.specs.Heap.{IsHeld, Names, content_at};
-ghost use Rattle.rp_store.specs.Kept.{AreSound, IsKept, IsSound};
+ghost use Rattle.rp_store.specs.Kept.{AreSound, IsSound};
 ghost use Rattle.rp_store.specs.Parts.{IsList};
 ghost use Rattle.rp_ops.specs.Inplace.{extends, inplace, repeats_list};
 ghost use Rattle.rp_ops.specs.Outcome.{Meets, state_of};
-ghost use Rattle.rp_ops.specs.Shape.{KeepsShape};
+ghost use Rattle.rp_store.specs.Shape.{KeepsShape};
 ghost use Rattle.rp_ops.specs.View.{grows, held_by, list_place, place_if_list};
 
 use crate::binary_operators::{binary, wrong_operand};
@@ -14,13 +15,13 @@ use crate::operand::{Elements, elements_at, operand_of};
 use crate::sequences::{copied, handed, times};
 use crate::walk::elements;
 use rp_base::{BinOp, Meter, Oid, OpEnd, Side, Value};
-use rp_store::{Object, Store, StoreFault};
+use rp_store::{Object, Store};
 use std::alloc::Global;
 
 /// `a op= b`, done by code of a side on values whose access decisions have been made, and the value that is stored back
-/// (Python Language Reference, Augmented assignment statements). `+=` on a list walks b and then extends the list, for a
-/// cell for each element, so `x += x` doubles it; `*=` repeats it in place, for a cell for each element and each time but
-/// the first. All else is done as `binary` does it.
+/// (Python Language Reference, Augmented assignment statements). `+=` on a list walks b and then extends the list, for
+/// a cell for each element, so `x += x` doubles it; `*=` repeats it in place, for a cell for each element and each time
+/// but the first. All else is done as `binary` does it.
 ///
 /// # Errors
 /// - As `binary`, and as `elements` where b is walked.
@@ -37,11 +38,9 @@ pub fn inplace(
     a: &Value,
     b: &Value,
 ) -> Result<Value, OpEnd>
-    requires kept { IsKept store.old.heap }
     requires a { IsSound store.old.heap a.now }
     requires b { IsSound store.old.heap b.now }
     ensures plain { Meets result (state_of store.new meter.new.left) (inplace side op a.now b.now (state_of store.old meter.old.left)) }
-    ensures kept { IsKept store.new.heap }
     ensures sound { IfOk result (λ v. IsSound store.new.heap v) }
     ensures shape { KeepsShape store.old.heap store.new.heap }
     ensures same { OnErr result (store.new.heap ≡ store.old.heap) }
@@ -62,11 +61,9 @@ fn add_inplace(
     a: &Value,
     b: &Value,
 ) -> Result<Value, OpEnd>
-    requires kept { IsKept store.old.heap }
     requires a { IsSound store.old.heap a.now }
     requires b { IsSound store.old.heap b.now }
     ensures plain { Meets result (state_of store.new meter.new.left) (inplace side BinOp.Add a.now b.now (state_of store.old meter.old.left)) }
-    ensures kept { IsKept store.new.heap }
     ensures sound { IfOk result (λ v. IsSound store.new.heap v) }
     ensures shape { KeepsShape store.old.heap store.new.heap }
     ensures same { OnErr result (store.new.heap ≡ store.old.heap) }
@@ -86,11 +83,9 @@ fn multiply_inplace(
     a: &Value,
     b: &Value,
 ) -> Result<Value, OpEnd>
-    requires kept { IsKept store.old.heap }
     requires a { IsSound store.old.heap a.now }
     requires b { IsSound store.old.heap b.now }
     ensures plain { Meets result (state_of store.new meter.new.left) (inplace side BinOp.Mul a.now b.now (state_of store.old meter.old.left)) }
-    ensures kept { IsKept store.new.heap }
     ensures sound { IfOk result (λ v. IsSound store.new.heap v) }
     ensures shape { KeepsShape store.old.heap store.new.heap }
     ensures same { OnErr result (store.new.heap ≡ store.old.heap) }
@@ -136,12 +131,10 @@ fn extend(
     at: Oid,
     b: &Value,
 ) -> Result<Value, OpEnd>
-    requires kept { IsKept store.old.heap }
     requires list { Names store.old.heap IsList at }
     requires a { IsSound store.old.heap a.now }
     requires b { IsSound store.old.heap b.now }
     ensures plain { Meets result (state_of store.new meter.new.left) (extends a.now at b.now (state_of store.old meter.old.left)) }
-    ensures kept { IsKept store.new.heap }
     ensures sound { IfOk result (λ v. IsSound store.new.heap v) }
     ensures shape { KeepsShape store.old.heap store.new.heap }
     ensures same { OnErr result (store.new.heap ≡ store.old.heap) }
@@ -157,21 +150,16 @@ fn extend(
 /// # Errors
 /// `StopCells` where they are over the limit, `Memory` where a growth was refused. The objects are then as before.
 fn put_last(store: &mut Store, same: Value, at: Oid, values: Vec<Value>) -> Result<Value, OpEnd>
-    requires kept { IsKept store.old.heap }
     requires list { Names store.old.heap IsList at }
     requires same { IsSound store.old.heap same }
     requires values { AreSound store.old.heap values.items }
     ensures plain { (steps : ℕ) → Meets result (state_of store.new steps) (grows same at values.items (state_of store.old steps)) }
-    ensures kept { IsKept store.new.heap }
     ensures sound { IfOk result (λ v. IsSound store.new.heap v) }
     ensures shape { KeepsShape store.old.heap store.new.heap }
     ensures same { OnErr result (store.new.heap ≡ store.old.heap) }
 {
-    match store.extend(at, values) {
-        Ok(()) => Ok(same),
-        Err(StoreFault::Cells) => Err(OpEnd::StopCells),
-        Err(StoreFault::Memory) => Err(OpEnd::Memory),
-    }
+    store.extend(at, values)?;
+    Ok(same)
 }
 
 /// Repeats the elements of a list in place, as they are.
@@ -188,11 +176,9 @@ fn repeat_in_place(
     at: Oid,
     n: Option<i64>,
 ) -> Result<Value, OpEnd>
-    requires kept { IsKept store.old.heap }
     requires list { Names store.old.heap IsList at }
     requires a { IsSound store.old.heap a.now }
     ensures plain { (steps : ℕ) → Meets result (state_of store.new steps) (repeats_list a.now at (option_map_or held_by (content_at store.old.heap at) []) n (state_of store.old steps)) }
-    ensures kept { IsKept store.new.heap }
     ensures sound { IfOk result (λ v. IsSound store.new.heap v) }
     ensures shape { KeepsShape store.old.heap store.new.heap }
     ensures same { OnErr result (store.new.heap ≡ store.old.heap) }
@@ -210,11 +196,9 @@ fn set_repeated(
     at: Oid,
     n: i64,
 ) -> Result<Value, OpEnd>
-    requires kept { IsKept store.old.heap }
     requires list { Names store.old.heap IsList at }
     requires a { IsSound store.old.heap a.now }
     ensures plain { (steps : ℕ) → Meets result (state_of store.new steps) (repeats_list a.now at (option_map_or held_by (content_at store.old.heap at) []) (Some n) (state_of store.old steps)) }
-    ensures kept { IsKept store.new.heap }
     ensures sound { IfOk result (λ v. IsSound store.new.heap v) }
     ensures shape { KeepsShape store.old.heap store.new.heap }
     ensures same { OnErr result (store.new.heap ≡ store.old.heap) }
@@ -226,6 +210,7 @@ fn set_repeated(
     charge_copies(store, 0, more, size as u64)?;
     let x = Elements { at, lent: false };
     let values = copied(alloc, store, x, copies as usize)?;
+    store.kept();
     store.set_elements(at, values);
     Ok(same)
 }

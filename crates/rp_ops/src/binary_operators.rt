@@ -1,6 +1,7 @@
+//! The binary operators.
 ghost use Rattle.std.specs.Prelude.{◌≡◌, List, ℕ, IfOk, OnErr};
 ghost use Rattle.rp_store.specs.Heap.{Owned};
-ghost use Rattle.rp_store.specs.Kept.{IsKept, IsSound};
+ghost use Rattle.rp_store.specs.Kept.{IsSound};
 ghost use Rattle.rp_ops.specs.Binary.{arithmetic, binary, calculated, logical_of, operated, repeats, wrong_operand};
 ghost use Rattle.rp_ops.specs.Growth.{Gains, IsSequenceOf};
 ghost use Rattle.rp_ops.specs.Numbers.{logical};
@@ -18,13 +19,13 @@ use rp_store::Store;
 use std::alloc::Global;
 
 /// `a op b`, done by code of a side on values whose access decisions have been made (Python Language Reference, Binary
-/// arithmetic, shifting and bitwise operations). A new text costs a cell for each byte, a new list or tuple, which is the
-/// side's, one for itself and one for each element. It takes no step.
+/// arithmetic, shifting and bitwise operations). A new text costs a cell for each byte, a new list or tuple, which is
+/// the side's, one for itself and one for each element. It takes no step.
 ///
 /// # Errors
-/// - `Raised` with `TypeError`, where the operator does not take the operands (`|` takes no dicts), `ZeroDivisionError`,
-///   `OverflowError`, where the result is outside 64 bits, or `ValueError`, where an exponent, also of 0, or a count of
-///   bits is negative.
+/// - `Raised` with `TypeError`, where the operator does not take the operands (`|` takes no dicts),
+///   `ZeroDivisionError`, `OverflowError`, where the result is outside 64 bits, or `ValueError`, where an exponent,
+///   also of 0, or a count of bits is negative.
 /// - `StopCells` where the cells are over the limit; then none is used.
 /// - `Memory` where a growth was refused; then cells may be used.
 ///
@@ -38,11 +39,9 @@ pub fn binary(
     a: &Value,
     b: &Value,
 ) -> Result<Value, OpEnd>
-    requires kept { IsKept store.old.heap }
     requires a { IsSound store.old.heap a.now }
     requires b { IsSound store.old.heap b.now }
     ensures plain { Meets result (state_of store.new meter.new.left) (binary side op a.now b.now (state_of store.old meter.old.left)) }
-    ensures kept { IsKept store.new.heap }
     ensures sound { IfOk result (λ v. IsSound store.new.heap v) }
     ensures grown { Gains (IsSequenceOf side) store.old.heap store.new.heap }
     ensures same { OnErr result (store.new.heap ≡ store.old.heap) }
@@ -51,6 +50,26 @@ pub fn binary(
     if let (Value::Rock(Rock::Int(x)), Value::Rock(Rock::Int(y))) = (a, b) {
         return number_value(alloc, computed(op, *x, *y));
     }
+    operate(alloc, store, side, op, a, b)
+}
+
+/// On any values.
+#[inline(never)]
+fn operate(
+    alloc: Global,
+    store: &mut Store,
+    side: Side,
+    op: BinOp,
+    a: &Value,
+    b: &Value,
+) -> Result<Value, OpEnd>
+    requires a { IsSound store.old.heap a.now }
+    requires b { IsSound store.old.heap b.now }
+    ensures plain { (steps : ℕ) → Meets result (state_of store.new steps) (binary side op a.now b.now (state_of store.old steps)) }
+    ensures sound { IfOk result (λ v. IsSound store.new.heap v) }
+    ensures grown { Gains (IsSequenceOf side) store.old.heap store.new.heap }
+    ensures same { OnErr result (store.new.heap ≡ store.old.heap) }
+{
     let x = operand_of(store, a);
     let y = operand_of(store, b);
     match op {
@@ -67,11 +86,9 @@ fn add(
     x: &Operand,
     y: &Operand,
 ) -> Result<Value, OpEnd>
-    requires kept { IsKept store.old.heap }
     requires x { IsOperandHeld store.old.heap x.now }
     requires y { IsOperandHeld store.old.heap y.now }
     ensures plain { (steps : ℕ) → Meets result (state_of store.new steps) (operated side BinOp.Add (seen store.old.heap x.now) (seen store.old.heap y.now) (state_of store.old steps)) }
-    ensures kept { IsKept store.new.heap }
     ensures sound { IfOk result (λ v. IsSound store.new.heap v) }
     ensures grown { Gains (IsSequenceOf side) store.old.heap store.new.heap }
     ensures same { OnErr result (store.new.heap ≡ store.old.heap) }
@@ -91,11 +108,9 @@ fn multiply(
     x: &Operand,
     y: &Operand,
 ) -> Result<Value, OpEnd>
-    requires kept { IsKept store.old.heap }
     requires x { IsOperandHeld store.old.heap x.now }
     requires y { IsOperandHeld store.old.heap y.now }
     ensures plain { (steps : ℕ) → Meets result (state_of store.new steps) (operated side BinOp.Mul (seen store.old.heap x.now) (seen store.old.heap y.now) (state_of store.old steps)) }
-    ensures kept { IsKept store.new.heap }
     ensures sound { IfOk result (λ v. IsSound store.new.heap v) }
     ensures grown { Gains (IsSequenceOf side) store.old.heap store.new.heap }
     ensures same { OnErr result (store.new.heap ≡ store.old.heap) }
@@ -117,10 +132,8 @@ fn repeat_operand(
     x: &Operand,
     n: Option<i64>,
 ) -> Result<Value, OpEnd>
-    requires kept { IsKept store.old.heap }
     requires x { IsOperandHeld store.old.heap x.now }
     ensures plain { (steps : ℕ) → Meets result (state_of store.new steps) (repeats side (seen store.old.heap x.now) n (state_of store.old steps)) }
-    ensures kept { IsKept store.new.heap }
     ensures sound { IfOk result (λ v. IsSound store.new.heap v) }
     ensures grown { Gains (IsSequenceOf side) store.old.heap store.new.heap }
     ensures same { OnErr result (store.new.heap ≡ store.old.heap) }

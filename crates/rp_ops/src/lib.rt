@@ -4,28 +4,26 @@
 mod augmented;
 mod binary_operators;
 mod cells;
-#[cfg(test)]
-mod cost_tests;
+mod cursor;
 mod ends;
 mod made;
 mod numbers;
 mod operand;
 mod refusal;
-#[cfg(test)]
-mod sequence_tests;
 mod sequences;
-#[cfg(test)]
-mod tests;
 mod texts;
 mod truth_value;
 mod unary_operators;
 mod walk;
-#[cfg(test)]
-mod walk_tests;
+mod words;
 
 pub use augmented::inplace;
 pub use binary_operators::binary;
 pub use cells::{charge, charge_copies};
+// A crate can name a cursor in a contract only if the types of its fields are exported.
+#[doc(hidden)]
+pub use cursor::Standing;
+pub use cursor::{Cursor, walk_of};
 pub use ends::{raised, step, steps};
 pub use made::{new_character, new_object, new_text};
 pub use operand::{Elements, Operand, elements_at, operand_of};
@@ -34,3 +32,4 @@ pub use sequences::{Sequence, add as add_sequence, handed};
 pub use truth_value::truth;
 pub use unary_operators::unary;
 pub use walk::elements;
+pub use words::word_of;

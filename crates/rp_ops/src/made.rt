@@ -1,16 +1,17 @@
+//! New texts and objects, and their cells.
 ghost use Rattle.std.specs.Prelude.{◌≡◌, ◌∷◌, List, [], ℕ, chars, IfOk, OnErr, OnOk};
 ghost use Rattle.rp_store.specs.Heap.{Owned};
-ghost use Rattle.rp_store.specs.Kept.{Holds, IsKept, IsSound};
+ghost use Rattle.rp_store.specs.Kept.{Holds, IsSound};
 ghost use Rattle.rp_store.specs.Object.{content_of};
 ghost use Rattle.rp_store.specs.Parts.{IsScope};
 ghost use Rattle.rp_store.specs.Store.{made};
 ghost use Rattle.rp_ops.specs.Binary.{new_object, new_text};
 ghost use Rattle.rp_ops.specs.Outcome.{Meets, state_of};
-ghost use Rattle.rp_ops.specs.Shape.{KeepsShape};
+ghost use Rattle.rp_store.specs.Shape.{KeepsShape};
 
 use crate::cells::charge;
 use rp_base::{Memory, OpEnd, Rock, Side, Text, Value};
-use rp_store::{Object, Store, StoreFault};
+use rp_store::{Object, Store};
 use std::alloc::Global;
 
 /// A new text of these characters, for a cell for each byte.
@@ -48,7 +49,7 @@ fn text_of_character(alloc: Global, letter: char) -> Result<Text, Memory>
 {
     let mut text = String::with_capacity(alloc, letter.len_utf8())?;
     text.push(letter)?;
-    Text::new(alloc, text.as_str())
+    Text::from_string(alloc, text)
 }
 
 /// A new object of a side, for its cells.
@@ -56,19 +57,14 @@ fn text_of_character(alloc: Global, letter: char) -> Result<Text, Memory>
 /// # Errors
 /// `StopCells` exactly where they are over the limit, `Memory` where a growth was refused. The store is then as before.
 pub fn new_object(store: &mut Store, side: Side, object: Object) -> Result<Value, OpEnd>
-    requires kept { IsKept store.old.heap }
     requires holds { Holds store.old.heap side (content_of object) }
     requires value { ¬ IsScope (content_of object) }
     ensures plain { (steps : ℕ) → Meets result (state_of store.new steps) (new_object side (content_of object) (state_of store.old steps)) }
     ensures made { OnOk result (store.new ≡ made store.old side (content_of object)) }
-    ensures kept { IsKept store.new.heap }
     ensures sound { IfOk result (λ v. IsSound store.new.heap v) }
     ensures shape { KeepsShape store.old.heap store.new.heap }
     ensures same { OnErr result (store.new ≡ store.old) }
 {
-    match store.make(side, object) {
-        Ok(at) => Ok(Value::Ref(at)),
-        Err(StoreFault::Cells) => Err(OpEnd::StopCells),
-        Err(StoreFault::Memory) => Err(OpEnd::Memory),
-    }
+    let at = store.make(side, object)?;
+    Ok(Value::Ref(at))
 }

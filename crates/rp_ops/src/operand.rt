@@ -1,7 +1,8 @@
+//! What operators see of values.
 ghost use Rattle.std.specs.Prelude.{◌≡◌, List, []};
 ghost use Rattle.std.specs.Option.{option_map_or};
 ghost use Rattle.rp_store.specs.Heap.{IsHeld, Owned, content_at};
-ghost use Rattle.rp_store.specs.Kept.{IsSound};
+ghost use Rattle.rp_store.specs.Kept.{IsKept, IsSound};
 ghost use Rattle.rp_ops.specs.Operand.{number_of, object_operand, operand, other, rock_operand};
 ghost use Rattle.rp_ops.specs.View.{IsOperandHeld, handed, held_by, is_sequence, seen};
 
@@ -51,6 +52,7 @@ impl Operand<'_> {
 }
 
 /// What an operator sees of a value.
+#[inline(always)]
 pub fn operand_of<'a>(store: &Store, value: &'a Value) -> Operand<'a>
     requires sound { IsSound store.now.heap value.now }
     ensures seen { seen store.now.heap result ≡ operand store.now.heap value.now }
@@ -63,6 +65,7 @@ pub fn operand_of<'a>(store: &Store, value: &'a Value) -> Operand<'a>
     }
 }
 
+#[inline(always)]
 fn rock_operand(rock: &Rock) -> Operand<'_>
     ensures seen { (heap : List Owned) → seen heap result ≡ rock_operand rock.now }
     ensures held { (heap : List Owned) → IsOperandHeld heap result }
@@ -89,9 +92,11 @@ fn object_operand<'a>(store: &Store, at: Oid, lent: bool) -> Operand<'a>
 }
 
 /// The elements of the list or tuple at a place, none where there is neither.
+#[inline(always)]
 pub fn elements_at(store: &Store, at: Oid) -> &[Value]
     requires { IsHeld store.now.heap at }
-    ensures { result.now ≡ option_map_or held_by (content_at store.now.heap at) [] }
+    ensures value { result.now ≡ option_map_or held_by (content_at store.now.heap at) [] }
+    ensures kept { IsKept store.now.heap }
 {
     match store.object(at) {
         Object::List(elements) => elements.as_slice(),

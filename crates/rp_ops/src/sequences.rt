@@ -1,7 +1,8 @@
+//! Lists and tuples joined and repeated.
 ghost use Rattle.std.specs.Prelude.{◌≡◌, ◌∷◌, ◌++◌, ◌+◌, [], ℕ, length, IfErr, IfOk, OnErr, OnOk};
 ghost use Rattle.std.specs.List.{repeat};
 ghost use Rattle.rp_store.specs.Heap.{IsHeld};
-ghost use Rattle.rp_store.specs.Kept.{AreSound, IsKept, IsSound};
+ghost use Rattle.rp_store.specs.Kept.{AreSound, IsSound};
 ghost use Rattle.rp_store.specs.Object.{content_of};
 ghost use Rattle.rp_store.specs.Store.{added};
 ghost use Rattle.rp_ops.specs.Binary.{new_object, repeated, times};
@@ -45,11 +46,9 @@ pub(crate) fn join(
     x: Elements,
     y: Elements,
 ) -> Result<Value, OpEnd>
-    requires kept { IsKept store.old.heap }
     requires x { IsHeld store.old.heap x.at }
     requires y { IsHeld store.old.heap y.at }
     ensures plain { (steps : ℕ) → Meets result (state_of store.new steps) (new_object side (sequence_of kind (elements_of store.old.heap x ++ elements_of store.old.heap y)) (state_of store.old steps)) }
-    ensures kept { IsKept store.new.heap }
     ensures sound { IfOk result (λ v. IsSound store.new.heap v) }
     ensures grown { Gains (IsSequenceOf side) store.old.heap store.new.heap }
     ensures same { OnErr result (store.new.heap ≡ store.old.heap) }
@@ -57,6 +56,7 @@ pub(crate) fn join(
     let cells = 1 + elements_at(store, x.at).len() + elements_at(store, y.at).len();
     charge(store, cells as u64)?;
     let elements = joined(alloc, store, x, y)?;
+    store.kept();
     add(store, side, kind, elements)
 }
 
@@ -73,10 +73,8 @@ pub(crate) fn repeat(
     x: Elements,
     n: i64,
 ) -> Result<Value, OpEnd>
-    requires kept { IsKept store.old.heap }
     requires x { IsHeld store.old.heap x.at }
     ensures plain { (steps : ℕ) → Meets result (state_of store.new steps) (new_object side (sequence_of kind (repeated n (elements_of store.old.heap x))) (state_of store.old steps)) }
-    ensures kept { IsKept store.new.heap }
     ensures sound { IfOk result (λ v. IsSound store.new.heap v) }
     ensures grown { Gains (IsSequenceOf side) store.old.heap store.new.heap }
     ensures same { OnErr result (store.new.heap ≡ store.old.heap) }
@@ -85,10 +83,12 @@ pub(crate) fn repeat(
     let size = elements_at(store, x.at).len();
     charge_copies(store, 1, copies, size as u64)?;
     let elements = copied(alloc, store, x, copies as usize)?;
+    store.kept();
     add(store, side, kind, elements)
 }
 
 /// How many times a number repeats: none where it is negative.
+#[inline(always)]
 pub(crate) fn times(n: i64) -> u64
     ensures { result ≡ times n }
 {
@@ -105,13 +105,11 @@ pub fn add(
     kind: Sequence,
     elements: Vec<Value>,
 ) -> Result<Value, OpEnd>
-    requires kept { IsKept store.old.heap }
     requires sound { AreSound store.old.heap elements.items }
     ensures added { OnOk result (store.new ≡ added store.old side (sequence_of kind elements.items)) }
     ensures place { IfOk result (λ v. v ≡ Value.Ref (record { 0 = length store.old.heap })) }
     ensures memory { IfErr result (λ e. e ≡ OpEnd.Memory) }
     ensures same { OnErr result (store.new ≡ store.old) }
-    ensures kept { IsKept store.new.heap }
     ensures sound { IfOk result (λ v. IsSound store.new.heap v) }
     ensures grown { Gains (IsSequenceOf side) store.old.heap store.new.heap }
 {
@@ -178,6 +176,7 @@ pub(crate) fn append(store: &Store, x: Elements, all: &mut Vec<Value>) -> Result
 ///
 /// # Errors
 /// `Memory` where a growth was refused.
+#[inline(always)]
 pub(crate) fn put(values: &mut Vec<Value>, value: Value) -> Result<(), Memory>
     ensures { OnOk result (values.new.items ≡ values.old.items ++ value ∷ []) }
 {

@@ -1,8 +1,9 @@
+//! Values walked to their ends.
 ghost use Rattle.std.specs.Prelude.{◌≡◌, ◌<◌, ◌≤◌, ◌∷◌, [], List, Some, length, map, IfOk};
 ghost use Rattle.std.specs.Option.{option_map, option_map_or};
 ghost use Rattle.std.specs.List.{slice_get};
 ghost use Rattle.rp_store.specs.Heap.{IsHeld, Owned, content_at};
-ghost use Rattle.rp_store.specs.Kept.{AreSound, IsKept, IsSound};
+ghost use Rattle.rp_store.specs.Kept.{AreSound, IsSound};
 ghost use Rattle.rp_store.specs.Store.{Cells};
 ghost use Rattle.rp_ops.specs.Binary.{new_text};
 ghost use Rattle.rp_ops.specs.Outcome.{Meets, State, state_of, stepped};
@@ -15,13 +16,13 @@ use crate::operand::{Elements, elements_at};
 use crate::refusal::Refusal;
 use crate::sequences::{append, put};
 use rp_base::{Memory, Meter, Oid, OpEnd, Rock, Text, Value};
-use rp_dict::Dict;
+use rp_dict::{Dict, Walk};
 use rp_store::{Key, Object, Store};
 use std::alloc::Global;
 
-/// What walking a value gives (Python Language Reference, Data model, iterables; zope.security, proxies): the elements of
-/// a list or tuple, the keys of a dict as first written, the characters of a text, each as a text of its own. Each takes a
-/// step, and a character then costs a cell for each of its bytes. What is walked out of a proxy is lent.
+/// What walking a value gives (Python Language Reference, Data model, iterables; zope.security, proxies): the elements
+/// of a list or tuple, the keys of a dict as first written, the characters of a text, each as a text of its own. Each
+/// takes a step, and a character then costs a cell for each of its bytes. What is walked out of a proxy is lent.
 ///
 /// # Errors
 /// - `Raised` with `TypeError`, where the value cannot be walked.
@@ -35,7 +36,6 @@ pub fn elements(
     meter: &mut Meter,
     a: &Value,
 ) -> Result<Vec<Value>, OpEnd>
-    requires kept { IsKept store.old.heap }
     requires a { IsSound store.old.heap a.now }
     ensures plain { Meets (items_of result) (state_of store.new meter.new.left) (elements a.now (state_of store.old meter.old.left)) }
     ensures same { store.new.heap ≡ store.old.heap }
@@ -91,7 +91,7 @@ fn spelled_out(
     Ok(letters)
 }
 
-fn next_character(
+pub(crate) fn next_character(
     alloc: Global,
     store: &mut Store,
     meter: &mut Meter,
@@ -113,7 +113,6 @@ fn object_elements(
     at: Oid,
     lent: bool,
 ) -> Result<Vec<Value>, OpEnd>
-    requires kept { IsKept store.now.heap }
     requires held { IsHeld store.now.heap at }
     ensures plain { Meets (items_of result) (state_of store.now meter.new.left) (option_map_or (λ c. content_elements (handed lent) c (state_of store.now meter.old.left)) (content_at store.now.heap at) (not_walked (state_of store.now meter.old.left))) }
     ensures sound { IfOk result (λ v. AreSound store.now.heap v.items) }
@@ -133,7 +132,6 @@ fn object_elements(
 
 /// The elements of a list or tuple.
 fn walked(alloc: Global, store: &Store, meter: &mut Meter, x: Elements) -> Result<Vec<Value>, OpEnd>
-    requires kept { IsKept store.now.heap }
     requires held { IsHeld store.now.heap x.at }
     ensures plain { Meets (items_of result) (state_of store.now meter.new.left) (walked (elements_of store.now.heap x) (state_of store.now meter.old.left)) }
     ensures sound { IfOk result (λ v. AreSound store.now.heap v.items) }
@@ -182,14 +180,27 @@ fn first_written(alloc: Global, entries: &Dict<Key, (Rock, Value)>) -> Result<Ve
     ensures { IfOk result (λ v. v.items ≡ map key_rock entries.now) }
 {
     let mut keys = Vec::with_capacity(alloc, entries.len())?;
-    for i in 0..entries.len() {
-        let key = key_at(entries, i)?;
-        keys.push(key)?;
+    let mut rest = entries.walk();
+    for _ in 0..entries.len() {
+        let Some(key) = next_written(&mut rest)? else {
+            return Ok(keys);
+        };
+        put(&mut keys, key)?;
     }
     Ok(keys)
 }
 
-fn key_at(entries: &Dict<Key, (Rock, Value)>, i: usize) -> Result<Value, Memory>
+/// The next key of a walk over the entries of a dict.
+fn next_written(rest: &mut Walk<'_, Key, (Rock, Value)>) -> Result<Option<Value>, Memory>
+    ensures { IfOk result (λ key. map key_rock rest.old ≡ option_map_or (λ v. v ∷ map key_rock rest.new) key []) }
+{
+    match rest.next() {
+        Some((_, (rock, _))) => Ok(Some(Value::Rock(rock.copy()?))),
+        None => Ok(None),
+    }
+}
+
+pub(crate) fn key_at(entries: &Dict<Key, (Rock, Value)>, i: usize) -> Result<Value, Memory>
     requires { i < length entries.now }
     ensures { IfOk result (λ v. Some v ≡ option_map key_rock (slice_get entries.now i)) }
 {

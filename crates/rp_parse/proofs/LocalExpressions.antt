@@ -361,13 +361,13 @@ module _ (w : Rests) (d : ℕ) (inner : LocalReaders w (r.readers d)) where
   test_from kind.Is line = local_is w
   test_from k line = local_option (order_of k) (λ o. local_compared (Order o))
 
-  local_test : Local w (r.test rs)
-  unfolding r.test
+  local_test : Local w (r.comparison rs)
+  unfolding r.comparison
   local_test = local_front (λ k line us. r.test_by k rs us) (λ line us. refl) test_from
 
   local_tests : Local w (r.tests rs)
   unfolding r.tests
-  local_tests = local_many t.no_tests r.with_test r.at_test (r.test rs) (tells_test w) (tests_short d) (local_told r.at_test (tells_test w) local_test local_none)
+  local_tests = local_many t.no_tests r.with_test r.at_test (r.comparison rs) (tells_test w) (tests_short d) (local_told r.at_test (tells_test w) local_test local_none)
 
   local_compare : Local w (r.compare rs)
   unfolding r.compare

@@ -275,13 +275,13 @@ module _ (f : Name → Name) (injective : IsInjective f) (rs : Readers) (inner :
   test_by_renamed kind.Is ts = rw (first_renamed f ts) (is_by_renamed (first ts) ts)
   test_by_renamed k ts = ordered_renamed (order_of k) ts
 
-  test_renamed : Renames f (renamed_operation f) (r.test rs) (r.test rs)
-  unfolding r.test
+  test_renamed : Renames f (renamed_operation f) (r.comparison rs) (r.comparison rs)
+  unfolding r.comparison
   test_renamed ts = rw (first_renamed f ts, skip_renamed f ts) (test_by_renamed (first ts) (skip ts))
 
   tests_renamed : Renames f (renamed_tests f) (r.tests rs) (r.tests rs)
   unfolding r.tests
-  tests_renamed = all_many_renamed f (renamed_operation f) (renamed_tests f) t.no_tests r.with_test r.at_test (r.test rs) refl (λ x xs. refl) (at_test_renamed f) test_renamed
+  tests_renamed = all_many_renamed f (renamed_operation f) (renamed_tests f) t.no_tests r.with_test r.at_test (r.comparison rs) refl (λ x xs. refl) (at_test_renamed f) test_renamed
 
   compare_renamed : Renames f (renamed_expr f) (r.compare rs) (r.compare rs)
   unfolding r.compare

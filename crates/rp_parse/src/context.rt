@@ -1,3 +1,5 @@
+//! What a statement stands in.
+
 ghost use Rattle.std.specs.Prelude.{◌≡◌, ◌≢◌, ◌-◌, IfErr, IfOk, None, Some, false, true};
 ghost use Rattle.std.specs.List.{list_all};
 ghost use Rattle.rp_parse.specs.Statements as g;

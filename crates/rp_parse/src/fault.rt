@@ -1,3 +1,5 @@
+//! Why tokens spell no tree.
+
 ghost use Rattle.std.specs.Prelude.{◌≡◌, None, Some, option_map};
 ghost use Rattle.rp_parse.specs.declared.fault.Stop.TheVariants.{Memory as OutOfMemory};
 ghost use Rattle.rp_parse.specs.Gives.{stop_of, told, placed, unplaced};

@@ -9,18 +9,12 @@ ghost use Rattle.rp_expr.specs.Kinds.{Tokens, line_at};
 ghost use Rattle.rp_parse.specs.Program.{IsLongestGood, Spells};
 
 mod blocks;
-#[cfg(test)]
-mod case_tests;
 mod compound;
 mod context;
 mod fault;
 mod lines;
 mod look;
-#[cfg(test)]
-mod shown;
 mod simple_statements;
-#[cfg(test)]
-mod tests;
 
 use blocks::program;
 pub use fault::ParseFault;

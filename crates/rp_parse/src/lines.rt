@@ -18,11 +18,9 @@ use crate::look::is_newline;
 use crate::simple_statements::{DEPTH, simple};
 use rp_expr::look::skip;
 use rp_expr::{Fault, Read, expr, expr_list, has_distinct_names, params, target};
+use rp_heights::{expr_height, params_height, stmt_height, target_height};
 use rp_token::{Token, TokenKind};
-use rp_tree::{
-    Expr, ExprForm, Params, Stmt, StmtForm, Target, expr_height, params_height, stmt_height,
-    target_height,
-};
+use rp_tree::{Expr, ExprForm, Params, Stmt, StmtForm, Target};
 use std::alloc::Global;
 
 /// What is read at the front of some tokens and the tokens behind it, or why nothing is.

@@ -1,3 +1,5 @@
+//! The decision on an operation on a value.
+
 ghost use Rattle.std.specs.Prelude.{◌≡◌, IfOk, chars};
 ghost use Rattle.rp_base.specs.declared.value.Oid.{Oid};
 ghost use Rattle.rp_checker.specs.Answers.{IsOpHeld, operation_view};

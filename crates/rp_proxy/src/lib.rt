@@ -2,11 +2,7 @@
 #![tactic(auto)]
 
 mod crossing;
-#[cfg(test)]
-mod crossing_tests;
 mod taking;
-#[cfg(test)]
-mod tests;
 mod world;
 
 pub use crossing::cross;

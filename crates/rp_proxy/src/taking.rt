@@ -1,3 +1,5 @@
+//! Values as code of a side gets them.
+
 ghost use Rattle.std.specs.Prelude.{◌≡◌};
 ghost use Rattle.rp_store.specs.Heap.{IsHeld};
 ghost use Rattle.rp_store.specs.Kept.{IsSafe};

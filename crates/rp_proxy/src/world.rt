@@ -1,3 +1,5 @@
+//! What sessions share, and the session that runs.
+
 use rp_base::{Memory, Meter, Name, Names, Printed};
 use rp_checker::Checkers;
 use rp_decl::Decl;
@@ -68,7 +70,7 @@ impl World {
         let _first = names.text(Name(0));
         let checkers = Checkers::new(alloc, &decl)?;
         Ok(World {
-            store: Store::new(alloc, limit),
+            store: Store::new(alloc, limit, names.seed()),
             names,
             checkers,
             decl,

@@ -1,3 +1,5 @@
+//! Commands, as the words of the command line give them.
+
 ghost use Rattle.std.specs.Prelude.{◌≡◌, ◌∷◌, ◌++◌, [], true, false, Some, None, IsUtf8, if◌then◌else◌, length, map, nat_lt, option_map, string_bytes, IfOk, IfSome, IfNone};
 ghost use Rattle.rp_run.specs.Command.{IsOnePiece, command_of, ids_of, is_option, is_pair, is_who, path_of, who_of};
 ghost use Rattle.rp_run.specs.View.{command_view};

@@ -1,3 +1,5 @@
+//! Declarations read from a file, or what is said where they are refused.
+
 ghost use Rattle.std.specs.Prelude.{◌≡◌, ◌≢◌, ◌⊎◌, ◌<◌, IfOk, IfSome, IsErrOf, OnOk};
 ghost use Rattle.rp_base.specs.Names.{first_words};
 ghost use Rattle.rp_decl.specs.Faults.{IsFaultHeld, fault_line};
@@ -5,10 +7,11 @@ ghost use Rattle.rp_run.specs.Steps.{BeginsOnly};
 ghost use Rattle.rp_run.specs.View.{IsWellRead, TellsDeclared};
 
 use crate::answer::Answer;
+use crate::keying::declarations;
 use crate::reading::{Contents, read_file};
 use crate::stop::Stop;
 use rp_base::{Files, Memory, Names, Text};
-use rp_decl::{Decl, DeclFault, declarations, fault_line};
+use rp_decl::{Decl, DeclFault, fault_line};
 use std::alloc::Global;
 
 /// The records of declarations, or what is said where they are refused.

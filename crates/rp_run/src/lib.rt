@@ -4,13 +4,12 @@
 mod answer;
 mod command;
 mod declaring;
+mod keying;
 mod playing;
 mod program;
 mod reading;
 mod stop;
 mod telling;
-#[cfg(test)]
-mod tests;
 mod writing;
 
 pub use answer::USAGE;

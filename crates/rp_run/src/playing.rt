@@ -1,3 +1,5 @@
+//! The command `run`: a script in a session.
+
 ghost use Rattle.std.specs.Prelude.{◌≡◌, ◌≢◌, ◌<◌, ℕ, [], Err, List, None, Some, IfOk, IfSome, IsErrOf, OnOk, map};
 ghost use Rattle.std.specs.List.{All};
 ghost use Rattle.rp_compile.specs.View.{IsStatementHeld, statement_view};
@@ -18,10 +20,11 @@ ghost use Rattle.rp_run.specs.View.{IsReadInto, IsToldBy, run_view};
 use crate::answer::{Answer, SessionEnd};
 use crate::command::Run;
 use crate::declaring::{Declared, read_declarations};
+use crate::keying::compile_script;
 use crate::reading::{Contents, read_file};
 use crate::stop::Stop;
 use rp_base::{Files, Memory, Meter, Names, OpEnd, Printed, Value};
-use rp_compile::{Compiled, compile_script};
+use rp_compile::Compiled;
 use rp_decl::Decl;
 use rp_interact::{Interaction, WhoFault};
 use rp_load::{fault_line, load, load_fault};
@@ -64,7 +67,7 @@ pub fn answer_run<F: Files>(alloc: Global, command: &Run, files: &mut F) -> Resu
     ensures cause { IsErrOf result Stop.Failed → FailsAtNamed (Some (run (run_view command.now))) (F.contents files.old) (F.begun files.new) (F.last_path files.new) }
     ensures memory { IsErrOf result Stop.Memory → F.faults files.new ≡ 0 }
 {
-    let mut names = Names::new(alloc)?;
+    let mut names = Names::new(alloc, files.seed())?;
     match read_declarations(alloc, &command.declarations, &mut names, files)? {
         Declared::Refused(answer) => Ok(answer),
         Declared::Records(decl) => answer_declared(alloc, command, decl, names, files),

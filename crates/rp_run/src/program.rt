@@ -1,3 +1,5 @@
+//! The whole program: words and files to text and a status.
+
 ghost use Rattle.std.specs.Prelude.{◌≡◌, ◌≢◌, ◌⊎◌, ◌<◌, ◌↔◌, map, string_bytes, IfOk, IfSome, MatchOption, None, OnOk, IsErrOf};
 ghost use Rattle.rp_run.specs.Command.{command_of, usage};
 ghost use Rattle.rp_run.specs.Headline.{IsAnswer, IsStatus, Writes, TellsWhole, TellsFront, BeginsNamed, FailsAtNamed};

@@ -1,3 +1,5 @@
+//! Files read whole, unless they are too long.
+
 ghost use Rattle.std.specs.Prelude.{◌≡◌, ◌<◌, ◌≤◌, ◌+◌, true, length, IfOk, IfSome, OnOk, IsErrOf};
 ghost use Rattle.rp_run.specs.Contents.{Holds};
 

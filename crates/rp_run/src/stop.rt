@@ -1,3 +1,5 @@
+//! Why there is no answer.
+
 use rp_base::{Failed, Memory};
 use std::alloc::AllocError;
 

@@ -1,3 +1,5 @@
+//! The command `may`: whether principals have a permission, and why.
+
 ghost use Rattle.std.specs.Prelude.{◌≡◌, ◌<◌, ◌≤◌, ◌++◌, ℕ, List, Some, IfOk, IfSome, IsErrOf, OnOk, codes, length, position};
 ghost use Rattle.rp_base.specs.Same.{same_text};
 ghost use Rattle.rp_decl.specs.InOrder.{AreInOrder};
@@ -36,7 +38,7 @@ pub fn answer_may<F: Files>(alloc: Global, command: &May, files: &mut F) -> Resu
     ensures cause { IsErrOf result Stop.Failed → FailsAtNamed (Some (may (may_view command.now))) (F.contents files.old) (F.begun files.new) (F.last_path files.new) }
     ensures memory { IsErrOf result Stop.Memory → F.faults files.new ≡ 0 }
 {
-    let mut names = Names::new(alloc)?;
+    let mut names = Names::new(alloc, files.seed())?;
     match read_declarations(alloc, &command.declarations, &mut names, files)? {
         Declared::Refused(answer) => Ok(answer),
         Declared::Records(decl) => Ok(tell(alloc, command, &decl)?),

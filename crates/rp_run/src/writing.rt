@@ -1,3 +1,5 @@
+//! Texts written whole to a sink.
+
 ghost use Rattle.std.specs.Prelude.{◌≡◌, ◌++◌, ◌<◌, ℕ, length, take, option_map, OnOk, OnErr};
 ghost use Rattle.rp_run.specs.Headline.{Writes, WritesFront};
 

@@ -1,4 +1,5 @@
 mod Escapes
 mod Lines
+mod Marks
 mod ShowExamples
 mod Turns

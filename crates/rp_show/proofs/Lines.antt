@@ -6,10 +6,13 @@ use Rattle.std.proofs.lemmas.List.{drop_more}
 use Rattle.std.proofs.lemmas.Str.{encodes-append}
 use Rattle.rp_base.specs.declared.value.OpEnd.{OpEnd}
 use Rattle.rp_base.specs.declared.value.OpEnd.TheVariants as end
+use Rattle.rp_store.specs.Heap.{Owned}
 use Rattle.rp_store.specs.Store.{Cells, IsOver}
 use Rattle.rp_ops.specs.Outcome.{End, Meets, State, Outcome, ends, gives, no_cell, no_step, on_answer, on_value, state_of, stepped, with_used}
-use Rattle.rp_show.specs.Show.{enclosed, followed, told}
-use Rattle.rp_show.specs.ShowView.{Writes, added}
+use Rattle.rp_show.specs.Show.{enclosed, followed, printed}
+use Rattle.rp_show.specs.ShowView.{Writes, added, moment}
+use Rattle.rp_show.specs.Prints.{Prints}
+use Rattle.rp_show.specs.declared.printer.Printer.{Printer}
 
 pub added-nil : (o : Outcome (List ℕ)) → added [] o ≡ o
 added-nil o = by o.answer o.state
@@ -59,51 +62,51 @@ stops (Err f) e m s o h k = subst (λ (g : OpEnd). Meets {A = List ℕ} (Err g) 
 
 -- ---- the cells of characters
 
-pub told-append : (a b : List ℕ) (s : State) → told (a ++ b) s ≡ followed (told a s) (told b)
-told-append [] b s = sym (added-nil (told b s))
-told-append (c ∷ cs) b s = by (nat_lt s.store.limit (s.store.used + length (encode_utf8_all (c ∷ [])))) (told-append cs b next)
+pub printed-append : (a b : List ℕ) (s : State) → printed (a ++ b) s ≡ followed (printed a s) (printed b)
+printed-append [] b s = sym (added-nil (printed b s))
+printed-append (c ∷ cs) b s = by (nat_lt s.store.limit (s.store.used + length (encode_utf8_all (c ∷ [])))) (printed-append cs b next)
   where
     next : State
     next = with_used s (s.store.used + length (encode_utf8_all (c ∷ [])))
 
-    by : (over : Bool) → told (cs ++ b) next ≡ followed (told cs next) (told b)
-        → (if over then ends no_cell s else added (c ∷ []) (told (cs ++ b) next)) ≡ followed (if over then ends no_cell s else added (c ∷ []) (told cs next)) (told b)
+    by : (over : Bool) → printed (cs ++ b) next ≡ followed (printed cs next) (printed b)
+        → (if over then ends no_cell s else added (c ∷ []) (printed (cs ++ b) next)) ≡ followed (if over then ends no_cell s else added (c ∷ []) (printed cs next)) (printed b)
     by true e = refl
-    by false e = ap (added (c ∷ [])) e ∙ added-followed (c ∷ []) (told cs next) (told b)
+    by false e = ap (added (c ∷ [])) e ∙ added-followed (c ∷ []) (printed cs next) (printed b)
 
--- a text told in two parts
-pub goes_on : (l m a b : List ℕ) (t s : State) → added l (told a s) ≡ gives m t → added l (told (a ++ b) s) ≡ added m (told b t)
-goes_on l m a b t s h = ap (added l) (told-append a b s) ∙ on_ok l m t (told a s) (told b) h
+-- a text printed in two parts
+pub goes_on : (l m a b : List ℕ) (t s : State) → added l (printed a s) ≡ gives m t → added l (printed (a ++ b) s) ≡ added m (printed b t)
+goes_on l m a b t s h = ap (added l) (printed-append a b s) ∙ on_ok l m t (printed a s) (printed b) h
 
-pub passes_both : (e : OpEnd) (l a b : List ℕ) (t s : State) → Meets {A = List ℕ} (Err e) t (added l (told a s)) → Meets {A = List ℕ} (Err e) t (added l (told (a ++ b) s))
+pub passes_both : (e : OpEnd) (l a b : List ℕ) (t s : State) → Meets {A = List ℕ} (Err e) t (added l (printed a s)) → Meets {A = List ℕ} (Err e) t (added l (printed (a ++ b) s))
 passes_both e l a b t s h =
-    subst (λ (o : Outcome (List ℕ)). Meets {A = List ℕ} (Err e) t (added l o)) (sym (told-append a b s)) (passes e l t (told a s) (told b) h)
+    subst (λ (o : Outcome (List ℕ)). Meets {A = List ℕ} (Err e) t (added l o)) (sym (printed-append a b s)) (passes e l t (printed a s) (printed b) h)
 
--- a text told in three parts
-pub three-on : (l k m a w b : List ℕ) (s t u : State) → added l (told a s) ≡ gives k t → added k (told w t) ≡ gives m u → added l (told (a ++ w ++ b) s) ≡ added m (told b u)
+-- a text printed in three parts
+pub three-on : (l k m a w b : List ℕ) (s t u : State) → added l (printed a s) ≡ gives k t → added k (printed w t) ≡ gives m u → added l (printed (a ++ w ++ b) s) ≡ added m (printed b u)
 three-on l k m a w b s t u h g = goes_on l m (a ++ w) b u s (goes_on l k a w t s h ∙ g)
 
-pub three-first : (e : OpEnd) (l a w b : List ℕ) (t s : State) → Meets {A = List ℕ} (Err e) t (added l (told a s)) → Meets {A = List ℕ} (Err e) t (added l (told (a ++ w ++ b) s))
+pub three-first : (e : OpEnd) (l a w b : List ℕ) (t s : State) → Meets {A = List ℕ} (Err e) t (added l (printed a s)) → Meets {A = List ℕ} (Err e) t (added l (printed (a ++ w ++ b) s))
 three-first e l a w b t s h = passes_both e l (a ++ w) b t s (passes_both e l a w t s h)
 
-pub three-second : (e : OpEnd) (l k a w b : List ℕ) (s t u : State) → added l (told a s) ≡ gives k t → Meets {A = List ℕ} (Err e) u (added k (told w t))
-    → Meets {A = List ℕ} (Err e) u (added l (told (a ++ w ++ b) s))
+pub three-second : (e : OpEnd) (l k a w b : List ℕ) (s t u : State) → added l (printed a s) ≡ gives k t → Meets {A = List ℕ} (Err e) u (added k (printed w t))
+    → Meets {A = List ℕ} (Err e) u (added l (printed (a ++ w ++ b) s))
 three-second e l k a w b s t u h g =
     passes_both e l (a ++ w) b u s (subst (λ (o : Outcome (List ℕ)). Meets {A = List ℕ} (Err e) u o) (sym (goes_on l k a w t s h)) g)
 
 -- what is enclosed, in three parts
-pub enclosed-on : (l k m a b : List ℕ) (p : State → Outcome (List ℕ)) (s t u : State) → added l (told a s) ≡ gives k t → added k (p t) ≡ gives m u
-    → added l (enclosed a b p s) ≡ added m (told b u)
-enclosed-on l k m a b p s t u h g = on_ok l m u (followed (told a s) p) (told b) (on_ok l k t (told a s) p h ∙ g)
+pub enclosed-on : (l k m a b : List ℕ) (p : State → Outcome (List ℕ)) (s t u : State) → added l (printed a s) ≡ gives k t → added k (p t) ≡ gives m u
+    → added l (enclosed a b p s) ≡ added m (printed b u)
+enclosed-on l k m a b p s t u h g = on_ok l m u (followed (printed a s) p) (printed b) (on_ok l k t (printed a s) p h ∙ g)
 
-pub enclosed-first : (e : OpEnd) (l a b : List ℕ) (p : State → Outcome (List ℕ)) (t s : State) → Meets {A = List ℕ} (Err e) t (added l (told a s))
+pub enclosed-first : (e : OpEnd) (l a b : List ℕ) (p : State → Outcome (List ℕ)) (t s : State) → Meets {A = List ℕ} (Err e) t (added l (printed a s))
     → Meets {A = List ℕ} (Err e) t (added l (enclosed a b p s))
-enclosed-first e l a b p t s h = passes e l t (followed (told a s) p) (told b) (passes e l t (told a s) p h)
+enclosed-first e l a b p t s h = passes e l t (followed (printed a s) p) (printed b) (passes e l t (printed a s) p h)
 
-pub enclosed-second : (e : OpEnd) (l k a b : List ℕ) (p : State → Outcome (List ℕ)) (s t u : State) → added l (told a s) ≡ gives k t → Meets {A = List ℕ} (Err e) u (added k (p t))
+pub enclosed-second : (e : OpEnd) (l k a b : List ℕ) (p : State → Outcome (List ℕ)) (s t u : State) → added l (printed a s) ≡ gives k t → Meets {A = List ℕ} (Err e) u (added k (p t))
     → Meets {A = List ℕ} (Err e) u (added l (enclosed a b p s))
 enclosed-second e l k a b p s t u h g =
-    passes e l u (followed (told a s) p) (told b) (subst (λ (o : Outcome (List ℕ)). Meets {A = List ℕ} (Err e) u o) (sym (on_ok l k t (told a s) p h)) g)
+    passes e l u (followed (printed a s) p) (printed b) (subst (λ (o : Outcome (List ℕ)). Meets {A = List ℕ} (Err e) u o) (sym (on_ok l k t (printed a s) p h)) g)
 
 -- the end of a call whose value is a text
 pub text_stops : (r : Result (List ℕ) OpEnd) (e : OpEnd) (s : State) (o : Outcome (List ℕ)) → IsErrAnd r (λ f. f ≡ e) → Meets {A = List ℕ} (Err e) s o → Meets r s o
@@ -111,24 +114,24 @@ text_stops (Ok t) e s o h k = absurd h
 text_stops (Err f) e s o h k = subst (λ (g : OpEnd). Meets {A = List ℕ} (Err g) s o) (sym h) k
 
 -- one character, where its bytes fit and where they do not
-pub told-one : (c : ℕ) (cs : List ℕ) (s : State) → s.store.used + length (encode_utf8_all (c ∷ [])) ≤ s.store.limit
-    → told (c ∷ cs) s ≡ added (c ∷ []) (told cs (with_used s (s.store.used + length (encode_utf8_all (c ∷ [])))))
-told-one c cs s h = rw (le-ltb s.store.limit (s.store.used + length (encode_utf8_all (c ∷ []))) h) refl
+pub printed-one : (c : ℕ) (cs : List ℕ) (s : State) → s.store.used + length (encode_utf8_all (c ∷ [])) ≤ s.store.limit
+    → printed (c ∷ cs) s ≡ added (c ∷ []) (printed cs (with_used s (s.store.used + length (encode_utf8_all (c ∷ [])))))
+printed-one c cs s h = rw (le-ltb s.store.limit (s.store.used + length (encode_utf8_all (c ∷ []))) h) refl
 
-pub told-over : (c : ℕ) (cs : List ℕ) (s : State) → IsOver s.store (length (encode_utf8_all (c ∷ []))) → told (c ∷ cs) s ≡ ends no_cell s
-told-over c cs s h = rw (lt-ltb s.store.limit (s.store.used + length (encode_utf8_all (c ∷ []))) h) refl
+pub printed-over : (c : ℕ) (cs : List ℕ) (s : State) → IsOver s.store (length (encode_utf8_all (c ∷ []))) → printed (c ∷ cs) s ≡ ends no_cell s
+printed-over c cs s h = rw (lt-ltb s.store.limit (s.store.used + length (encode_utf8_all (c ∷ []))) h) refl
 
 pub length-cons : (c : ℕ) (cs : List ℕ) → length (encode_utf8_all (c ∷ cs)) ≡ length (encode_utf8_all (c ∷ [])) + length (encode_utf8_all cs)
 length-cons c cs = ap length (encodes-append (c ∷ []) cs) ∙ length-append (encode_utf8_all (c ∷ [])) (encode_utf8_all cs)
 
 -- all characters, where the bytes of all fit
-pub told-within : (t : List ℕ) (s : State) (used : ℕ) → s.store.used + length (encode_utf8_all t) ≡ used → used ≤ s.store.limit → told t s ≡ gives t (with_used s used)
-told-within [] s used e h = let same : s.store.used ≡ used = omega (arith, e) in ap (λ (n : ℕ). gives [] (with_used s n)) same
-told-within (c ∷ cs) s used e h =
+pub printed-within : (t : List ℕ) (s : State) (used : ℕ) → s.store.used + length (encode_utf8_all t) ≡ used → used ≤ s.store.limit → printed t s ≡ gives t (with_used s used)
+printed-within [] s used e h = let same : s.store.used ≡ used = omega (arith, e) in ap (λ (n : ℕ). gives [] (with_used s n)) same
+printed-within (c ∷ cs) s used e h =
     let one = length (encode_utf8_all (c ∷ [])) in
     let sum = length-cons c cs in
-    told-one c cs s (omega (arith, sum, e, h))
-    ∙ ap (added (c ∷ [])) (told-within cs (with_used s (s.store.used + one)) used (omega (arith, sum, e)) h)
+    printed-one c cs s (omega (arith, sum, e, h))
+    ∙ ap (added (c ∷ [])) (printed-within cs (with_used s (s.store.used + one)) used (omega (arith, sum, e)) h)
 
 -- the bytes of a character
 bytes_of_one : (c : ℕ) → length (encode_utf8 c) ≡ length (encode_utf8_all (c ∷ []))
@@ -138,29 +141,29 @@ abbrev used : Cells → ℕ → Cells
 used store cells = record store { used = store.used + cells }
 
 -- a text whose bytes are charged at once
-pub told-fits : (t : List ℕ) (old new : Cells) (steps cells : ℕ) → cells ≡ length (encode_utf8_all t) → old.used + cells ≤ old.limit → new ≡ used old cells
-    → told t (state_of old steps) ≡ gives t (state_of new steps)
-told-fits t old new steps cells e h same =
-    told-within t (state_of old steps) (old.used + cells) (ap (λ (n : ℕ). old.used + n) (sym e)) h ∙ ap (λ (x : Cells). gives t (state_of x steps)) (sym same)
+pub printed-fits : (t : List ℕ) (old new : Cells) (steps cells : ℕ) → cells ≡ length (encode_utf8_all t) → old.used + cells ≤ old.limit → new ≡ used old cells
+    → printed t (state_of old steps) ≡ gives t (state_of new steps)
+printed-fits t old new steps cells e h same =
+    printed-within t (state_of old steps) (old.used + cells) (ap (λ (n : ℕ). old.used + n) (sym e)) h ∙ ap (λ (x : Cells). gives t (state_of x steps)) (sym same)
 
-first_of_rest : (cs : List ℕ) (n c : ℕ) → n < length cs → c ≡ get_or cs n c → drop n cs ≡ c ∷ drop (n + 1) cs
-first_of_rest cs n c lt e = drop_more cs n c lt ∙ ap (λ (x : ℕ). x ∷ drop (n + 1) cs) (sym e)
+pub first_of_rest : {A : Type 0} (cs : List A) (n : ℕ) (c : A) → n < length cs → c ≡ get_or cs n c → drop n cs ≡ c ∷ drop (n + 1) cs
+first_of_rest cs n c lt e = drop_more cs n c lt ∙ ap (λ x. x ∷ drop (n + 1) cs) (sym e)
 
 -- the character at a place is charged
-pub told-turn : (cs : List ℕ) (n c cells steps : ℕ) (old new : Cells) → n < length cs → c ≡ get_or cs n c → cells ≡ length (encode_utf8 c) → old.used + cells ≤ old.limit
-    → new ≡ used old cells → told (drop n cs) (state_of old steps) ≡ added (c ∷ []) (told (drop (n + 1) cs) (state_of new steps))
-told-turn cs n c cells steps old new lt e size h same =
+pub printed-turn : (cs : List ℕ) (n c cells steps : ℕ) (old new : Cells) → n < length cs → c ≡ get_or cs n c → cells ≡ length (encode_utf8 c) → old.used + cells ≤ old.limit
+    → new ≡ used old cells → printed (drop n cs) (state_of old steps) ≡ added (c ∷ []) (printed (drop (n + 1) cs) (state_of new steps))
+printed-turn cs n c cells steps old new lt e size h same =
     let bytes : cells ≡ length (encode_utf8_all (c ∷ [])) = size ∙ bytes_of_one c in
-    ap (λ (l : List ℕ). told l (state_of old steps)) (first_of_rest cs n c lt e)
-    ∙ told-one c (drop (n + 1) cs) (state_of old steps) (subst (λ (k : ℕ). old.used + k ≤ old.limit) bytes h)
-    ∙ ap (λ (k : ℕ). added (c ∷ []) (told (drop (n + 1) cs) (state_of (used old k) steps))) (sym bytes)
-    ∙ ap (λ (x : Cells). added (c ∷ []) (told (drop (n + 1) cs) (state_of x steps))) (sym same)
+    ap (λ (l : List ℕ). printed l (state_of old steps)) (first_of_rest cs n c lt e)
+    ∙ printed-one c (drop (n + 1) cs) (state_of old steps) (subst (λ (k : ℕ). old.used + k ≤ old.limit) bytes h)
+    ∙ ap (λ (k : ℕ). added (c ∷ []) (printed (drop (n + 1) cs) (state_of (used old k) steps))) (sym bytes)
+    ∙ ap (λ (x : Cells). added (c ∷ []) (printed (drop (n + 1) cs) (state_of x steps))) (sym same)
 
-pub told-turn-over : (cs : List ℕ) (n c cells steps : ℕ) (old new : Cells) → n < length cs → c ≡ get_or cs n c → cells ≡ length (encode_utf8 c) → IsOver old cells
-    → new ≡ old → told (drop n cs) (state_of old steps) ≡ ends no_cell (state_of new steps)
-told-turn-over cs n c cells steps old new lt e size h same =
-    ap (λ (l : List ℕ). told l (state_of old steps)) (first_of_rest cs n c lt e)
-    ∙ told-over c (drop (n + 1) cs) (state_of old steps) (subst (λ (k : ℕ). IsOver old k) (size ∙ bytes_of_one c) h)
+pub printed-turn-over : (cs : List ℕ) (n c cells steps : ℕ) (old new : Cells) → n < length cs → c ≡ get_or cs n c → cells ≡ length (encode_utf8 c) → IsOver old cells
+    → new ≡ old → printed (drop n cs) (state_of old steps) ≡ ends no_cell (state_of new steps)
+printed-turn-over cs n c cells steps old new lt e size h same =
+    ap (λ (l : List ℕ). printed l (state_of old steps)) (first_of_rest cs n c lt e)
+    ∙ printed-over c (drop (n + 1) cs) (state_of old steps) (subst (λ (k : ℕ). IsOver old k) (size ∙ bytes_of_one c) h)
     ∙ ap (λ (x : Cells). ends no_cell (state_of x steps)) (sym same)
 
 -- no cell is left
@@ -182,3 +185,11 @@ stepped-taken s n go e = rw e refl
 
 pub stepped-none : {A : Type 0} (s : State) (go : State → Outcome A) → s.steps ≡ 0 → stepped s go ≡ ends no_step s
 stepped-none s go e = rw e refl
+
+-- the same, written otherwise
+pub Prints-as : (r : Result (Unit {0}) OpEnd) (new old : Printer) (heap : List Owned) (n m : ℕ) (f g : State → Outcome (List ℕ))
+    → g (moment heap old.purse m) ≡ f (moment heap old.purse m) → Prints r new old heap n m f → Prints r new old heap n m g
+Prints-as r new old heap n m f g e h = subst (λ (o : Outcome (List ℕ)). Writes r new.line (moment heap new.purse n) (added old.line o)) (sym e) h
+
+pub gap-none : (l : List ℕ) (s : State) → added l (printed [] s) ≡ gives l s
+gap-none l s = ap (λ (x : List ℕ). gives x s) (append-nil l)

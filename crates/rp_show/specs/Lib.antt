@@ -1,3 +1,4 @@
 pub mod Shown
 pub mod Show
 pub mod ShowView
+pub mod Prints

@@ -1,7 +1,7 @@
 -- How values are shown (Python Standard Library, str and repr). Each character costs its bytes, in order, and each element within a
 -- container a step before its text. Other way: each part gives a text of its own, of which each character is charged, and the parts are
 -- joined; the code writes all into one line, and charges a part at once where all of it fits.
-use Rattle.std.specs.Prelude.{ℕ, zero, suc, ◌==◌, Bool, List, [], ◌∷◌, ◌++◌, length, codes, encode_utf8_all, Option, Some, None, if◌then◌else◌, slice_index_or}
+use Rattle.std.specs.Prelude.{ℕ, zero, suc, ◌==◌, Bool, List, [], ◌∷◌, ◌++◌, length, codes, encode_utf8_all, Option, Some, None, if◌then◌else◌}
 use Rattle.std.specs.List.{list_any}
 use Rattle.std.specs.Option.{option_map_or}
 use Rattle.rp_base.specs.declared.value.Name.{Name}
@@ -19,12 +19,13 @@ use Rattle.rp_store.specs.Object as object
 use Rattle.rp_store.specs.Object.{Content}
 use Rattle.rp_ops.specs.Depth.{deepest, nested}
 use Rattle.rp_ops.specs.Outcome.{State, Outcome, gives, on_value, stepped, charged}
+use Rattle.rp_ops.specs.Words.{word_of}
 use Rattle.rp_show.specs.Shown.{shown_inside}
 
--- a text of which each character costs its bytes
-abbrev pub told : List ℕ → State → Outcome (List ℕ)
-told [] s = gives [] s
-told (c ∷ cs) s = charged (length (encode_utf8_all (c ∷ []))) s (λ s. on_value (told cs s) (λ t s. gives (c ∷ t) s))
+-- a text that is written, of which each character costs its bytes
+abbrev pub printed : List ℕ → State → Outcome (List ℕ)
+printed [] s = gives [] s
+printed (c ∷ cs) s = charged (length (encode_utf8_all (c ∷ []))) s (λ s. on_value (printed cs s) (λ t s. gives (c ∷ t) s))
 
 -- one text behind another
 abbrev pub followed : Outcome (List ℕ) → (State → Outcome (List ℕ)) → Outcome (List ℕ)
@@ -40,24 +41,23 @@ element show v s = stepped s (show v)
 
 -- an entry of a dict is one element: its key and its value
 abbrev pub entry : Showing → Key × (Rock × Value) → State → Outcome (List ℕ)
-entry show e s = stepped s (λ s. followed (told (shown_inside e.1.0 ++ codes ": ") s) (show e.1.1))
+entry show e s = stepped s (λ s. followed (printed (shown_inside e.1.0 ++ codes ": ") s) (show e.1.1))
 
 -- further elements, each behind a separator
 abbrev pub further : {A : Type 0} → (A → State → Outcome (List ℕ)) → List A → State → Outcome (List ℕ)
 further one [] s = gives [] s
-further one (x ∷ xs) s = followed (followed (told (codes ", ") s) (one x)) (further one xs)
+further one (x ∷ xs) s = followed (followed (printed (codes ", ") s) (one x)) (further one xs)
 
 abbrev pub separated : {A : Type 0} → (A → State → Outcome (List ℕ)) → List A → State → Outcome (List ℕ)
 separated one [] s = gives [] s
 separated one (x ∷ xs) s = followed (one x s) (further one xs)
 
 abbrev pub enclosed : List ℕ → List ℕ → (State → Outcome (List ℕ)) → State → Outcome (List ℕ)
-enclosed opening closing inside s = followed (followed (told opening s) inside) (told closing)
+enclosed opening closing inside s = followed (followed (printed opening s) inside) (printed closing)
 
 -- a tuple of one element ends with a comma
 abbrev pub tuple_end : List Value → List ℕ
-tuple_end (x ∷ []) = codes ",)"
-tuple_end xs = codes ")"
+tuple_end xs = if length xs == 1 then codes ",)" else codes ")"
 
 -- a container within itself
 abbrev pub cut_text : Content → List ℕ
@@ -71,11 +71,8 @@ is_among outer at = list_any (λ o. o.0 == at.0) outer
 
 -- where the names are these words
 module _ (names : List (List ℕ)) where
-  abbrev pub word : Name → List ℕ
-  word n = slice_index_or names n.0 []
-
   abbrev pub function_name : Option Name → List ℕ
-  function_name (Some n) = word n
+  function_name (Some n) = word_of names n
   function_name None = codes "<lambda>"
 
   abbrev pub function_word : Content → List ℕ
@@ -88,13 +85,13 @@ module _ (names : List (List ℕ)) where
   callee_word heap (callee.Native id) = native_name id
 
   abbrev pub class_word : Content → List ℕ
-  class_word (object.class name declared methods) = word name
+  class_word (object.class name declared methods) = word_of names name
   class_word c = []
 
   -- of an object that is no container
   abbrev pub object_text : List Owned → Content → List ℕ
   object_text heap (object.instance of fields) = codes "<" ++ option_map_or class_word (content_at heap of) [] ++ codes " object>"
-  object_text heap (object.class name declared methods) = codes "<class '" ++ word name ++ codes "'>"
+  object_text heap (object.class name declared methods) = codes "<class '" ++ word_of names name ++ codes "'>"
   object_text heap (object.function name unit block within defaults) = codes "<function " ++ function_name name ++ codes ">"
   object_text heap (object.method receiver called) = codes "<method " ++ callee_word heap called ++ codes ">"
   object_text heap c = []
@@ -104,15 +101,15 @@ module _ (names : List (List ℕ)) where
   content_shown inner (object.list xs) s = nested inner s (λ show. enclosed (codes "[") (codes "]") (separated (element show) xs) s)
   content_shown inner (object.tuple xs) s = nested inner s (λ show. enclosed (codes "(") (tuple_end xs) (separated (element show) xs) s)
   content_shown inner (object.dict es) s = nested inner s (λ show. enclosed (codes "{") (codes "}") (separated (entry show) es) s)
-  content_shown inner c s = told (object_text s.store.heap c) s
+  content_shown inner c s = printed (object_text s.store.heap c) s
 
   -- the object at a place, within containers at other places
   abbrev pub object_shown : (List Oid → Option Showing) → List Oid → Oid → State → Outcome (List ℕ)
   object_shown inner outer at s =
-      option_map_or (λ c. if is_among outer at then told (cut_text c) s else content_shown (inner (at ∷ outer)) c s) (content_at s.store.heap at) (gives [] s)
+      option_map_or (λ c. if is_among outer at then printed (cut_text c) s else content_shown (inner (at ∷ outer)) c s) (content_at s.store.heap at) (gives [] s)
 
   abbrev pub shown_by : (List Oid → Option Showing) → List Oid → Showing
-  shown_by inner outer (value.Rock r) s = told (shown_inside r) s
+  shown_by inner outer (value.Rock r) s = printed (shown_inside r) s
   shown_by inner outer (value.Ref at) s = object_shown inner outer at s
   shown_by inner outer (value.Prox at) s = object_shown inner outer at s
 
@@ -124,5 +121,5 @@ module _ (names : List (List ℕ)) where
   -- a text is handed on, an exception value is shown as its text, all else as within a container
   abbrev pub show : Value → State → Outcome (List ℕ)
   show (value.Rock (rock.Text t)) s = gives t s
-  show (value.Rock (rock.Exc k t)) s = told t s
+  show (value.Rock (rock.Exc k t)) s = printed t s
   show v s = shown deepest [] v s

@@ -1,20 +1,23 @@
-ghost use Rattle.std.specs.Prelude.{◌≡◌, ◌≤◌, ℕ, [], ◌∷◌, ◌++◌, OnOk, Some, option_map, reverse, slice_get, true};
+//! A value as its text: the walk over the containers within it.
+ghost use Rattle.std.specs.Prelude.{◌≡◌, ◌≤◌, ℕ, [], ◌∷◌, ◌++◌, OnOk, map, reverse, true};
+ghost use Rattle.std.specs.Option.{option_copied};
 ghost use Rattle.rp_ops.specs.Depth.{deepest};
 ghost use Rattle.rp_ops.specs.Outcome.{Meets, state_of};
-ghost use Rattle.rp_store.specs.Heap.{content_at};
-ghost use Rattle.rp_store.specs.Kept.{IsKept, IsSound};
-ghost use Rattle.rp_show.specs.Show.{is_among, object_shown, separated, show, shown, told};
+ghost use Rattle.rp_store.specs.Object.{content_of};
+ghost use Rattle.rp_show.specs.Show.{content_shown, enclosed, is_among, object_shown, printed, separated, show, shown};
 ghost use Rattle.rp_show.specs.Shown.{shown_inside};
-ghost use Rattle.rp_show.specs.ShowView.{Writes, added, container_shown, form_of, gap, inner, is_container, item_of, item_shown, items_at, rock_shown, turn};
+ghost use Rattle.rp_show.specs.ShowView.{cells_of, closing, element_item, entry_item, inner, is_container, item_of, items, object_within, opening, rock_shown, turn};
+ghost use Rattle.rp_show.specs.Prints.{Prints};
 
-use crate::form::Form;
-use crate::item::{Item, item_at, item_count};
-use crate::named::{form_at, tell_named};
-use crate::shown::{Shown, shown_inside};
-use crate::told::{charge_text, tell, tell_rock};
+use crate::brackets::{closing, cut_text, is_container, opening};
+use crate::named::print_named;
+use crate::printer::Printer;
+use crate::purse::Purse;
+use crate::shown::shown_inside;
 use rp_base::{Memory, Meter, Names, Oid, OpEnd, Rock, Text, Value};
+use rp_dict::Dict;
 use rp_ops::{Refusal, step};
-use rp_store::Store;
+use rp_store::{Key, Object, Store};
 use std::alloc::Global;
 
 /// At most so many containers within one another are shown.
@@ -23,19 +26,18 @@ const DEEPEST: usize = 200;
 /// What is written so far, and the places of the containers around it, the outermost first.
 #[derive(Drop)]
 struct Page {
-    alloc: Global,
-    line: Shown,
+    printer: Printer,
     outer: Vec<Oid>,
 }
 
 impl Page {
-    fn new(alloc: Global) -> Page
-        ensures line { result.line ≡ [] }
+    fn new(alloc: Global, store: &Store) -> Page
+        ensures line { result.printer.line ≡ [] }
+        ensures purse { cells_of store.now.heap result.printer.purse ≡ store.now }
         ensures outer { result.outer.items ≡ [] }
     {
         Page {
-            alloc,
-            line: Shown::new(alloc),
+            printer: Printer::new(alloc, store),
             outer: Vec::new(alloc),
         }
     }
@@ -43,7 +45,8 @@ impl Page {
 
 /// A value as its text (Python Standard Library, str): a text itself, an exception value its text, all else as inside a
 /// container. A text itself costs nothing; of all else each character costs its bytes in cells, and each element within a
-/// container takes a step before its text. No answer gives a step back.
+/// container takes a step before its text. No answer gives a step back. Showing an element takes a time that grows with
+/// its own text and with the number of the containers around it, whatever else the container holds.
 ///
 /// # Errors
 /// `Raised` with a `RecursionError` and the text `depth` at a container within 200 others that is none of them, `StopSteps`
@@ -57,8 +60,6 @@ pub fn show(
     names: &Names,
     a: &Value,
 ) -> Result<Text, OpEnd>
-    requires kept { IsKept store.old.heap }
-    requires a { IsSound store.old.heap a.now }
     ensures plain { Meets result (state_of store.new meter.new.left) (show names.now a.now (state_of store.old meter.old.left)) }
     ensures same { store.new.heap ≡ store.old.heap }
     ensures fewer { meter.new.left ≤ meter.old.left }
@@ -86,7 +87,7 @@ fn show_rock(alloc: Global, store: &mut Store, rock: &Rock) -> Result<Text, OpEn
 }
 
 fn show_plain(alloc: Global, store: &mut Store, rock: &Rock) -> Result<Text, OpEnd>
-    ensures plain { (steps : ℕ) → Meets result (state_of store.new steps) (told (shown_inside rock.now) (state_of store.old steps)) }
+    ensures plain { (steps : ℕ) → Meets result (state_of store.new steps) (printed (shown_inside rock.now) (state_of store.old steps)) }
     ensures same { store.new.heap ≡ store.old.heap }
 {
     let text = shown_inside(alloc, rock)?;
@@ -94,14 +95,17 @@ fn show_plain(alloc: Global, store: &mut Store, rock: &Rock) -> Result<Text, OpE
 }
 
 fn charged(store: &mut Store, text: Text) -> Result<Text, OpEnd>
-    ensures plain { (steps : ℕ) → Meets result (state_of store.new steps) (told text (state_of store.old steps)) }
+    ensures plain { (steps : ℕ) → Meets result (state_of store.new steps) (printed text (state_of store.old steps)) }
     ensures same { store.new.heap ≡ store.old.heap }
 {
-    charge_text(store, text.as_str())?;
+    let mut purse = Purse::of(store);
+    let charged = purse.charge(text.as_str());
+    purse.settle(store);
+    charged?;
     Ok(text)
 }
 
-pub(crate) fn show_at(
+fn show_at(
     alloc: Global,
     store: &mut Store,
     meter: &mut Meter,
@@ -112,29 +116,29 @@ pub(crate) fn show_at(
     ensures same { store.new.heap ≡ store.old.heap }
     ensures fewer { meter.new.left ≤ meter.old.left }
 {
-    let mut page = Page::new(alloc);
-    show_object(store, meter, names, &mut page, DEEPEST, at)?;
-    let text = Text::new(alloc, page.line.as_str())?;
-    Ok(text)
+    let mut page = Page::new(alloc, store);
+    let shown = show_object(store, meter, names, &mut page, DEEPEST, at);
+    page.printer.purse.settle(store);
+    shown?;
+    Ok(page.printer.line.into_text(alloc)?)
 }
 
 /// Shows a value within containers, where so many may lie within one another in it.
 #[cycle(show)]
 fn show_value(
-    store: &mut Store,
+    store: &Store,
     meter: &mut Meter,
     names: &Names,
     page: &mut Page,
     left: usize,
     value: &Value,
 ) -> Result<(), OpEnd>
-    ensures plain { Writes result page.new.line (state_of store.new meter.new.left) (added page.old.line (shown names.now left (reverse page.old.outer.items) value.now (state_of store.old meter.old.left))) }
-    ensures same { store.new.heap ≡ store.old.heap }
+    ensures plain { Prints result page.new.printer page.old.printer store.now.heap meter.new.left meter.old.left (shown names.now left (reverse page.old.outer.items) value.now) }
     ensures fewer { meter.new.left ≤ meter.old.left }
     ensures outer { OnOk result (page.new.outer.items ≡ page.old.outer.items) }
 {
     match value {
-        Value::Rock(rock) => tell_rock(page.alloc, store, &mut page.line, rock),
+        Value::Rock(rock) => page.printer.print_rock(rock),
         Value::Ref(at) => show_object(store, meter, names, page, left, *at),
         Value::Prox(at) => show_object(store, meter, names, page, left, *at),
     }
@@ -142,48 +146,45 @@ fn show_value(
 
 #[cycle(show)]
 fn show_object(
-    store: &mut Store,
+    store: &Store,
     meter: &mut Meter,
     names: &Names,
     page: &mut Page,
     left: usize,
     at: Oid,
 ) -> Result<(), OpEnd>
-    ensures plain { Writes result page.new.line (state_of store.new meter.new.left) (added page.old.line (object_shown names.now (inner names.now left) (reverse page.old.outer.items) at (state_of store.old meter.old.left))) }
-    ensures same { store.new.heap ≡ store.old.heap }
+    ensures plain { Prints result page.new.printer page.old.printer store.now.heap meter.new.left meter.old.left (object_shown names.now (inner names.now left) (reverse page.old.outer.items) at) }
     ensures fewer { meter.new.left ≤ meter.old.left }
     ensures outer { OnOk result (page.new.outer.items ≡ page.old.outer.items) }
 {
-    match form_at(store, at) {
-        Some(form) => show_form(store, meter, names, page, left, at, form),
+    match store.get(at) {
+        Some(object) => show_content(store, meter, names, page, left, at, object),
         None => Ok(()),
     }
 }
 
-/// Shows the object at a place, whose form is known.
+/// Shows an object that stands at a place.
 #[cycle(show)]
-fn show_form(
-    store: &mut Store,
+fn show_content(
+    store: &Store,
     meter: &mut Meter,
     names: &Names,
     page: &mut Page,
     left: usize,
     at: Oid,
-    form: Form,
+    object: &Object,
 ) -> Result<(), OpEnd>
-    requires { option_map form_of (content_at store.old.heap at) ≡ Some form }
-    ensures plain { Writes result page.new.line (state_of store.new meter.new.left) (added page.old.line (object_shown names.now (inner names.now left) (reverse page.old.outer.items) at (state_of store.old meter.old.left))) }
-    ensures same { store.new.heap ≡ store.old.heap }
+    ensures plain { Prints result page.new.printer page.old.printer store.now.heap meter.new.left meter.old.left (object_within names.now left (reverse page.old.outer.items) at (content_of object.now)) }
     ensures fewer { meter.new.left ≤ meter.old.left }
     ensures outer { OnOk result (page.new.outer.items ≡ page.old.outer.items) }
 {
     if is_among(page.outer.as_slice(), at) {
-        return tell(store, &mut page.line, form.cut());
+        return page.printer.print(cut_text(object));
     }
-    if form.is_container() {
-        return show_container(store, meter, names, page, left, at, form);
+    if is_container(object) {
+        return show_container(store, meter, names, page, left, at, object);
     }
-    tell_named(store, names, &mut page.line, form, at)
+    print_named(store, names, &mut page.printer, object)
 }
 
 fn is_among(outer: &[Oid], at: Oid) -> bool
@@ -195,28 +196,24 @@ fn is_among(outer: &[Oid], at: Oid) -> bool
 /// Shows a container that does not lie within itself.
 #[cycle(show)]
 fn show_container(
-    store: &mut Store,
+    store: &Store,
     meter: &mut Meter,
     names: &Names,
     page: &mut Page,
     left: usize,
     at: Oid,
-    form: Form,
+    object: &Object,
 ) -> Result<(), OpEnd>
-    requires form { option_map form_of (content_at store.old.heap at) ≡ Some form }
-    requires container { is_container form ≡ true }
-    ensures plain { Writes result page.new.line (state_of store.new meter.new.left) (added page.old.line (container_shown names.now left (at ∷ reverse page.old.outer.items) at (state_of store.old meter.old.left))) }
-    ensures same { store.new.heap ≡ store.old.heap }
+    requires container { is_container (content_of object.now) ≡ true }
+    ensures plain { Prints result page.new.printer page.old.printer store.now.heap meter.new.left meter.old.left (content_shown names.now (inner names.now left (at ∷ reverse page.old.outer.items)) (content_of object.now)) }
     ensures fewer { meter.new.left ≤ meter.old.left }
     ensures outer { OnOk result (page.new.outer.items ≡ page.old.outer.items) }
 {
     if left == 0 {
-        return Err(Refusal::Depth.end(page.alloc));
+        return Err(Refusal::Depth.end(page.printer.alloc));
     }
     enter(&mut page.outer, at)?;
-    tell(store, &mut page.line, form.opening())?;
-    show_items(store, meter, names, page, left - 1, at)?;
-    tell(store, &mut page.line, form.closing())?;
+    show_enclosed(store, meter, names, page, left - 1, object)?;
     page.outer.pop();
     Ok(())
 }
@@ -228,76 +225,112 @@ fn enter(outer: &mut Vec<Oid>, at: Oid) -> Result<(), Memory>
     Ok(())
 }
 
-/// Shows the elements or the entries of the container at a place.
+/// Shows a container that has been entered.
 #[cycle(show)]
-fn show_items(
-    store: &mut Store,
+fn show_enclosed(
+    store: &Store,
     meter: &mut Meter,
     names: &Names,
     page: &mut Page,
     left: usize,
-    at: Oid,
+    object: &Object,
 ) -> Result<(), OpEnd>
-    ensures plain { Writes result page.new.line (state_of store.new meter.new.left) (added page.old.line (separated (item_of names.now left (reverse page.old.outer.items)) (items_at store.old.heap at) (state_of store.old meter.old.left))) }
-    ensures same { store.new.heap ≡ store.old.heap }
+    ensures plain { Prints result page.new.printer page.old.printer store.now.heap meter.new.left meter.old.left (enclosed (opening (content_of object.now)) (closing (content_of object.now)) (separated (item_of names.now left (reverse page.old.outer.items)) (items (content_of object.now)))) }
     ensures fewer { meter.new.left ≤ meter.old.left }
     ensures outer { OnOk result (page.new.outer.items ≡ page.old.outer.items) }
 {
-    for i in 0..item_count(store, at) {
-        show_item(store, meter, names, page, left, at, i)?;
+    page.printer.print(opening(object))?;
+    show_items(store, meter, names, page, left, object)?;
+    page.printer.print(closing(object))
+}
+
+/// Shows the elements or the entries of a container.
+#[cycle(show)]
+fn show_items(
+    store: &Store,
+    meter: &mut Meter,
+    names: &Names,
+    page: &mut Page,
+    left: usize,
+    object: &Object,
+) -> Result<(), OpEnd>
+    ensures plain { Prints result page.new.printer page.old.printer store.now.heap meter.new.left meter.old.left (separated (item_of names.now left (reverse page.old.outer.items)) (items (content_of object.now))) }
+    ensures fewer { meter.new.left ≤ meter.old.left }
+    ensures outer { OnOk result (page.new.outer.items ≡ page.old.outer.items) }
+{
+    match object {
+        Object::List(elements) => show_elements(store, meter, names, page, left, elements),
+        Object::Tuple(elements) => show_elements(store, meter, names, page, left, elements),
+        Object::Dict(entries) => show_entries(store, meter, names, page, left, entries),
+        Object::Instance { .. } => Ok(()),
+        Object::Class { .. } => Ok(()),
+        Object::Function { .. } => Ok(()),
+        Object::Method { .. } => Ok(()),
+        Object::Scope { .. } => Ok(()),
+    }
+}
+
+#[cycle(show)]
+fn show_elements(
+    store: &Store,
+    meter: &mut Meter,
+    names: &Names,
+    page: &mut Page,
+    left: usize,
+    elements: &[Value],
+) -> Result<(), OpEnd>
+    ensures plain { Prints result page.new.printer page.old.printer store.now.heap meter.new.left meter.old.left (separated (item_of names.now left (reverse page.old.outer.items)) (map element_item elements.now)) }
+    ensures fewer { meter.new.left ≤ meter.old.left }
+    ensures outer { OnOk result (page.new.outer.items ≡ page.old.outer.items) }
+{
+    let mut first = true;
+    for element in elements {
+        show_item(store, meter, names, page, left, first, None, element)?;
+        first = false;
     }
     Ok(())
 }
 
 #[cycle(show)]
-fn show_item(
-    store: &mut Store,
+fn show_entries(
+    store: &Store,
     meter: &mut Meter,
     names: &Names,
     page: &mut Page,
     left: usize,
-    at: Oid,
-    i: usize,
+    entries: &Dict<Key, (Rock, Value)>,
 ) -> Result<(), OpEnd>
-    ensures plain { Writes result page.new.line (state_of store.new meter.new.left) (added page.old.line (item_shown names.now left (reverse page.old.outer.items) i (slice_get (items_at store.old.heap at) i) (state_of store.old meter.old.left))) }
-    ensures same { store.new.heap ≡ store.old.heap }
+    ensures plain { Prints result page.new.printer page.old.printer store.now.heap meter.new.left meter.old.left (separated (item_of names.now left (reverse page.old.outer.items)) (map entry_item entries.now)) }
     ensures fewer { meter.new.left ≤ meter.old.left }
     ensures outer { OnOk result (page.new.outer.items ≡ page.old.outer.items) }
 {
-    match item_at(store, at, i)? {
-        Some(item) => show_turn(store, meter, names, page, left, i, item),
-        None => Ok(()),
+    let mut first = true;
+    let mut walk = entries.walk();
+    while let Some((_, (key, value))) = walk.next() {
+        show_item(store, meter, names, page, left, first, Some(key), value)?;
+        first = false;
     }
+    Ok(())
 }
 
-/// Shows the item at an index, behind a separator where it is not the first.
+/// Shows an element, or an entry with its key, behind a separator where it is not the first.
 #[cycle(show)]
-fn show_turn(
-    store: &mut Store,
+fn show_item(
+    store: &Store,
     meter: &mut Meter,
     names: &Names,
     page: &mut Page,
     left: usize,
-    i: usize,
-    item: Item,
+    first: bool,
+    key: Option<&Rock>,
+    value: &Value,
 ) -> Result<(), OpEnd>
-    ensures plain { Writes result page.new.line (state_of store.new meter.new.left) (added page.old.line (turn (item_of names.now left (reverse page.old.outer.items)) i item (state_of store.old meter.old.left))) }
-    ensures same { store.new.heap ≡ store.old.heap }
+    ensures plain { Prints result page.new.printer page.old.printer store.now.heap meter.new.left meter.old.left (turn (item_of names.now left (reverse page.old.outer.items)) first (record { key = option_copied key.entry; value = value.now })) }
     ensures fewer { meter.new.left ≤ meter.old.left }
     ensures outer { OnOk result (page.new.outer.items ≡ page.old.outer.items) }
 {
-    separate(store, &mut page.line, i)?;
+    page.printer.separate(first)?;
     step(meter)?;
-    item.tell_key(page.alloc, store, &mut page.line)?;
-    show_value(store, meter, names, page, left, &item.value)
-}
-
-fn separate(store: &mut Store, line: &mut Shown, i: usize) -> Result<(), OpEnd>
-    ensures plain { (steps : ℕ) → Writes result line.new (state_of store.new steps) (added line.old (told (gap i) (state_of store.old steps))) }
-    ensures same { store.new.heap ≡ store.old.heap }
-{
-    if i == 0 {
-        return Ok(());
-    }
-    tell(store, line, ", ")
+    page.printer.print_key(key)?;
+    show_value(store, meter, names, page, left, value)
 }

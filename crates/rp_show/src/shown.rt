@@ -1,3 +1,4 @@
+//! Rocks as they are shown inside a container, written into a growing text.
 ghost use Rattle.std.specs.Prelude.{◌≡◌, ◌<◌, ◌++◌, ◌∷◌, [], chars, encode_utf8_all, if◌then◌else◌, length, IfOk, OnOk};
 ghost use Rattle.std.specs.Char.{digit_char};
 ghost use Rattle.std.specs.Fmt.{signed_decimal};
@@ -11,11 +12,11 @@ use std::marker::Model;
 
 /// A growing text, seen as the list of its characters.
 #[derive(Drop)]
-pub(crate) struct Shown {
+pub(crate) struct Line {
     text: String,
 }
 
-impl Model for Shown {
+impl Model for Line {
     ghost use Rattle.std.specs.Prelude.{ℕ, List, chars, string_bytes};
 
     ghost Value = { List ℕ };
@@ -30,27 +31,29 @@ impl Model for Shown {
 pub fn shown_inside(alloc: Global, rock: &Rock) -> Result<Text, Memory>
     ensures { IfOk result (λ t. t ≡ shown_inside rock.now) }
 {
-    let mut shown = Shown::new(alloc);
-    shown.add_rock(rock)?;
-    Text::new(alloc, shown.as_str())
+    let mut line = Line::new(alloc);
+    line.add_rock(rock)?;
+    line.into_text(alloc)
 }
 
-impl Shown {
-    pub(crate) fn new(alloc: Global) -> Shown
+impl Line {
+    pub(crate) fn new(alloc: Global) -> Line
         ensures { result ≡ [] }
     {
-        Shown {
+        Line {
             text: String::new(alloc),
         }
     }
 
-    pub(crate) fn as_str(&self) -> &str
-        ensures { chars result.now ≡ self.now }
+    /// The text, handed on.
+    pub(crate) fn into_text(self, alloc: Global) -> Result<Text, Memory>
+        ensures { IfOk result (λ t. t ≡ self) }
     {
-        self.text.as_str()
+        Text::from_string(alloc, self.text)
     }
 
     /// The number of bytes.
+    #[inline(always)]
     pub(crate) fn len(&self) -> usize
         ensures { result ≡ length (encode_utf8_all self.now) }
     {
@@ -64,6 +67,7 @@ impl Shown {
         Ok(())
     }
 
+    #[inline(always)]
     fn push(&mut self, c: char) -> Result<(), Memory>
         ensures { OnOk result (self.new ≡ self.old ++ c ∷ []) }
     {
@@ -172,12 +176,14 @@ impl Shown {
     }
 }
 
+#[inline(always)]
 fn is_control(c: char) -> bool
     ensures { result ≡ is_control c }
 {
     (c as u32) < 32 || c as u32 == 127
 }
 
+#[inline(always)]
 fn hex_digit(n: u32) -> char
     requires { n < 16 }
     ensures { result ≡ digit_char n }

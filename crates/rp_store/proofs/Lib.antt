@@ -1,3 +1,5 @@
 pub mod CallerLemmas
 mod HeapLemmas
 mod Keys
+mod Readings
+pub mod Shapes

@@ -1,9 +1,11 @@
 pub mod Cost
+pub mod Fault
 pub mod Heap
 pub mod Kept
 pub mod Key
 pub mod Object
 pub mod Parts
+pub mod Shape
 pub mod Store
 pub mod View
 pub mod Writers

@@ -1,3 +1,5 @@
+//! Why a text has no tokens.
+
 ghost use Rattle.std.specs.Prelude.{◌≡◌};
 ghost use Rattle.rp_token.specs.declared.fault.TokenFault.TheVariants.{Memory as OutOfMemory};
 

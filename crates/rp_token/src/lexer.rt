@@ -1,3 +1,5 @@
+//! The reader of tokens.
+
 ghost use Rattle.std.specs.Prelude.{◌+◌, ◌<◌, ◌^◌, chars, length};
 ghost use Rattle.std.specs.Str.{IsUtf8};
 

@@ -13,8 +13,6 @@ mod literal;
 mod number;
 mod spelling;
 mod stack;
-#[cfg(test)]
-mod tests;
 mod text;
 mod token;
 mod word;

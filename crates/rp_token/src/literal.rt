@@ -1,3 +1,5 @@
+//! Text literals.
+
 ghost use Rattle.std.specs.Prelude.{◌≡◌, ◌<◌, ◌+◌, ◌^◌, ◌==◌, [], List, ℕ, ◌∷◌, chars, drop, length, nat_eq, IfOk, IfSome, MatchOption, Some, None, true, false};
 ghost use Rattle.std.specs.List.{starts_with};
 ghost use Rattle.std.specs.Str.{IsUtf8};

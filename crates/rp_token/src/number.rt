@@ -1,3 +1,5 @@
+//! Number literals.
+
 ghost use Rattle.std.specs.Prelude.{◌≡◌, ◌≤◌, ◌==◌, ◌||◌, chars, drop, if◌then◌else◌, option_and_then, option_map, pos};
 ghost use Rattle.std.specs.List.{list_all};
 ghost use Rattle.rp_token.specs.Characters.{first};

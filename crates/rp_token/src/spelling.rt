@@ -1,3 +1,5 @@
+//! The spellings of keywords and marks.
+
 ghost use Rattle.std.specs.Prelude.{◌≡◌, ℕ, ◌<◌, ◌≤◌, [], List, MatchOption, None, chars, drop, false, find, length, nat_eq, slice_index_or, take, true};
 ghost use Rattle.std.specs.List.{starts_with};
 ghost use Rattle.rp_base.specs.Keyword.{is_keyword, keywords};

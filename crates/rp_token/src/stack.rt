@@ -1,3 +1,5 @@
+//! Numbers one on another.
+
 ghost use Rattle.std.specs.Prelude.{◌≡◌, [], ◌∷◌, ◌==◌, length, drop, OnOk};
 ghost use Rattle.rp_token.specs.Characters.{first};
 

@@ -1,3 +1,5 @@
+//! The front of a text.
+
 ghost use Rattle.std.specs.Prelude.{◌≡◌, ◌<◌, ◌==◌, ◌||◌, ◌^◌, chars, drop, length, nat_lt, take_while};
 ghost use Rattle.std.specs.List.{list_any};
 ghost use Rattle.std.specs.Str.{IsUtf8};

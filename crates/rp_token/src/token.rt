@@ -1,3 +1,5 @@
+//! Tokens.
+
 use rp_base::{Line, Name, Text};
 
 /// What a token is: a name, a number, a text literal, what shows the lines and blocks, a keyword, or a

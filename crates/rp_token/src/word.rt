@@ -1,3 +1,5 @@
+//! Words: keywords and names.
+
 ghost use Rattle.std.specs.Prelude.{◌≡◌, ◌++◌, ℕ, List, IfOk, IsTrue, chars, false, option_map, true};
 ghost use Rattle.rp_base.specs.Identifier.{IsIdentifier, is_identifier};
 ghost use Rattle.rp_base.specs.Keyword.{is_keyword};
@@ -7,13 +9,10 @@ ghost use Rattle.rp_token.specs.View.{form_view};
 
 use crate::spelling::keyword;
 use crate::token::TokenKind;
-use rp_base::{Memory, Names, identifier, is_keyword};
+use rp_base::{LONGEST_NAME, Memory, Names, identifier, is_keyword};
 use std::alloc::Global;
 
-/// The most bytes of UTF-8 that an identifier has.
-const LONGEST: usize = 255;
-
-/// The keyword or the name that a word is: its form NFKC, which is an identifier of at most 255 bytes
+/// The keyword or the name that a word is: its form NFKC, which is an identifier of at most `LONGEST_NAME` bytes
 /// and no keyword. `None` where it is neither.
 ///
 /// # Errors
@@ -42,7 +41,7 @@ fn is_plain(word: &str) -> bool
     requires { is_identifier (chars word.now) ≡ true }
     ensures { IsTrue result → IsIdentifier (chars word.now) }
 {
-    word.is_ascii() && word.len() <= LONGEST
+    word.is_ascii() && word.len() <= LONGEST_NAME
 }
 
 /// The name of the word's form, where it has one that is no keyword.

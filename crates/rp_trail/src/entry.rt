@@ -1,3 +1,5 @@
+//! Decisions and their verdicts.
+
 use rp_base::{ClassTag, Op};
 use rp_decl::{Perm, Row};
 

@@ -1,3 +1,5 @@
+//! The decisions so far, and the line of each.
+
 ghost use Rattle.std.specs.Prelude.{◌≡◌, ◌++◌, ◌+◌, ◌<◌, ◌↔◌, [], ◌∷◌, IfOk, IsTrue, OnErr, OnOk, chars, length, string_bytes};
 ghost use Rattle.rp_store.specs.Store.{IsOver};
 

@@ -1,3 +1,5 @@
+//! The words of a line: session, operation, class and permission.
+
 ghost use Rattle.std.specs.Prelude.{◌≡◌, ◌<◌, ◌++◌, ◌∷◌, IfOk, OnOk, chars, codes, length, string_bytes, unwrap_or};
 ghost use Rattle.std.specs.Fmt.{decimal};
 ghost use Rattle.rp_decl.specs.Places.{IsHeld};

@@ -1,3 +1,2 @@
 pub mod ExpressionEquations
 pub mod StatementEquations
-pub mod Ends

@@ -1,3 +1,5 @@
+//! Expressions and their parts.
+
 use crate::parts::{Const, Guard, Named, Test};
 use rp_base::{BinOp, Line, Name, Text, UnOp};
 

@@ -1,3 +1,5 @@
+//! The small parts of trees: names, guard marks, constants, comparison operators.
+
 use rp_base::{CmpOp, Line, Name};
 
 /// A name (Python Language Reference, Identifiers) and the line that it stands on.

@@ -1,3 +1,5 @@
+//! Statements and their parts.
+
 ghost use Rattle.std.specs.Prelude.{◌≡◌};
 ghost use Rattle.rp_tree.specs.StatementViews.{block_items};
 

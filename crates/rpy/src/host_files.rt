@@ -1,12 +1,15 @@
+//! The real files.
+
 ghost use Rattle.std.specs.Prelude.{◌≡◌, None, is_some, unwrap_or, []};
 
-use rp_base::{Failed, Files, NoFile, Text};
+use rp_base::{Failed, Files, NoFile, Seed, Text};
 use std::io::{ErrorKind, Read};
+use std::random::RandomSource;
 use std::rt::Files as SystemFiles;
 
 /// The real files. What they hold is not told.
 #[derive(Drop)]
-pub struct HostFiles<R: SystemFiles + Drop> {
+pub struct HostFiles<R: SystemFiles + RandomSource + Drop> {
     system: R,
     file: Option<R::File>,
     last_path: Option<Text>,
@@ -14,7 +17,7 @@ pub struct HostFiles<R: SystemFiles + Drop> {
     faults: u64,
 }
 
-impl<R: SystemFiles + Drop> HostFiles<R> {
+impl<R: SystemFiles + RandomSource + Drop> HostFiles<R> {
     /// The files of the system, before the first is begun.
     pub fn new(system: R) -> Self
         ensures unread { result.begun ≡ 0 }
@@ -30,7 +33,7 @@ impl<R: SystemFiles + Drop> HostFiles<R> {
     }
 }
 
-impl<R: SystemFiles + Drop> Files for HostFiles<R> {
+impl<R: SystemFiles + RandomSource + Drop> Files for HostFiles<R> {
     ghost contents = { λ _. None };
 
     ghost rest = { λ _. None };
@@ -73,5 +76,13 @@ impl<R: SystemFiles + Drop> Files for HostFiles<R> {
             self.file = None;
         }
         Ok(count)
+    }
+
+    fn seed(&self) -> Seed {
+        let mut bytes = [0; 16];
+        if self.system.fill_bytes(&mut bytes).is_err() {
+            return Seed::from_bytes([0; 16]);
+        }
+        Seed::from_bytes(bytes)
     }
 }

@@ -1,3 +1,5 @@
+//! Standard output.
+
 ghost use Rattle.std.specs.Prelude.{◌≡◌, None};
 
 use rp_base::{Failed, Sink};

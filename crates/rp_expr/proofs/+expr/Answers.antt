@@ -148,28 +148,28 @@ pub operators::tests-items-preserved : goal.operators::tests-items-preserved
 operators::tests-items-preserved t c =
     let rest = c.items.rest.now in
     let begun : r.at_test rest ≡ true = sym c.at_test.ensures ∙ c.items-test.true in
-    let read : (r.test (r.readers c.args.depth)) rest ≡ Some (v.view_test c.in_ok-item.item, c.in_ok-item.after.now) = c.in_ok-item.ensures in
-    many_keeps tree.no_tests r.with_test r.at_test (r.test (r.readers c.args.depth)) (tests_short c.args.depth) v.view_test _ c.items.found.items c.push.new.self.items c.in_ok-item.item rest c.in_ok-item.after.now c.in_ok-push.ensures.items c.items.invariant begun read
+    let read : (r.comparison (r.readers c.args.depth)) rest ≡ Some (v.view_test c.in_ok-item.item, c.in_ok-item.after.now) = c.in_ok-item.ensures in
+    many_keeps tree.no_tests r.with_test r.at_test (r.comparison (r.readers c.args.depth)) (tests_short c.args.depth) v.view_test _ c.items.found.items c.push.new.self.items c.in_ok-item.item rest c.in_ok-item.after.now c.in_ok-push.ensures.items c.items.invariant begun read
 
 pub operators::tests-items-smaller : goal.operators::tests-items-smaller
 operators::tests-items-smaller t c =
     let rest = c.items.rest.now in
     let begun : r.at_test rest ≡ true = sym c.at_test.ensures ∙ c.items-test.true in
-    let read : (r.test (r.readers c.args.depth)) rest ≡ Some (v.view_test c.in_ok-item.item, c.in_ok-item.after.now) = c.in_ok-item.ensures in
+    let read : (r.comparison (r.readers c.args.depth)) rest ≡ Some (v.view_test c.in_ok-item.item, c.in_ok-item.after.now) = c.in_ok-item.ensures in
     tests_short c.args.depth rest (v.view_test c.in_ok-item.item, c.in_ok-item.after.now) begun read
 
 pub operators::tests-returns : goal.operators::tests-returns
 operators::tests-returns t c =
     let rest = c.items.rest.now in
     let over : r.at_test rest ≡ false = sym c.at_test.ensures ∙ c.items-test.false in
-    many_ends tree.no_tests r.with_test r.at_test (r.test (r.readers c.args.depth)) (tests_short c.args.depth) _ (map v.view_test c.items.found.items) rest c.items.invariant over ∙ ap (λ (l : tree.Tests). answered l rest) (front_tests (map v.view_test c.items.found.items))
+    many_ends tree.no_tests r.with_test r.at_test (r.comparison (r.readers c.args.depth)) (tests_short c.args.depth) _ (map v.view_test c.items.found.items) rest c.items.invariant over ∙ ap (λ (l : tree.Tests). answered l rest) (front_tests (map v.view_test c.items.found.items))
 
 pub operators::tests-returns-in_err-item : goal.operators::tests-returns-in_err-item
 operators::tests-returns-in_err-item t c =
     let rest = c.items.rest.now in
     let begun : r.at_test rest ≡ true = sym c.at_test.ensures ∙ c.items-test.true in
     let p = err_from_is_err_and c.from_residual.result c.from_residual.ensures.1 in
-    rw (p.1, p.2) (many_fails tree.no_tests r.with_test r.at_test (r.test (r.readers c.args.depth)) (tests_short c.args.depth) c.in_err-item.field-0.0 _ (map v.view_test c.items.found.items) rest c.items.invariant begun c.in_err-item.ensures)
+    rw (p.1, p.2) (many_fails tree.no_tests r.with_test r.at_test (r.comparison (r.readers c.args.depth)) (tests_short c.args.depth) c.in_err-item.field-0.0 _ (map v.view_test c.items.found.items) rest c.items.invariant begun c.in_err-item.ensures)
 
 pub operators::ands-items-init : goal.operators::ands-items-init
 unfolding r.ands

@@ -196,7 +196,7 @@ abbrev pub decreases-operators::operations-items : goal.decreases-operators::ope
 decreases-operators::operations-items l = length l.rest
 
 abbrev pub invariant-operators::tests-items : goal.invariant-operators::tests-items
-invariant-operators::tests-items l = r.tests (r.readers l.depth) l.fn.tokens ≡ before (front r.with_test (map v.view_test l.found.items)) (all_many t.no_tests r.with_test r.at_test (r.test (r.readers l.depth)) l.rest)
+invariant-operators::tests-items l = r.tests (r.readers l.depth) l.fn.tokens ≡ before (front r.with_test (map v.view_test l.found.items)) (all_many t.no_tests r.with_test r.at_test (r.comparison (r.readers l.depth)) l.rest)
 
 abbrev pub decreases-operators::tests-items : goal.decreases-operators::tests-items
 decreases-operators::tests-items l = length l.rest

@@ -9,5 +9,5 @@ pub returns-in-Dict-clause-plain : goal.returns-in-Dict-clause-plain
 returns-in-Dict-clause-plain c =
     let old = c.args.store.now in
     (λ steps. subst (λ (o : Outcome (Unit {0})). Meets c.del_entry.result (state_of c.del_entry.new.store steps) o)
-    (sym (entries-deleted old.heap c.args.at c.in-Dict.field-0 c.args.i.now (state_of old steps) (c.object.ensures ∙ ap (λ (o : Object). Some (content_of o)) c.in-Dict.is)))
+    (sym (entries-deleted old.heap c.args.at c.in-Dict.field-0 c.args.i.now (state_of old steps) (c.object.ensures.content ∙ ap (λ (o : Object). Some (content_of o)) c.in-Dict.is)))
     (c.del_entry.ensures.plain steps))

@@ -10,4 +10,4 @@ pub returns-in-Dict-clause-plain : goal.returns-in-Dict-clause-plain
 returns-in-Dict-clause-plain c =
     (λ steps. let s = state_of c.args.store.now steps in
     subst (λ (x : Option Content). Meets c.set_entry.result (state_of c.set_entry.new.store steps) (option_map_or (λ d. content_set c.args.at d c.args.i.now c.args.v s) x (no_items s)))
-    (sym (c.object.ensures ∙ ap (λ (o : Object). Some (content_of o)) c.in-Dict.is)) (c.set_entry.ensures.plain steps))
+    (sym (c.object.ensures.content ∙ ap (λ (o : Object). Some (content_of o)) c.in-Dict.is)) (c.set_entry.ensures.plain steps))

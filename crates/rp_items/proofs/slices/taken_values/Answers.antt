@@ -1,9 +1,8 @@
-use Rattle.std.proofs.Common.{ℕ, List, [], ◌∷◌, ◌++◌, filter_map, length, map, slice_get, ◌∙◌, ap, sym}
+use Rattle.std.proofs.Common.{ℕ, List, [], ◌∷◌, ◌++◌, filter_map, length, slice_get, ◌∙◌, ap, sym}
 use Rattle.std.specs.List.{range_with_len}
 use Rattle.rp_base.specs.declared.value.Value.{Value}
-use Rattle.rp_ops.specs.View.{handed}
 use Rattle.rp_items.specs.SliceView.{place_at}
-use Rattle.rp_items.proofs.Sliced.{handed-more, read-at}
+use Rattle.rp_items.proofs.Sliced.{read-at}
 use Rattle.rp_items.proofs.SlicePlaces.{taken-more}
 use Rattle.rp_items.proofs.slices.taken_values.Goals as goal
 
@@ -14,11 +13,9 @@ pub loop-m-preserved : goal.loop-m-preserved
 loop-m-preserved c =
     let vs = c.args.values.now in
     let p = c.args.places in
-    let seen = handed c.args.lent in
     let h = λ (k : ℕ). slice_get vs (place_at p k) in
     let value = c.index-values-at.result in
     let so_far = filter_map h (range_with_len 0 c.loop-m.m) in
-    c.in_ok-push.ensures.items ∙ ap (λ (l : List Value). l ++ c.in_ok-handed.field-0 ∷ []) c.loop-m.invariant
-    ∙ ap (λ (v : Value). map seen so_far ++ v ∷ []) c.in_ok-handed.ensures
-    ∙ handed-more seen so_far value
-    ∙ ap (map seen) (sym (taken-more h c.loop-m.m value (read-at vs p c.loop-m.m c.at.result value c.at.ensures c.loop-m-test.true c.requires.within c.index-values-at.is)))
+    c.in_ok-push.ensures.items ∙ ap (λ (l : List Value). l ++ c.in_ok-copy.field-0 ∷ []) c.loop-m.invariant
+    ∙ ap (λ (v : Value). so_far ++ v ∷ []) c.in_ok-copy.ensures
+    ∙ sym (taken-more h c.loop-m.m value (read-at vs p c.loop-m.m c.at.result value c.at.ensures c.loop-m-test.true c.requires.within c.index-values-at.is))

@@ -1,13 +1,22 @@
 use Rattle.std.proofs.Common.{◌≡◌, ◌<◌, [], sym, ap, subst, ◌∙◌}
 use Rattle.std.specs.List.{All}
 use Rattle.rp_load.proofs.Apart.{AreApart, apart-objects}
-use Rattle.rp_load.proofs.Loaded.{begun, stored}
+use Rattle.rp_load.proofs.Loaded.{begun, classes-declared, stored}
+use Rattle.rp_load.proofs.Sound.{classed}
 use Rattle.rp_load.proofs.loading.load.Goals as goal
 
 pub place_objects-requires : goal.place_objects-requires
 place_objects-requires c =
     let same = c.objects.ensures ∙ ap (λ d. d.objects) c.in_ok-world.ensures.decl in
-    record { apart = subst (All AreApart) (sym same) (apart-objects c.args.names c.args.decl.objects c.requires.ordered.fields) }
+    let w = c.in_ok-world.world in
+    let known = c.in_ok-world.ensures in
+    let read = known.faithful.read in
+    record {
+      apart = subst (All AreApart) (sym same) (apart-objects c.args.names c.args.decl.objects c.requires.ordered.fields);
+      classes = classed w.decl c.args.limit w.store c.place_classes.new.store c.classes.result.now c.classes-2.result.now c.objects.result.now
+          known.store c.classes.ensures.value c.classes-2.ensures.value c.objects.ensures c.in_ok-place_classes.ensures.placed
+          (classes-declared w.names w.decl read.distinct read.held read.consistent);
+    }
 
 pub returns-clause-begun : goal.returns-clause-begun
 returns-clause-begun c =

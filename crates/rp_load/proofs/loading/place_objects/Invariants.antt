@@ -1,6 +1,7 @@
 use Rattle.std.proofs.Common.{◌≡◌, ◌++◌, map, take}
-use Rattle.rp_load.specs.View.{object_owned}
+use Rattle.rp_load.specs.View.{AreClassed, object_owned}
 use Rattle.rp_load.proofs.loading.place_objects.Given as goal
 
 abbrev pub invariant-loop-object : goal.invariant-loop-object
-invariant-loop-object l = l.store ≡ record l.initial.store { heap = l.initial.store.heap ++ map (object_owned l.classes) (take l.object-index l.objects) }
+invariant-loop-object l =
+    (l.store ≡ record l.initial.store { heap = l.initial.store.heap ++ map (object_owned l.classes) (take l.object-index l.objects) }) × AreClassed l.store.heap l.classes l.objects

@@ -1,11 +1,10 @@
 use Rattle.std.proofs.Common.{◌≡◌, List, ◌∙◌, ap, subst, sym}
 use Rattle.rp_base.specs.declared.value.Value.{Value}
 use Rattle.rp_store.specs.Heap.{Names, Owned}
-use Rattle.rp_store.specs.Kept.{IsKept, IsSound}
+use Rattle.rp_store.specs.Kept.{IsSound}
 use Rattle.rp_store.specs.Parts.{IsList}
 use Rattle.rp_ops.specs.Inplace.{extends}
 use Rattle.rp_ops.specs.Outcome.{Meets, Outcome, on_value, state_of}
-use Rattle.rp_ops.specs.Shape.{KeepsShape}
 use Rattle.rp_ops.specs.View.{grows}
 use Rattle.rp_ops.specs.Walk.{elements}
 use Rattle.rp_ops.proofs.Walks.{passes-on}
@@ -16,9 +15,6 @@ returns-in_err-values-clause-plain c =
     passes-on c.from_residual-in_err-values.result c.in_err-values.field-0.0 (state_of c.elements.new.store c.elements.new.meter.left)
     (elements c.args.b.now (state_of c.args.store.now c.args.meter.now.left)) (grows c.args.a.now c.args.at)
     c.from_residual-in_err-values.ensures.1 c.in_err-values.ensures.plain
-
-pub put_last-requires-clause-kept : goal.put_last-requires-clause-kept
-put_last-requires-clause-kept c = subst (λ (heap : List Owned). IsKept heap) (sym c.in_ok-values.ensures.same) c.requires.kept
 
 pub put_last-requires-clause-list : goal.put_last-requires-clause-list
 put_last-requires-clause-list c = subst (λ (heap : List Owned). Names heap IsList c.args.at) (sym c.in_ok-values.ensures.same) c.requires.list
@@ -37,6 +33,3 @@ returns-clause-plain c =
     ∙ ap (λ (v : Value). grows v c.args.at c.in_ok-values.values.items (state_of c.elements.new.store c.elements.new.meter.left)) (sym c.in_ok-same.ensures) in
     subst (λ (o : Outcome Value). Meets c.put_last.result (state_of c.put_last.new.store c.elements.new.meter.left) o) (sym path)
     (c.put_last.ensures.plain c.elements.new.meter.left)
-
-pub returns-clause-shape : goal.returns-clause-shape
-returns-clause-shape c = subst (λ (heap : List Owned). KeepsShape heap c.put_last.new.store.heap) c.in_ok-values.ensures.same c.put_last.ensures.shape

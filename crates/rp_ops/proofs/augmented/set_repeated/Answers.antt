@@ -5,20 +5,17 @@ use Rattle.std.specs.Option.{option_map_or}
 use Rattle.std.proofs.lemmas.Int.{to_z-of_z}
 use Rattle.std.proofs.lemmas.List.Elements.{All-same}
 use Rattle.rp_base.specs.declared.value.Value.{Value}
-use Rattle.rp_store.specs.Heap.{IsHeld, Names, changed_at, content_at}
-use Rattle.rp_store.specs.Kept.{AreSound, IsKept, IsSound}
+use Rattle.rp_store.specs.Heap.{IsHeld, Names, content_at}
+use Rattle.rp_store.specs.Kept.{IsSound}
 use Rattle.rp_store.specs.Parts.{IsList}
-use Rattle.rp_store.specs.Store.{Cells, written}
-use Rattle.rp_store.specs.Writers.{with_elements}
+use Rattle.rp_store.specs.Store.{Cells}
 use Rattle.rp_ops.specs.Binary.{repeated, times}
 use Rattle.rp_ops.specs.Inplace.{repeats_list}
 use Rattle.rp_ops.specs.Outcome.{state_of}
-use Rattle.rp_ops.specs.Shape.{KeepsShape}
 use Rattle.rp_ops.specs.View.{elements_of, held_by}
 use Rattle.rp_ops.specs.declared.operand.Elements.{Elements}
-use Rattle.rp_ops.proofs.Growth.{AreSound-elements, AreSound-repeat, IsHeld-Names}
+use Rattle.rp_ops.proofs.CallerLemmas.{AreSound-elements, AreSound-repeat, IsHeld-Names}
 use Rattle.rp_ops.proofs.Inplaces.{elements_of-own, more-cells, repeats-stopped, repeats-within}
-use Rattle.rp_ops.proofs.Shapes.{IsKept-elements, IsSound-kept, KeepsShape-changed, shapely_elements}
 use Rattle.rp_ops.proofs.augmented.set_repeated.Goals as goal
 
 pub elements_at-size-requires : goal.elements_at-size-requires
@@ -44,7 +41,7 @@ returns-in_err-charge_copies-clause-plain c =
     let xs : List Value = option_map_or held_by (content_at old.heap c.args.at) [] in
     let copies = c.times-copies.ensures ∙ ap times (to_z-of_z w64 c.args.n c.ranges.n) in
     (λ steps. repeats-stopped c.args.a.now c.args.at xs c.args.n old c.charge_copies.new.store c.from_residual-in_err-charge_copies.result c.in_err-charge_copies.field-0.0 _ steps
-    (more-cells c.args.n c.times-copies.result c.but_first-more.result _ xs c.but_first-more.ensures copies (sym (ap length c.elements_at-size.ensures)))
+    (more-cells c.args.n c.times-copies.result c.but_first-more.result _ xs c.but_first-more.ensures copies (sym (ap length c.elements_at-size.ensures.value)))
     c.from_residual-in_err-charge_copies.ensures.1 c.in_err-charge_copies.ensures.stopped c.in_err-charge_copies.ensures.over c.in_err-charge_copies.ensures.same)
 
 pub returns-clause-plain : goal.returns-clause-plain
@@ -58,31 +55,12 @@ returns-clause-plain c =
     ∙ ap (λ k. repeat k (elements_of old.heap x)) copies ∙ ap (λ l. repeat (times c.args.n) l) (elements_of-own old.heap c.args.at) in
     (λ steps. ap (λ (v : Value). repeats_list v c.args.at xs (Some c.args.n) (state_of old steps)) (sym c.in_ok-same.ensures)
     ∙ repeats-within c.in_ok-same.same c.args.at xs c.in_ok-values.values.items c.args.n old c.charge_copies.new.store c.set_elements.new.self _ steps
-    (more-cells c.args.n c.times-copies.result c.but_first-more.result _ xs c.but_first-more.ensures copies (sym (ap length c.elements_at-size.ensures)))
-    c.in_ok-charge_copies.ensures.within c.in_ok-charge_copies.ensures.charged items c.set_elements.ensures)
+    (more-cells c.args.n c.times-copies.result c.but_first-more.result _ xs c.but_first-more.ensures copies (sym (ap length c.elements_at-size.ensures.value)))
+    c.in_ok-charge_copies.ensures.within c.in_ok-charge_copies.ensures.charged items c.set_elements.ensures.done)
 
-pub returns-clause-kept : goal.returns-clause-kept
-returns-clause-kept c =
+pub set_elements-requires-clause-values : goal.set_elements-requires-clause-values
+set_elements-requires-clause-values c =
     let heap = c.charge_copies.new.store.heap in
-    let kept : IsKept heap = subst (λ (s : Cells). IsKept s.heap) (sym c.in_ok-charge_copies.ensures.charged) c.requires.kept in
     let x : Elements = record { at = c.args.at; lent = false } in
-    let sound : AreSound heap c.in_ok-values.values.items =
     All-same (IsSound heap) c.in_ok-values.values.items (repeat c.times-copies.result (elements_of heap x)) c.in_ok-values.ensures
-    (AreSound-repeat heap c.times-copies.result (elements_of heap x) (AreSound-elements heap c.args.at false kept)) in
-    subst (λ (s : Cells). IsKept s.heap) (sym c.set_elements.ensures) (IsKept-elements heap c.args.at c.in_ok-values.values.items sound kept)
-
-pub returns-clause-shape : goal.returns-clause-shape
-returns-clause-shape c =
-    let vs = c.in_ok-values.values.items in
-    subst (λ (s : Cells). KeepsShape c.args.store.now.heap s.heap)
-    (sym (c.set_elements.ensures ∙ ap (λ (s : Cells). written s c.args.at (with_elements vs)) c.in_ok-charge_copies.ensures.charged))
-    (KeepsShape-changed c.args.store.now.heap c.args.at (with_elements vs) (shapely_elements vs))
-
-pub returns-clause-sound : goal.returns-clause-sound
-returns-clause-sound c =
-    let heap = c.args.store.now.heap in
-    let vs = c.in_ok-values.values.items in
-    subst (λ (s : Cells). IsSound s.heap c.in_ok-same.same)
-    (sym (c.set_elements.ensures ∙ ap (λ (s : Cells). written s c.args.at (with_elements vs)) c.in_ok-charge_copies.ensures.charged))
-    (IsSound-kept heap (changed_at heap c.args.at (with_elements vs)) (KeepsShape-changed heap c.args.at (with_elements vs) (shapely_elements vs)) c.in_ok-same.same
-    (subst (λ (v : Value). IsSound heap v) (sym c.in_ok-same.ensures) c.requires.a))
+    (AreSound-repeat heap c.times-copies.result (elements_of heap x) (AreSound-elements heap c.args.at false c.kept.ensures))

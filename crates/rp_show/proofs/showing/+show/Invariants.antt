@@ -1,7 +1,6 @@
-use Rattle.std.proofs.Common.{◌≡◌, ◌≤◌, ◌+◌, ◌*◌, drop, reverse}
-use Rattle.rp_ops.specs.Outcome.{state_of}
+use Rattle.std.proofs.Common.{◌≡◌, ◌≤◌, ◌+◌, ◌*◌, drop, length, map, reverse}
 use Rattle.rp_show.specs.Show.{separated}
-use Rattle.rp_show.specs.ShowView.{added, item_of, items_at, rest}
+use Rattle.rp_show.specs.ShowView.{added, element_item, entry_item, item_of, moment, rest}
 use Rattle.rp_show.proofs.showing.+show.Given as goal
 
 -- ---- each call goes down in depth, or in rank at the same depth
@@ -12,27 +11,47 @@ decreases-show_value l = 10 * l.left + 4
 abbrev pub decreases-show_object : goal.decreases-show_object
 decreases-show_object l = 10 * l.left + 3
 
-abbrev pub decreases-show_form : goal.decreases-show_form
-decreases-show_form l = 10 * l.left + 2
+abbrev pub decreases-show_content : goal.decreases-show_content
+decreases-show_content l = 10 * l.left + 2
 
 abbrev pub decreases-show_container : goal.decreases-show_container
 decreases-show_container l = 10 * l.left + 1
 
+abbrev pub decreases-show_enclosed : goal.decreases-show_enclosed
+decreases-show_enclosed l = 10 * l.left + 8
+
 abbrev pub decreases-show_items : goal.decreases-show_items
 decreases-show_items l = 10 * l.left + 7
 
+abbrev pub decreases-show_elements : goal.decreases-show_elements
+decreases-show_elements l = 10 * l.left + 6
+
+abbrev pub decreases-show_entries : goal.decreases-show_entries
+decreases-show_entries l = 10 * l.left + 6
+
 abbrev pub decreases-show_item : goal.decreases-show_item
-decreases-show_item l = 10 * l.left + 6
+decreases-show_item l = 10 * l.left + 5
 
-abbrev pub decreases-show_turn : goal.decreases-show_turn
-decreases-show_turn l = 10 * l.left + 5
+-- what is printed so far, and what is left to print
+abbrev pub invariant-show_elements-loop-element : goal.invariant-show_elements-loop-element
+invariant-show_elements-loop-element l =
+    let one = item_of l.names l.left (reverse l.initial.page.outer.items) in
+    record {
+      plain : added l.initial.page.printer.line (separated one (map element_item l.elements) (moment l.store.heap l.initial.page.printer.purse l.initial.meter.left))
+          ≡ added l.page.printer.line (rest one l.first (map element_item (drop l.element-index l.elements)) (moment l.store.heap l.page.printer.purse l.meter.left));
+      fewer : l.meter.left ≤ l.initial.meter.left;
+      outer : l.page.outer.items ≡ l.initial.page.outer.items;
+    }
 
--- what is written so far, and what is left to write
-abbrev pub invariant-show_items-loop-i : goal.invariant-show_items-loop-i
-invariant-show_items-loop-i l = record {
-  plain : added l.fn.page.line (separated (item_of l.names l.left (reverse l.fn.page.outer.items)) (items_at l.fn.store.heap l.at) (state_of l.fn.store l.fn.meter.left))
-      ≡ added l.page.line (rest (item_of l.names l.left (reverse l.fn.page.outer.items)) l.i (drop l.i (items_at l.fn.store.heap l.at)) (state_of l.store l.meter.left));
-  same : l.store.heap ≡ l.fn.store.heap;
-  fewer : l.meter.left ≤ l.fn.meter.left;
-  outer : l.page.outer.items ≡ l.fn.page.outer.items;
-}
+abbrev pub invariant-show_entries-loop-key : goal.invariant-show_entries-loop-key
+invariant-show_entries-loop-key l =
+    let one = item_of l.names l.left (reverse l.initial.page.outer.items) in
+    record {
+      plain : added l.initial.page.printer.line (separated one (map entry_item l.entries) (moment l.store.heap l.initial.page.printer.purse l.initial.meter.left))
+          ≡ added l.page.printer.line (rest one l.first (map entry_item l.walk) (moment l.store.heap l.page.printer.purse l.meter.left));
+      fewer : l.meter.left ≤ l.initial.meter.left;
+      outer : l.page.outer.items ≡ l.initial.page.outer.items;
+    }
+
+abbrev pub decreases-show_entries-loop-key : goal.decreases-show_entries-loop-key
+decreases-show_entries-loop-key l = length l.walk

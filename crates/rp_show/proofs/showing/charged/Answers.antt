@@ -1,15 +1,26 @@
-use Rattle.std.proofs.Common.{◌≡◌, ℕ, List, Err, subst}
+use Rattle.std.proofs.Common.{ℕ, List, Err, sym, ap, ◌∙◌, subst}
+use Rattle.rp_store.specs.Store.{Cells}
 use Rattle.rp_ops.specs.Outcome.{Meets, gives, state_of}
-use Rattle.rp_show.specs.Show.{told}
+use Rattle.rp_show.specs.Show.{printed}
+use Rattle.rp_show.specs.ShowView.{moment}
 use Rattle.rp_show.proofs.Lines.{text_stops}
 use Rattle.rp_show.proofs.showing.charged.Goals as goal
 
-pub returns-in_err-charge_text-clause-plain : goal.returns-in_err-charge_text-clause-plain
-returns-in_err-charge_text-clause-plain c = λ steps.
-    let f = c.in_err-charge_text.field-0.0 in
-    text_stops c.from_residual.result f (state_of c.charge_text.new.store steps) (told c.args.text (state_of c.args.store.now steps)) c.from_residual.ensures.1
-    (subst (λ (t : List ℕ). Meets {A = List ℕ} (Err f) (state_of c.charge_text.new.store steps) (told t (state_of c.args.store.now steps))) c.as_str.ensures (c.in_err-charge_text.ensures.plain steps))
+pub returns-in_err-charged-clause-plain : goal.returns-in_err-charged-clause-plain
+returns-in_err-charged-clause-plain c = λ steps.
+    let f = c.in_err-charged.field-0.0 in
+    let heap = c.args.store.now.heap in
+    let end = moment heap c.charge-charged.new.self steps in
+    text_stops c.from_residual.result f (state_of c.settle.new.store steps) (printed c.args.text (state_of c.args.store.now steps)) c.from_residual.ensures.1
+    (subst (λ (x : Cells). Meets {A = List ℕ} (Err f) (state_of x steps) (printed c.args.text (state_of c.args.store.now steps))) (sym c.settle.ensures)
+    (subst (λ (x : Cells). Meets {A = List ℕ} (Err f) end (printed c.args.text (state_of x steps))) c.of-purse.ensures
+    (subst (λ (t : List ℕ). Meets {A = List ℕ} (Err f) end (printed t (moment heap c.of-purse.result steps))) c.as_str.ensures (c.in_err-charged.ensures heap steps))))
 
 pub returns-clause-plain : goal.returns-clause-plain
 returns-clause-plain c = λ steps.
-    subst (λ (t : List ℕ). told t (state_of c.args.store.now steps) ≡ gives t (state_of c.charge_text.new.store steps)) c.as_str.ensures (c.in_ok-charge_text.ensures.plain steps)
+    let heap = c.args.store.now.heap in
+    ap (λ (x : Cells). printed c.args.text (state_of x steps)) (sym c.of-purse.ensures)
+    ∙ ap (λ (t : List ℕ). printed t (moment heap c.of-purse.result steps)) (sym c.as_str.ensures)
+    ∙ c.in_ok-charged.ensures heap steps
+    ∙ ap (λ (t : List ℕ). gives t (moment heap c.charge-charged.new.self steps)) c.as_str.ensures
+    ∙ ap (λ (x : Cells). gives c.args.text (state_of x steps)) (sym c.settle.ensures)

@@ -3,16 +3,16 @@ use Rattle.rp_base.specs.declared.value.OpEnd.{OpEnd}
 use Rattle.rp_base.specs.declared.value.Rock.{Rock}
 use Rattle.rp_base.specs.declared.value.Rock.TheVariants as rock
 use Rattle.rp_ops.specs.Outcome.{Meets, Outcome, State, state_of}
-use Rattle.rp_show.specs.Show.{told}
+use Rattle.rp_show.specs.Show.{printed}
 use Rattle.rp_show.specs.Shown.{shown_inside}
 use Rattle.rp_show.specs.ShowView.{rock_shown}
 use Rattle.rp_show.proofs.showing.show_rock.Goals as goal
 
 -- neither a text nor an exception value
-plain : (result : Result (List ℕ) OpEnd) (t s : State) (r q : Rock) → r ≡ q → rock_shown q s ≡ told (shown_inside q) s → Meets result t (told (shown_inside r) s)
+plain : (result : Result (List ℕ) OpEnd) (t s : State) (r q : Rock) → r ≡ q → rock_shown q s ≡ printed (shown_inside q) s → Meets result t (printed (shown_inside r) s)
     → Meets result t (rock_shown r s)
 plain result t s r q e h k =
-    subst (λ (o : Outcome (List ℕ)). Meets result t o) (sym (ap (λ (x : Rock). rock_shown x s) e ∙ h ∙ ap (λ (x : Rock). told (shown_inside x) s) (sym e))) k
+    subst (λ (o : Outcome (List ℕ)). Meets result t o) (sym (ap (λ (x : Rock). rock_shown x s) e ∙ h ∙ ap (λ (x : Rock). printed (shown_inside x) s) (sym e))) k
 
 pub returns-in-Nil-clause-plain : goal.returns-in-Nil-clause-plain
 returns-in-Nil-clause-plain c = λ steps.

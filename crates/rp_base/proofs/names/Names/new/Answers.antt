@@ -9,4 +9,4 @@ intern_all-requires c = identifiers-first_words
 
 pub returns : goal.returns
 unfolding chars
-returns c = c.in_ok-intern_all.ensures ∙ rw c.new.ensures.empty fold-first_words
+returns c = c.in_ok-intern_all.ensures ∙ rw c.with_hasher.ensures.empty fold-first_words

@@ -1,6 +1,7 @@
 use Rattle.std.proofs.Common.{refl}
 use Rattle.rp_store.specs.Writers.{inserted}
-use Rattle.rp_store.proofs.HeapLemmas.{grown-view, on_err, same-view}
+use Rattle.rp_store.proofs.HeapLemmas.{grown-view, kept-view, not_over, on_err, same-view, shape-view}
+use Rattle.rp_store.proofs.Shapes.{Allows-inserted, Allows-same}
 use Rattle.rp_store.proofs.store.Store.insert.Goals as goal
 
 pub returns-in_err-insert-clause-same : goal.returns-in_err-insert-clause-same
@@ -12,3 +13,25 @@ pub returns-clause-inserted : goal.returns-clause-inserted
 returns-clause-inserted c =
     grown-view c.self.inside.slots.items c.self.inside.used c.self.inside.limit c.args.self.now c.self.view_is c.args.at c.index_mut.result.now c.index_mut.ensures.value
     c.insert.new.self (inserted c.args.i c.args.value) 1 1 c.in_ok-insert.ensures.ok refl
+
+pub invariant_of-self : goal.invariant_of-self
+invariant_of-self c = (
+  c.self.invariant.0,
+  kept-view c.self.inside.slots.items c.self.inside.used c.self.inside.limit c.args.self.now c.self.view_is c.args.at c.index_mut.result.now c.index_mut.ensures.value
+      c.insert.new.self (λ k. k) c.in_err-insert.ensures.same (Allows-same c.args.self.now.heap c.args.at) c.self.invariant.1,
+)
+
+pub returns-in_err-insert-clause-shape : goal.returns-in_err-insert-clause-shape
+returns-in_err-insert-clause-shape c = shape-view c.self.inside.slots.items c.self.inside.used c.self.inside.limit c.args.self.now c.self.view_is c.args.at c.index_mut.result.now c.index_mut.ensures.value
+    c.insert.new.self (λ k. k) c.in_err-insert.ensures.same (Allows-same c.args.self.now.heap c.args.at)
+
+pub invariant_of-self-2 : goal.invariant_of-self-2
+invariant_of-self-2 c = (
+  not_over c.self.inside.slots.items c.self.inside.used c.self.inside.limit c.args.self.now c.self.view_is c.is_over.result 1 1 c.if-is_over.false c.is_over.ensures.over refl,
+  kept-view c.self.inside.slots.items c.self.inside.used c.self.inside.limit c.args.self.now c.self.view_is c.args.at c.index_mut.result.now c.index_mut.ensures.value
+      c.insert.new.self (inserted c.args.i c.args.value) c.in_ok-insert.ensures.ok (Allows-inserted c.args.self.now.heap c.args.at c.args.i c.args.value c.requires.value) c.self.invariant.1,
+)
+
+pub returns-clause-shape : goal.returns-clause-shape
+returns-clause-shape c = shape-view c.self.inside.slots.items c.self.inside.used c.self.inside.limit c.args.self.now c.self.view_is c.args.at c.index_mut.result.now c.index_mut.ensures.value
+    c.insert.new.self (inserted c.args.i c.args.value) c.in_ok-insert.ensures.ok (Allows-inserted c.args.self.now.heap c.args.at c.args.i c.args.value c.requires.value)

@@ -1,0 +1,244 @@
+//! The heights of expressions and of their parts.
+
+ghost use Rattle.std.specs.Prelude.{◌≡◌, ℕ, suc, map, option_map};
+ghost use Rattle.rp_tree.specs.ExpressionViews as v;
+ghost use Rattle.rp_tree.specs.Heights as h;
+ghost use Rattle.rp_tree.specs.Heights.{capped};
+
+use rp_base::BinOp;
+use rp_tree::{Arg, Clause, Expr, ExprForm, Named, Params, Place, Target, Test, Trailer, Walk};
+
+/// The height of a node with parts of this height.
+#[tactic(auto, unfolding(rp_tree::specs::Heights::capped))]
+pub fn above(height: u32) -> u32
+    ensures { (n : ℕ) → height ≡ capped n → result ≡ capped (suc n) }
+{
+    height.saturating_add(1)
+}
+
+/// The height of an expression: 1 more than the greatest height of its parts, and the greatest `u32` where it is above that.
+#[cycle(expr_height)]
+pub fn expr_height(expr: &Expr) -> u32
+    ensures { result ≡ capped (h.expr_height (v.view_expr expr.now)) }
+{
+    above(form_height(&expr.form))
+}
+
+#[cycle(expr_height)]
+#[tactic(auto, using(rp_tree::proofs::ExpressionEquations::variants), unfolding(rp_tree::specs::Heights::capped))]
+fn form_height(form: &ExprForm) -> u32
+    ensures { result ≡ capped (h.form_height (v.view_form form.now)) }
+{
+    match form {
+        ExprForm::Name(_) | ExprForm::Int(_) | ExprForm::Text(_) | ExprForm::Const(_) => 0,
+        ExprForm::Tuple(exprs) => exprs_height(exprs),
+        ExprForm::List(exprs) => exprs_height(exprs),
+        ExprForm::Dict(pairs) => pairs_height(pairs),
+        ExprForm::ListOf(element, clauses) => expr_height(element).max(clauses_height(clauses)),
+        ExprForm::DictOf(key, value, clauses) => {
+            expr_height(key).max(expr_height(value).max(clauses_height(clauses)))
+        }
+        ExprForm::Lambda(params, body) => params_height(params).max(expr_height(body)),
+        ExprForm::Cond { test, yes, no } => {
+            expr_height(test).max(expr_height(yes).max(expr_height(no)))
+        }
+        ExprForm::Or(exprs) => exprs_height(exprs),
+        ExprForm::And(exprs) => exprs_height(exprs),
+        ExprForm::Not(operand) => expr_height(operand),
+        ExprForm::Compare(first, tests) => expr_height(first).max(tests_height(tests)),
+        ExprForm::Chain(first, operands) => expr_height(first).max(operands_height(operands)),
+        ExprForm::Unary(_, operand) => expr_height(operand),
+        ExprForm::Power(base, exponent) => expr_height(base).max(expr_height(exponent)),
+        ExprForm::Primary(atom, trailers) => expr_height(atom).max(trailers_height(trailers)),
+    }
+}
+
+#[cycle(expr_height)]
+#[tactic(auto, unfolding(rp_tree::specs::Heights::capped))]
+fn exprs_height(exprs: &[Expr]) -> u32
+    ensures { result ≡ capped (h.exprs_height (v.exprs_of (map v.view_expr exprs.now))) }
+{
+    let mut greatest = 0;
+    'exprs: for expr in exprs {
+        greatest = greatest.max(expr_height(expr));
+    }
+    greatest
+}
+
+#[cycle(expr_height)]
+#[tactic(auto, unfolding(rp_tree::specs::Heights::capped))]
+fn maybe_height(expr: &Option<Expr>) -> u32
+    ensures { result ≡ capped (h.maybe_height (v.maybe_of (option_map v.view_expr expr.now))) }
+{
+    match expr {
+        None => 0,
+        Some(expr) => expr_height(expr),
+    }
+}
+
+#[cycle(expr_height)]
+#[tactic(auto, unfolding(rp_tree::specs::Heights::capped))]
+fn pairs_height(pairs: &[(Expr, Expr)]) -> u32
+    ensures { result ≡ capped (h.pairs_height (v.pairs_of (map v.view_pair pairs.now))) }
+{
+    let mut greatest = 0;
+    'pairs: for pair in pairs {
+        greatest = greatest.max(expr_height(&pair.0).max(expr_height(&pair.1)));
+    }
+    greatest
+}
+
+#[cycle(expr_height)]
+#[tactic(auto, unfolding(rp_tree::specs::Heights::capped))]
+fn tests_height(tests: &[(Test, Expr)]) -> u32
+    ensures { result ≡ capped (h.tests_height (v.tests_of (map v.view_test tests.now))) }
+{
+    let mut greatest = 0;
+    'tests: for test in tests {
+        greatest = greatest.max(expr_height(&test.1));
+    }
+    greatest
+}
+
+#[cycle(expr_height)]
+#[tactic(auto, unfolding(rp_tree::specs::Heights::capped))]
+fn operands_height(operands: &[(BinOp, Expr)]) -> u32
+    ensures { result ≡ capped (h.ops_height (v.ops_of (map v.view_op operands.now))) }
+{
+    let mut greatest = 0;
+    'operands: for operand in operands {
+        greatest = greatest.max(expr_height(&operand.1));
+    }
+    greatest
+}
+
+#[cycle(expr_height)]
+#[tactic(auto, unfolding(rp_tree::specs::Heights::capped))]
+fn clauses_height(clauses: &[Clause]) -> u32
+    ensures { result ≡ capped (h.clauses_height (v.clauses_of (map v.view_clause clauses.now))) }
+{
+    let mut greatest = 0;
+    'clauses: for clause in clauses {
+        greatest = greatest.max(walk_height(&clause.walk).max(exprs_height(&clause.tests)));
+    }
+    greatest
+}
+
+/// The greatest height of the nodes in what a loop goes over.
+#[cycle(expr_height)]
+#[tactic(auto, unfolding(rp_tree::specs::Heights::capped))]
+pub fn walk_height(walk: &Walk) -> u32
+    ensures { result ≡ capped (h.walk_height (v.view_walk walk.now)) }
+{
+    target_height(&walk.target).max(expr_height(&walk.of))
+}
+
+/// The height of a target, as a place or as a group of targets; the greatest `u32` where it is above that.
+#[cycle(expr_height)]
+#[tactic(auto, unfolding(rp_tree::specs::Heights::capped))]
+pub fn target_height(target: &Target) -> u32
+    ensures { result ≡ capped (h.target_height (v.view_target target.now)) }
+{
+    match target {
+        Target::Place(place) => place_height(place),
+        Target::Group(targets) => above(targets_height(targets)),
+    }
+}
+
+#[cycle(expr_height)]
+#[tactic(auto, unfolding(rp_tree::specs::Heights::capped))]
+fn targets_height(targets: &[Target]) -> u32
+    ensures { result ≡ capped (h.targets_height (v.targets_of (map v.view_target targets.now))) }
+{
+    let mut greatest = 0;
+    'targets: for target in targets {
+        greatest = greatest.max(target_height(target));
+    }
+    greatest
+}
+
+/// The height of a place.
+#[cycle(expr_height)]
+#[tactic(auto, unfolding(rp_tree::specs::Heights::capped))]
+pub fn place_height(place: &Place) -> u32
+    ensures { result ≡ capped (h.place_height (v.view_place place.now)) }
+{
+    match place {
+        Place::Name(_) => 1,
+        Place::Attr(object, _, _) => above(expr_height(object)),
+        Place::Item(container, key, _) => above(expr_height(container).max(expr_height(key))),
+    }
+}
+
+/// The greatest height of the defaults of parameters, 0 where there is none, and the greatest `u32` where it is above that.
+#[cycle(expr_height)]
+#[tactic(auto, unfolding(rp_tree::specs::Heights::capped))]
+pub fn params_height(params: &Params) -> u32
+    ensures { result ≡ capped (h.params_height (v.view_params params.now)) }
+{
+    defaults_height(&params.plain)
+}
+
+#[cycle(expr_height)]
+#[tactic(auto, unfolding(rp_tree::specs::Heights::capped))]
+fn defaults_height(plain: &[(Named, Option<Expr>)]) -> u32
+    ensures { result ≡ capped (h.plain_height (v.plain_of (map v.view_plain plain.now))) }
+{
+    let mut greatest = 0;
+    'plain: for param in plain {
+        if let Some(default) = &param.1 {
+            greatest = greatest.max(expr_height(default));
+        }
+    }
+    greatest
+}
+
+#[cycle(expr_height)]
+#[tactic(auto, unfolding(rp_tree::specs::Heights::capped))]
+fn trailer_height(trailer: &Trailer) -> u32
+    ensures { result ≡ capped (h.trailer_height (v.view_trailer trailer.now)) }
+{
+    match trailer {
+        Trailer::Attr(_, _) => 0,
+        Trailer::Item(key, _) => expr_height(key),
+        Trailer::Slice { from, to, step, .. } => {
+            maybe_height(from).max(maybe_height(to).max(maybe_height(step)))
+        }
+        Trailer::Call(args, _) => args_height(args),
+    }
+}
+
+#[cycle(expr_height)]
+#[tactic(auto, unfolding(rp_tree::specs::Heights::capped))]
+fn trailers_height(trailers: &[Trailer]) -> u32
+    ensures { result ≡ capped (h.trailers_height (v.trailers_of (map v.view_trailer trailers.now))) }
+{
+    let mut greatest = 0;
+    'trailers: for trailer in trailers {
+        greatest = greatest.max(trailer_height(trailer));
+    }
+    greatest
+}
+
+#[cycle(expr_height)]
+fn arg_height(arg: &Arg) -> u32
+    ensures { result ≡ capped (h.arg_height (v.view_arg arg.now)) }
+{
+    match arg {
+        Arg::Plain(expr) | Arg::Star(expr) | Arg::Key(_, expr) | Arg::Stars(expr) => {
+            expr_height(expr)
+        }
+    }
+}
+
+#[cycle(expr_height)]
+#[tactic(auto, unfolding(rp_tree::specs::Heights::capped))]
+fn args_height(args: &[Arg]) -> u32
+    ensures { result ≡ capped (h.args_height (v.args_of (map v.view_arg args.now))) }
+{
+    let mut greatest = 0;
+    'args: for arg in args {
+        greatest = greatest.max(arg_height(arg));
+    }
+    greatest
+}

@@ -1,8 +1,0 @@
-use Rattle.std.proofs.Common.{arith}
-use Rattle.rp_parse.proofs.Low.{within_weaker}
-use Rattle.rp_parse.proofs.tests.parsed.Goals as goal
-
-pub parse-requires : goal.parse-requires
-parse-requires c =
-    let ts = c.in-Ok.found.items in
-    record { shallow = rw c.as_slice.ensures.value (within_weaker 200 450 0 ts (omega arith) c.in-Ok.ensures.brackets) }

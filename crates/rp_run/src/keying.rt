@@ -1,0 +1,61 @@
+//! Declarations and scripts read into names that are first hashed anew, from a secret and their bytes: who wrote the bytes
+//! cannot pick names that collide. Nothing that is told depends on it.
+
+ghost use Rattle.std.specs.Prelude.{◌≡◌, ◌≢◌, IfErr, IfOk, List};
+ghost use Rattle.std.specs.List.{All};
+ghost use Rattle.rp_compile.specs.Refusal.{IsRefused};
+ghost use Rattle.rp_compile.specs.Rewrites.{Rewrites};
+ghost use Rattle.rp_compile.specs.Script.{IsScript};
+ghost use Rattle.rp_compile.specs.Source.{Statement};
+ghost use Rattle.rp_compile.specs.View.{IsStatementHeld};
+ghost use Rattle.rp_decl.specs.Consistency.{IsConsistent};
+ghost use Rattle.rp_decl.specs.Declares.{Declares};
+ghost use Rattle.rp_decl.specs.Faults.{HasFault, IsFaultHeld};
+ghost use Rattle.rp_decl.specs.InOrder.{AreInOrder};
+ghost use Rattle.rp_decl.specs.Places.{GrowsTo, IsHeldBy};
+ghost use Rattle.rp_decl.specs.View.{declarations_view};
+
+use rp_base::{Memory, Names};
+use rp_compile::{Compiled, Refusal};
+use rp_decl::{Decl, DeclFault};
+use std::alloc::Global;
+
+/// Hashes the words anew, from their seed and these bytes.
+fn rekey(names: &mut Names, bytes: &[u8]) -> Result<(), Memory>
+    ensures { names.new ≡ names.old }
+{
+    let seed = names.seed().mixed(bytes);
+    names.rekey(seed)
+}
+
+/// The records of a declaration file.
+///
+/// # Errors
+/// As `rp_decl::declarations`.
+pub fn declarations(alloc: Global, bytes: &[u8], names: &mut Names) -> Result<Decl, DeclFault>
+    ensures ok { IfOk result (λ d. Declares bytes.now (declarations_view names.new d)) }
+    ensures held { IfOk result (IsHeldBy names.new) }
+    ensures ordered { IfOk result (λ d. AreInOrder (declarations_view names.new d)) }
+    ensures consistent { IfOk result (λ d. IsConsistent (declarations_view names.new d)) }
+    ensures fault { IfErr result (HasFault bytes.now names.new) }
+    ensures fault_held { IfErr result (IsFaultHeld names.new) }
+    ensures names { GrowsTo names.old names.new }
+{
+    rekey(names, bytes)?;
+    rp_decl::declarations(alloc, bytes, names)
+}
+
+/// The compiled script of the bytes.
+///
+/// # Errors
+/// As `rp_compile::compile_script`.
+pub fn compile_script(alloc: Global, bytes: &[u8], names: &mut Names) -> Result<Compiled, Refusal>
+    ensures rewritten { IfOk result (λ c. (source : List Statement) × (IsScript bytes.now source × Rewrites names.new source c)) }
+    ensures one { IfOk result (λ c. (source : List Statement) → IsScript bytes.now source → Rewrites names.new source c) }
+    ensures held { IfOk result (λ c. All (IsStatementHeld names.new) c) }
+    ensures refused { IfErr result (λ refusal. refusal ≢ Refusal.Memory → IsRefused bytes.now refusal) }
+    ensures names { GrowsTo names.old names.new }
+{
+    rekey(names, bytes)?;
+    rp_compile::compile_script(alloc, bytes, names)
+}

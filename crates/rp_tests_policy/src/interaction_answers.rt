@@ -1,0 +1,258 @@
+//! What principals of declaration files have, and why.
+
+use crate::cases::seed;
+use rp_base::{Memory, Names, Text};
+use rp_decl::{Decl, DeclFault, Perm, declarations};
+use rp_interact::{Interaction, Reason, WhoFault};
+use std::alloc::{AllocError, Global};
+
+fn read(alloc: Global, file: &str) -> Result<Decl, DeclFault> {
+    let mut names = Names::new(alloc, seed())?;
+    declarations(alloc, file.as_bytes(), &mut names)
+}
+
+fn permission_named(decl: &Decl, id: &str) -> Perm {
+    match decl.permissions().iter().position(|held| held.is(id)) {
+        Some(place) => Perm(place),
+        None => Perm(0),
+    }
+}
+
+/// The interaction of the ids, which are joined by `+`.
+fn interaction_of(alloc: Global, decl: &Decl, who: &str) -> Result<Interaction, WhoFault> {
+    let mut ids = Vec::new(alloc);
+    for id in who.split('+') {
+        ids.push(Text::new(alloc, id)?)?;
+    }
+    Interaction::new(alloc, decl, &ids)
+}
+
+fn role_id(decl: &Decl, place: usize) -> &str {
+    match decl.roles().get(place) {
+        Some(role) => role.id.as_str(),
+        None => "?",
+    }
+}
+
+fn group_id(decl: &Decl, place: usize) -> &str {
+    match decl.groups().get(place) {
+        Some(group) => group.id.as_str(),
+        None => "?",
+    }
+}
+
+fn reason_text(alloc: Global, decl: &Decl, reason: Reason) -> Result<String, AllocError> {
+    let answer = if reason.is_yes() { "yes" } else { "no" };
+    match reason {
+        Reason::Public => format!(in alloc; "{answer} public"),
+        Reason::Own(_) => format!(in alloc; "{answer} principal"),
+        Reason::Role(role) => {
+            let role = role_id(decl, role);
+            format!(in alloc; "{answer} role {role}")
+        }
+        Reason::Group(group, _) => {
+            let group = group_id(decl, group);
+            format!(in alloc; "{answer} group {group}")
+        }
+        Reason::GroupRole(group, role) => {
+            let group = group_id(decl, group);
+            let role = role_id(decl, role);
+            format!(in alloc; "{answer} group {group} role {role}")
+        }
+        Reason::Nothing => format!(in alloc; "{answer} none"),
+    }
+}
+
+/// Why the principal has the permission or not, or the fault.
+fn why(alloc: Global, file: &str, id: &str, permission: &str) -> Result<String, Memory> {
+    let Ok(decl) = read(alloc, file) else {
+        return Ok(String::from_str(alloc, "refused")?);
+    };
+    let Ok(interaction) = interaction_of(alloc, &decl, id) else {
+        return Ok(String::from_str(alloc, "unknown")?);
+    };
+    if interaction.ids().is_empty() {
+        return Ok(String::from_str(alloc, "nobody")?);
+    }
+    let reason = interaction.why(0, permission_named(&decl, permission));
+    Ok(reason_text(alloc, &decl, reason)?)
+}
+
+/// The rules for `zope.View` that apply to a principal, by the bits of a number, in their order: its own
+/// `deny` and `allow`, a role, and the `deny`, the `allow` and a role of a group.
+const RULES: [(&str, &str); 6] = [
+    ("deny = ['zope.View']", "no principal"),
+    ("allow = ['zope.View']", "yes principal"),
+    ("roles = ['viewer']", "yes role viewer"),
+    ("'deniers'", "no group deniers"),
+    ("'allowers'", "yes group allowers"),
+    ("'viewers'", "yes group viewers role viewer"),
+];
+
+const GROUPS: &str = "version = 2
+permissions = ['zope.View']
+role.viewer.permissions = ['zope.View']
+group.deniers.deny = ['zope.View']
+group.allowers.allow = ['zope.View']
+group.viewers.roles = ['viewer']
+";
+
+/// The groups of the rules with these bits, in one of their orders.
+fn groups_of(
+    alloc: Global,
+    bits: usize,
+    first: usize,
+    is_backwards: bool,
+) -> Result<String, AllocError> {
+    let mut groups = String::new(alloc);
+    for k in 0..3usize {
+        let step = if is_backwards { 2 - k } else { k };
+        let place = 3 + (first % 3 + step) % 3;
+        if bits >> place & 1 == 1 {
+            groups.push_str(RULES[place].0)?;
+            groups.push_str(", ")?;
+        }
+    }
+    Ok(groups)
+}
+
+/// A file with one principal, to whom the rules with these bits apply.
+fn file_of(alloc: Global, bits: usize, groups: &str) -> Result<String, AllocError> {
+    let mut file = String::from_str(alloc, GROUPS)?;
+    file.push_str("[principal.bob]\n")?;
+    for (i, (text, _)) in RULES.iter().enumerate() {
+        if i < 3 && bits >> i & 1 == 1 {
+            file.push_str(text)?;
+            file.push_str("\n")?;
+        }
+    }
+    file.push_str("groups = [")?;
+    file.push_str(groups)?;
+    file.push_str("]\n")?;
+    Ok(file)
+}
+
+/// The answer of the first rule among those with these bits.
+fn first_answer(bits: usize) -> &'static str {
+    for (i, (_, answer)) in RULES.iter().enumerate() {
+        if bits >> i & 1 == 1 {
+            return answer;
+        }
+    }
+    "no none"
+}
+
+/// What is answered where the rules with these bits apply, the groups in one of their orders, where that is not what
+/// the first of them says.
+fn difference_of_rules(
+    alloc: Global,
+    bits: usize,
+    first: usize,
+    is_backwards: bool,
+) -> Result<Option<String>, Memory> {
+    let groups = groups_of(alloc, bits, first, is_backwards)?;
+    let file = file_of(alloc, bits, groups.as_str())?;
+    let reason = why(alloc, file.as_str(), "bob", "zope.View")?;
+    let is_wanted = reason.as_str() == first_answer(bits);
+    Ok(if is_wanted { None } else { Some(reason) })
+}
+
+/// The first difference of all rules in all orders, or an empty text.
+pub fn first_difference_of_rules(alloc: Global) -> Result<String, Memory> {
+    for case in 0..384usize {
+        let is_backwards = case % 2 == 1;
+        if let Some(found) = difference_of_rules(alloc, case / 6, case / 2 % 3, is_backwards)? {
+            return Ok(found);
+        }
+    }
+    Ok(String::new(alloc))
+}
+
+const LEAST: &str = "version = 2
+permissions = ['zope.View', 'zope.Edit', 'zope.Manage', 'zope.Close']
+role.z.permissions = ['zope.View', 'zope.Edit']
+role.m.permissions = ['zope.Edit', 'zope.View']
+role.a.permissions = ['zope.Manage']
+group.y = { roles = ['z', 'm'], allow = ['zope.Manage'], deny = ['zope.Close'] }
+group.x = { roles = ['m', 'z'], allow = ['zope.Manage'], deny = ['zope.Close'] }
+group.w.roles = ['a']
+principal.roles = { roles = ['z', 'a', 'm', 'z'] }
+principal.groups = { groups = ['y', 'w', 'x', 'y'], deny = ['zope.Public'] }
+principal.nobody = {}
+";
+
+/// Why a principal of the file above has the permission or not.
+pub fn why_least(alloc: Global, id: &str, permission: &str) -> Result<String, Memory> {
+    why(alloc, LEAST, id, permission)
+}
+
+/// Whether the permission is decided so.
+fn is_decided(interaction: &mut Interaction, permission: Perm, has: bool) -> bool {
+    interaction.decide(permission) == has
+}
+
+/// Whether `decide` answers twice as `has` does.
+fn is_decided_twice(interaction: &mut Interaction, permission: Perm, has: bool) -> bool {
+    is_decided(interaction, permission, has) && is_decided(interaction, permission, has)
+}
+
+/// Whether they have the permission, asked twice in each way, how many they are, and how many answers are kept.
+fn asked(
+    alloc: Global,
+    interaction: &mut Interaction,
+    permission: Perm,
+) -> Result<String, AllocError> {
+    let has = interaction.has(permission);
+    let is_same = is_decided_twice(interaction, permission, has);
+    let count = interaction.ids().len();
+    let kept = interaction.kept();
+    format!(in alloc; "{has} {is_same} {count} {kept}")
+}
+
+/// Whether all of them have the permission, asked twice in each way, or the first id that is unknown.
+pub fn have(alloc: Global, who: &str, permission: &str) -> Result<String, Memory> {
+    let Ok(decl) = read(alloc, LEAST) else {
+        return Ok(String::from_str(alloc, "refused")?);
+    };
+    let permission = permission_named(&decl, permission);
+    match interaction_of(alloc, &decl, who) {
+        Ok(mut interaction) => { Ok(asked(alloc, &mut interaction, permission)?) }
+        Err(WhoFault::Unknown(id)) => Ok(String::from_str(alloc, id.as_str())?),
+        Err(WhoFault::Memory) => Err(Memory),
+    }
+}
+
+/// A file with many permissions, of which a principal has every third.
+fn many(alloc: Global, count: usize) -> Result<String, AllocError> {
+    let mut ids = String::new(alloc);
+    let mut held = String::new(alloc);
+    for i in 0..count {
+        ids.push_str(format!(in alloc; "'p{i}', ")?.as_str())?;
+        if i % 3 == 0 {
+            held.push_str(format!(in alloc; "'p{i}', ")?.as_str())?;
+        }
+    }
+    let ids = ids.as_str();
+    let held = held.as_str();
+    format!(in alloc; "version = 1\npermissions = [{ids}]\nprincipal.bob.allow = [{held}]\n")
+}
+
+/// How many of the permissions are decided as `has` does, each asked twice, and how many answers are
+/// kept in the end.
+pub fn decided(alloc: Global, count: usize) -> Result<(usize, usize), Memory> {
+    let file = many(alloc, count)?;
+    let Ok(decl) = read(alloc, file.as_str()) else {
+        return Ok((0, 0));
+    };
+    let Ok(mut interaction) = interaction_of(alloc, &decl, "bob") else {
+        return Ok((0, 0));
+    };
+    let mut same: usize = 0;
+    for i in 0..decl.permissions().len() {
+        let has = interaction.has(Perm(i));
+        if is_decided_twice(&mut interaction, Perm(i), has) {
+            same = same.saturating_add(1);
+        }
+    }
+    Ok((same, interaction.kept()))
+}

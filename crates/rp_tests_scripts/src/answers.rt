@@ -1,0 +1,330 @@
+//! What the public calls answer, as texts.
+
+use crate::shown::{show_expr, show_name, show_params, show_place, show_target};
+use crate::shown_statements::show_stmts;
+use rp_base::{Memory, Names, Seed};
+use rp_compile::{compile_script, refusal_text};
+use rp_expr::{expr, expr_list, params, place_of, target};
+use rp_heights::height;
+use rp_parse::{ParseFault, parse};
+use rp_token::{Token, TokenFault, TokenKind, tokens};
+use rp_tree::Tree;
+use std::alloc::{AllocError, Global};
+use std::test::Fail;
+
+/// What is asked about a text.
+#[derive(Clone, Copy)]
+pub enum Question {
+    /// Its tokens in a row, or the first fault.
+    Tokens,
+    /// How many tokens it has, or the first fault.
+    Count,
+    /// The text that it, a literal, stands for.
+    Literal,
+    /// The expression that it is, in prefix form; `-` where it is none.
+    Expression,
+    /// Whether it is an expression.
+    IsExpression,
+    /// The expression list that it is.
+    List,
+    /// The target that it is.
+    Target,
+    /// The parameters that it is.
+    Parameters,
+    /// The place that it is.
+    Place,
+    /// The line of the expression that it is.
+    Line,
+    /// The statements that it is, in prefix form, or the line of its fault.
+    Statements,
+    /// The line at which the grammar refuses it, with its last line ended; 0 where it is a script.
+    Refusal,
+    /// The height of its tree.
+    Height,
+    /// The statements that it is compiled to, in words, or why it is refused.
+    Compiled,
+    /// Why it is not compiled; nothing where it is.
+    CompileRefusal,
+}
+
+/// How deep expressions are read within expressions: enough for 450 open brackets and a tree of height 200.
+const DEPTH: usize = 650;
+
+/// What is answered.
+pub fn answer(alloc: Global, question: Question, text: &str) -> Result<String, Fail> {
+    match question {
+        Question::Tokens => row(alloc, text),
+        Question::Count => count(alloc, text),
+        Question::Literal => literal(alloc, text),
+        Question::Expression => expression(alloc, text),
+        Question::IsExpression => is_expression(alloc, text),
+        Question::List => list(alloc, text),
+        Question::Target => shown_target(alloc, text),
+        Question::Parameters => parameters(alloc, text),
+        Question::Place => place(alloc, text),
+        Question::Line => line(alloc, text),
+        Question::Statements => statements(alloc, text),
+        Question::Refusal => refused_at(alloc, text),
+        Question::Height => tree_height(alloc, text),
+        Question::Compiled => compiled_bytes(alloc, text.as_bytes()),
+        Question::CompileRefusal => compile_refusal(alloc, text),
+    }
+}
+
+/// No words but those of operations.
+pub fn new_names(alloc: Global) -> Result<Names, Memory> {
+    Names::new(alloc, Seed::from_bytes([7; 16]))
+}
+
+/// A text of its own with these characters.
+fn spelled(alloc: Global, text: &str) -> Result<String, Fail> {
+    Ok(String::from_str(alloc, text)?)
+}
+
+/// The tokens of a text, or its first fault. It has no contract, so the proofs of the tests stay short.
+fn read(alloc: Global, text: &str, names: &mut Names) -> Result<Vec<Token>, TokenFault> {
+    tokens(alloc, text, names)
+}
+
+/// The tokens in a row: a name as it is held, a number behind `#`, a literal in quotes, what shows the lines and
+/// blocks as a word of capitals, and the others by the text between their places.
+fn row(alloc: Global, text: &str) -> Result<String, Fail> {
+    let mut names = new_names(alloc)?;
+    let found = match read(alloc, text, &mut names) {
+        Ok(found) => found,
+        Err(fault) => return fault_name(alloc, fault),
+    };
+    let mut out = String::new(alloc);
+    for token in &found {
+        if !out.is_empty() {
+            out.push(' ')?;
+        }
+        show_token(&mut out, text, &names, token)?;
+    }
+    Ok(out)
+}
+
+fn show_token(
+    out: &mut String,
+    text: &str,
+    names: &Names,
+    token: &Token,
+) -> Result<(), AllocError> {
+    match &token.kind {
+        TokenKind::Name(name) => show_name(out, names, *name),
+        TokenKind::Int(number) => write!(out, "#{number}"),
+        TokenKind::Text(value) => {
+            let value = value.as_str();
+            write!(out, "'{value}'")
+        }
+        TokenKind::Newline => out.push_str("NL"),
+        TokenKind::Indent => out.push_str("IN"),
+        TokenKind::Dedent => out.push_str("DE"),
+        TokenKind::End => out.push_str("END"),
+        _ => out.push_str(text.get(token.from..token.to).unwrap_or("?")),
+    }
+}
+
+/// The first fault of a text, and its line.
+fn fault_name(alloc: Global, fault: TokenFault) -> Result<String, Fail> {
+    let (word, line) = match fault {
+        TokenFault::Tab(line) => ("Tab", line.0),
+        TokenFault::Dedent(line) => ("Dedent", line.0),
+        TokenFault::BadChar(line) => ("BadChar", line.0),
+        TokenFault::Unclosed(line) => ("Unclosed", line.0),
+        TokenFault::BadNumber(line) => ("BadNumber", line.0),
+        TokenFault::BadEscape(line) => ("BadEscape", line.0),
+        TokenFault::Deep(line) => ("Deep", line.0),
+        TokenFault::Memory => ("Memory", 0),
+    };
+    Ok(format!(in alloc; "{word} {line}")?)
+}
+
+fn count(alloc: Global, text: &str) -> Result<String, Fail> {
+    let mut names = new_names(alloc)?;
+    match read(alloc, text, &mut names) {
+        Ok(found) => {
+            let count = found.len();
+            Ok(format!(in alloc; "{count}")?)
+        }
+        Err(fault) => fault_name(alloc, fault),
+    }
+}
+
+fn literal(alloc: Global, text: &str) -> Result<String, Fail> {
+    let mut names = new_names(alloc)?;
+    let found = read(alloc, text, &mut names)?;
+    match found.as_slice() {
+        [token, _, _] => literal_of(alloc, token),
+        _ => spelled(alloc, "other tokens"),
+    }
+}
+
+fn literal_of(alloc: Global, token: &Token) -> Result<String, Fail> {
+    match &token.kind {
+        TokenKind::Text(value) => spelled(alloc, value.as_str()),
+        _ => spelled(alloc, "another token"),
+    }
+}
+
+/// Whether a line and the text end.
+fn is_end(tokens: &[Token]) -> bool {
+    match tokens {
+        [line, end] => {
+            matches!(line.kind, TokenKind::Newline) && matches!(end.kind, TokenKind::End)
+        }
+        _ => false,
+    }
+}
+
+fn expression(alloc: Global, text: &str) -> Result<String, Fail> {
+    let mut names = new_names(alloc)?;
+    let mut out = String::new(alloc);
+    let Ok(found) = read(alloc, text, &mut names) else {
+        return spelled(alloc, "-");
+    };
+    match expr(alloc, found.as_slice(), DEPTH) {
+        Ok((expr, rest)) if is_end(rest) => show_expr(&mut out, &names, &expr)?,
+        _ => out.push('-')?,
+    }
+    Ok(out)
+}
+
+fn is_expression(alloc: Global, text: &str) -> Result<String, Fail> {
+    let mut names = new_names(alloc)?;
+    let found = read(alloc, text, &mut names)?;
+    match expr(alloc, found.as_slice(), DEPTH) {
+        Ok((_, rest)) if is_end(rest) => spelled(alloc, "yes"),
+        _ => spelled(alloc, "no"),
+    }
+}
+
+fn list(alloc: Global, text: &str) -> Result<String, Fail> {
+    let mut names = new_names(alloc)?;
+    let mut out = String::new(alloc);
+    let found = read(alloc, text, &mut names)?;
+    match expr_list(alloc, found.as_slice(), DEPTH) {
+        Ok((expr, rest)) if is_end(rest) => show_expr(&mut out, &names, &expr)?,
+        _ => out.push('-')?,
+    }
+    Ok(out)
+}
+
+fn shown_target(alloc: Global, text: &str) -> Result<String, Fail> {
+    let mut names = new_names(alloc)?;
+    let mut out = String::new(alloc);
+    let found = read(alloc, text, &mut names)?;
+    match target(alloc, found.as_slice(), DEPTH) {
+        Ok((target, rest)) if is_end(rest) => show_target(&mut out, &names, &target)?,
+        _ => out.push('-')?,
+    }
+    Ok(out)
+}
+
+fn parameters(alloc: Global, text: &str) -> Result<String, Fail> {
+    let mut names = new_names(alloc)?;
+    let mut out = String::new(alloc);
+    let found = read(alloc, text, &mut names)?;
+    match params(alloc, found.as_slice(), DEPTH) {
+        Ok((params, rest)) if is_end(rest) => show_params(&mut out, &names, &params)?,
+        _ => out.push('-')?,
+    }
+    Ok(out)
+}
+
+fn place(alloc: Global, text: &str) -> Result<String, Fail> {
+    let mut names = new_names(alloc)?;
+    let mut out = String::new(alloc);
+    let found = read(alloc, text, &mut names)?;
+    let (expr, _) = expr(alloc, found.as_slice(), DEPTH)?;
+    match place_of(alloc, expr) {
+        Ok(place) => show_place(&mut out, &names, &place)?,
+        Err(_) => out.push('-')?,
+    }
+    Ok(out)
+}
+
+fn line(alloc: Global, text: &str) -> Result<String, Fail> {
+    let mut names = new_names(alloc)?;
+    let found = read(alloc, text, &mut names)?;
+    let (expr, _) = expr(alloc, found.as_slice(), DEPTH)?;
+    let line = expr.line.0;
+    Ok(format!(in alloc; "{line}")?)
+}
+
+/// What parsing a text gives, none where it has no tokens.
+pub fn parsed(alloc: Global, names: &mut Names, text: &str) -> Option<Result<Tree, ParseFault>> {
+    let Ok(found) = tokens(alloc, text, names) else {
+        return None;
+    };
+    Some(parse(alloc, found.as_slice()))
+}
+
+fn statements(alloc: Global, text: &str) -> Result<String, Fail> {
+    let mut names = new_names(alloc)?;
+    match parsed(alloc, &mut names, text) {
+        Some(Ok(tree)) => {
+            let mut out = String::new(alloc);
+            show_stmts(&mut out, &names, &tree.body)?;
+            Ok(out)
+        }
+        Some(Err(ParseFault::Syntax(line))) => {
+            let line = line.0;
+            Ok(format!(in alloc; "{line}")?)
+        }
+        Some(Err(ParseFault::Memory)) => spelled(alloc, "no memory"),
+        None => spelled(alloc, "no tokens"),
+    }
+}
+
+fn refused_at(alloc: Global, text: &str) -> Result<String, Fail> {
+    let mut names = new_names(alloc)?;
+    let script = format!(in alloc; "{text}\n")?;
+    match parsed(alloc, &mut names, script.as_str()) {
+        Some(Ok(_)) => spelled(alloc, "0"),
+        Some(Err(ParseFault::Syntax(line))) => {
+            let line = line.0;
+            Ok(format!(in alloc; "{line}")?)
+        }
+        Some(Err(ParseFault::Memory)) => spelled(alloc, "no memory"),
+        None => spelled(alloc, "no tokens"),
+    }
+}
+
+fn tree_height(alloc: Global, text: &str) -> Result<String, Fail> {
+    let mut names = new_names(alloc)?;
+    match parsed(alloc, &mut names, text) {
+        Some(Ok(tree)) => {
+            let height = height(&tree);
+            Ok(format!(in alloc; "{height}")?)
+        }
+        _ => spelled(alloc, "no tree"),
+    }
+}
+
+/// The statements that bytes are compiled to, in words, or why they are refused.
+pub fn compiled_bytes(alloc: Global, bytes: &[u8]) -> Result<String, Fail> {
+    let mut names = new_names(alloc)?;
+    match compile_script(alloc, bytes, &mut names) {
+        Ok(script) => {
+            let mut out = String::new(alloc);
+            crate::shown_scripts::describe_all(&mut out, &names, script.statements())?;
+            Ok(out)
+        }
+        Err(refusal) => {
+            let told = refusal_text(alloc, "", &refusal)?;
+            spelled(alloc, told.as_str().trim())
+        }
+    }
+}
+
+fn compile_refusal(alloc: Global, text: &str) -> Result<String, Fail> {
+    let mut names = new_names(alloc)?;
+    match compile_script(alloc, text.as_bytes(), &mut names) {
+        Ok(_) => Ok(String::new(alloc)),
+        Err(refusal) => {
+            let told = refusal_text(alloc, "", &refusal)?;
+            spelled(alloc, told.as_str().trim())
+        }
+    }
+}
