@@ -13,3 +13,4 @@ pub mod Fields
 pub mod Shown
 pub mod Checked
 pub mod Placed
+pub mod Jumps

@@ -1,5 +1,5 @@
 -- Rings of `like`: by the names of the classes, and by their places.
-use Rattle.std.proofs.Common.{◌≡◌, ℕ, zero, suc, ◌<◌, ◌≤◌, ◌||◌, Bool, true, false, List, [], ◌∷◌, length, get_or, map, filter, find, Option, Some, None, option_map, option_and_then, slice_get, refl, sym, ap, subst, ◌∙◌, cond, if◌then◌else◌, inl, inr, arith}
+use Rattle.std.proofs.Common.{◌≡◌, ℕ, zero, suc, ◌<◌, ◌≤◌, ◌||◌, Bool, true, false, List, [], ◌∷◌, length, get_or, map, filter, find, Option, Some, None, option_map, option_and_then, slice_get, refl, sym, ap, ◌∙◌, cond, if◌then◌else◌, inl, inr, arith}
 use Rattle.std.proofs.lemmas.Bool.{cases_lt}
 use Rattle.rp_base.specs.Same.{same_text}
 use Rattle.std.proofs.lemmas.Option.{slice_get-map}
@@ -13,20 +13,6 @@ use Rattle.rp_decl.specs.Order.{least, lesser_of, place_of}
 use Rattle.rp_decl.specs.Records.{Class, Declarations}
 use Rattle.rp_decl.specs.Ring.{follow_places, is_place, is_reached, like_place, next}
 
--- one step more at the end
-pub follow_places-last : (likes : List (Option ℕ)) (n place : ℕ) → follow_places likes (suc n) place ≡ option_and_then (next likes) (follow_places likes n place)
-follow_places-last likes zero place = by (next likes place)
-  where
-    by : (o : Option ℕ) → option_and_then (λ p. Some p) o ≡ o
-    by None = refl
-    by (Some p) = refl
-follow_places-last likes (suc n) place = by (next likes place) (follow_places-last likes n)
-  where
-    by : (o : Option ℕ) → ((p : ℕ) → follow_places likes (suc n) p ≡ option_and_then (next likes) (follow_places likes n p))
-        → option_and_then (follow_places likes (suc n)) o ≡ option_and_then (next likes) (option_and_then (follow_places likes n) o)
-    by None step = refl
-    by (Some p) step = step p
-
 -- a place that is reached in some steps is reached in more
 pub is_reached-more : (likes : List (Option ℕ)) (place m n : ℕ) → is_reached likes m place ≡ true → m ≤ n → is_reached likes n place ≡ true
 is_reached-more likes place zero n h le = cc
@@ -39,21 +25,6 @@ is_reached-more likes place (suc m) (suc n) h le = elim (cases_lt m n) [
     or_right : (a b : Bool) → b ≡ true → (a || b) ≡ true
     or_right true b e = refl
     or_right false b e = e
-
--- where there is no further step, no place is reached any more
-pub follow_places-none : (likes : List (Option ℕ)) (place m n : ℕ) → follow_places likes m place ≡ None → m ≤ n → follow_places likes n place ≡ None
-follow_places-none likes place m zero h le = let none : m ≡ 0 = omega arith in subst (λ k. follow_places likes k place ≡ None) none h
-follow_places-none likes place m (suc n) h le = elim (cases_lt n m) [
-  | inl less ↦ let same : m ≡ suc n = omega arith in subst (λ k. follow_places likes k place ≡ None) same h
-  | inr least ↦ follow_places-last likes n place ∙ ap (option_and_then (next likes)) (follow_places-none likes place m n h least)
-]
-
-pub is_reached-end : (likes : List (Option ℕ)) (place m n : ℕ) → follow_places likes (suc m) place ≡ None → is_reached likes m place ≡ false → m ≤ n → is_reached likes n place ≡ false
-is_reached-end likes place m zero none h le = refl
-is_reached-end likes place m (suc n) none h le = elim (cases_lt n m) [
-  | inl less ↦ let same : m ≡ suc n = omega arith in subst (λ k. is_reached likes k place ≡ false) same h
-  | inr least ↦ rw (follow_places-none likes place (suc m) (suc n) none (omega arith)) (is_reached-end likes place m n none h least)
-]
 
 find-place : (cs : List Class) (name : List ℕ) → find (λ c. same_text name c.name) cs ≡ option_and_then (slice_get cs) (place_of (map (λ c. c.name) cs) name)
 find-place [] name = refl

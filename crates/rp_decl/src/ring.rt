@@ -1,11 +1,12 @@
 //! Rings of classes that are like one another.
 
-ghost use Rattle.std.specs.Prelude.{◌≡◌, ℕ, List, IfOk, None, Some, codes, filter, if◌then◌else◌, length, map, option_and_then};
+ghost use Rattle.std.specs.List.{list_any};
+ghost use Rattle.std.specs.Prelude.{◌<◌, ◌||◌, ◌≡◌, ℕ, List, IfOk, None, Some, codes, false, filter, get_or, if◌then◌else◌, length, map, option_and_then};
 ghost use Rattle.toml.specs.View.{table_view, view};
 ghost use Rattle.rp_decl.specs.Consistency.{class_names, is_on_ring};
 ghost use Rattle.rp_decl.specs.Document.{class_of, each_at, each_member, members_of, records_of, text_at};
 ghost use Rattle.rp_decl.specs.Order.{least, place_of};
-ghost use Rattle.rp_decl.specs.Ring.{is_reached, like_place, next};
+ghost use Rattle.rp_decl.specs.Ring.{is_place, is_reached, like_place, next};
 
 use crate::document::member;
 use crate::least::lesser_of;
@@ -24,42 +25,98 @@ pub(crate) fn ring_fault(
     ensures { IfOk result (λ fault. let d = records_of (table_view document.now) in fault ≡ least (filter (is_on_ring d) (class_names d))) }
 {
     let likes = likes(alloc, classes, document)?;
+    let rings = on_rings(alloc, likes.as_slice())?;
     let mut least = None;
     for (place, name) in classes.texts().iter().enumerate() {
-        let fault = class_on_ring(likes.as_slice(), place, name)?;
+        let fault = class_on_ring(rings.as_slice(), place, name)?;
         least = lesser_of(least, fault);
     }
     Ok(least)
 }
 
 /// The name of the class at a place, where it stands on a ring.
-fn class_on_ring(likes: &[Option<usize>], place: usize, name: &Text) -> Result<Option<Text>, Memory>
-    ensures { IfOk result (λ fault. fault ≡ (if is_reached likes.now (length likes.now) place then Some name.now else None)) }
+fn class_on_ring(rings: &[bool], place: usize, name: &Text) -> Result<Option<Text>, Memory>
+    ensures { IfOk result (λ fault. fault ≡ (if get_or rings.now place false then Some name.now else None)) }
 {
-    if is_reached(likes, place) {
+    if is_marked(rings, place) {
         Ok(Some(name.copy()?))
     } else {
         Ok(None)
     }
 }
 
-/// Whether a class is reached again from its place, in no more steps than there are classes.
-fn is_reached(likes: &[Option<usize>], start: usize) -> bool
-    ensures { result ≡ is_reached likes.now (length likes.now) start }
+fn is_marked(marks: &[bool], place: usize) -> bool
+    ensures { result ≡ get_or marks.now place false }
 {
-    let mut at = start;
-    for step in 0..likes.len() {
-        match next(likes, at) {
-            Some(place) => {
-                if place == start {
-                    return true;
-                }
-                at = place;
-            }
-            None => return false,
+    match marks.get(place) {
+        Some(mark) => *mark,
+        None => false,
+    }
+}
+
+/// For each place whether it is reached again from itself.
+fn on_rings(alloc: Global, likes: &[Option<usize>]) -> Result<Vec<bool>, Memory>
+    ensures { IfOk result (λ rings. (place : ℕ) → place < length likes.now → get_or rings.items place false ≡ is_reached likes.now (length likes.now) place) }
+{
+    let ends = ends(alloc, likes)?;
+    led_to(alloc, ends.as_slice())
+}
+
+/// Where each place leads in more steps than there are places, which is on a ring: a chain with no ring has no place twice.
+fn ends(alloc: Global, likes: &[Option<usize>]) -> Result<Vec<Option<usize>>, Memory>
+    ensures as_many { IfOk result (λ ends. length ends.items ≡ length likes.now) }
+    ensures on_rings { IfOk result (λ ends. (place : ℕ) → list_any (is_place place) ends.items ≡ is_reached likes.now (length likes.now) place) }
+{
+    let mut ends = twice(alloc, likes)?;
+    let mut steps = 2;
+    while steps <= likes.len() {
+        ends = twice(alloc, ends.as_slice())?;
+        steps += steps;
+    }
+    Ok(ends)
+}
+
+/// Where each place leads in twice as many steps.
+fn twice(alloc: Global, ends: &[Option<usize>]) -> Result<Vec<Option<usize>>, Memory>
+    ensures { IfOk result (λ further. further.items ≡ map (option_and_then (next ends.now)) ends.now) }
+{
+    let mut further = Vec::new(alloc);
+    for end in ends.iter() {
+        further.push(from(ends, *end))?;
+    }
+    Ok(further)
+}
+
+fn from(ends: &[Option<usize>], place: Option<usize>) -> Option<usize>
+    ensures { result ≡ option_and_then (next ends.now) place }
+{
+    match place {
+        Some(place) => next(ends, place),
+        None => None,
+    }
+}
+
+/// For each place whether one of the ends is there.
+fn led_to(alloc: Global, ends: &[Option<usize>]) -> Result<Vec<bool>, Memory>
+    ensures { IfOk result (λ marks. (place : ℕ) → place < length ends.now → get_or marks.items place false ≡ list_any (is_place place) ends.now) }
+{
+    let mut marks = vec![in alloc; false; ends.len()]?;
+    for end in ends.iter() {
+        mark(marks.as_mut_slice(), *end);
+    }
+    Ok(marks)
+}
+
+/// Marks a place, where there is one among the marks.
+fn mark(marks: &mut [bool], end: Option<usize>)
+    ensures as_many { length marks.new ≡ length marks.old }
+    ensures marked { (place : ℕ) → place < length marks.old → get_or marks.new place false ≡ (is_place place end || get_or marks.old place false) }
+{
+    if let Some(place) = end {
+        if place < marks.len() {
+            marks[place] = true;
         }
     }
-    false
 }
 
 fn next(likes: &[Option<usize>], place: usize) -> Option<usize>

@@ -17,6 +17,9 @@ use Rattle.rp_dict.specs.Slot.{slot_eq}
 use Rattle.rp_dict.specs.Places.{AreKept, Fits, before, dead_at, dead_count, flat, is_live, live, second_changed}
 use Rattle.rp_dict.specs.Dict.{with_second}
 
+one_more : (a b : ℕ) → a + 1 ≡ b → suc a + 1 ≡ suc b
+one_more a b h = omega (arith, h)
+
 module _ {K V : Type 0} where
   -- each place is a pair or a mark
   pub length-live : (n : ℕ) (es : List (Slot K × Option V)) → AreKept n es → length es ≡ length (live es) + dead_count es
@@ -46,6 +49,8 @@ module _ {K V : Type 0} (eq : K → K → Bool) (k : K) (test : Slot K → Bool)
   -- what holds where a place with the key becomes a mark, or is taken away
   pub record Taken (n : ℕ) (es : List (Slot K × Option V)) (i : ℕ) (d : Slot K × Option V) : Type 0 where
     pub value : (get_or es i d).1 ≡ lookup (eq k) (live es)
+    pub within : i < length es
+    pub pair : length (live (take i es)) + 1 ≡ length (live (take (suc i) es))
     pub marked : live (slice_set es i (Dead n, None)) ≡ remove_entry (eq k) (live es)
     pub marked-kept : AreKept (n + 1) (slice_set es i (Dead n, None))
     pub marked-counted : dead_count (slice_set es i (Dead n, None)) ≡ dead_count es + 1
@@ -72,6 +77,8 @@ module _ {K V : Type 0} (eq : K → K → Bool) (k : K) (test : Slot K → Bool)
           let found : eq k b ≡ true = sym (at_live b) ∙ here in
           record {
             value = sym (ap (λ t. cond t (Some v) (lookup (eq k) (live es))) found);
+            within = omega arith;
+            pair = refl;
             marked = sym (ap (λ t. cond t (live es) ((b, v) ∷ remove_entry (eq k) (live es))) found);
             marked-kept = (omega arith, later n es kept.1);
             marked-counted = omega arith;
@@ -89,6 +96,8 @@ module _ {K V : Type 0} (eq : K → K → Bool) (k : K) (test : Slot K → Bool)
           let missed : eq k b ≡ false = sym (at_live b) ∙ here in
           record {
             value = rest.value ∙ sym (ap (λ t. cond t (Some v) (lookup (eq k) (live es))) missed);
+            within = omega (arith, rest.within);
+            pair = one_more _ _ rest.pair;
             marked = ap (λ l. (b, v) ∷ l) rest.marked ∙ sym (ap (λ t. cond t (live es) ((b, v) ∷ remove_entry (eq k) (live es))) missed);
             marked-kept = (tt, rest.marked-kept);
             marked-counted = omega (arith, rest.marked-counted);
@@ -101,6 +110,8 @@ module _ {K V : Type 0} (eq : K → K → Bool) (k : K) (test : Slot K → Bool)
       by (Dead m) None fits here rest =
           record {
             value = rest.value;
+            within = omega (arith, rest.within);
+            pair = rest.pair;
             marked = rest.marked;
             marked-kept = (omega (arith, fits), rest.marked-kept);
             marked-counted = omega (arith, rest.marked-counted);

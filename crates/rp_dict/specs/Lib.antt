@@ -1,5 +1,6 @@
 pub mod Dict
 pub mod Form
 pub mod Places
+pub mod Ranks
 pub mod Slot
 pub mod Walk

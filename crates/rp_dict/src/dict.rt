@@ -85,8 +85,8 @@ impl<K: Eq + Hash, V> Dict<K, V> {
         self.form.get(key)
     }
 
-    /// The pair at a place, counted from 0. None exactly where the place is not below the length. After keys were taken
-    /// out of a dict of many it may walk to the pair: `walk` gives all in turn, and `close_up` helps.
+    /// The pair at a place, counted from 0. None exactly where the place is not below the length. It takes constant time
+    /// until a key is taken out; then it may take a step for each 1,024 pairs and 1,024 more. `walk` gives all in turn.
     pub fn at(&self, i: usize) -> Option<(&K, &V)>
         ensures pair { option_map deref_pair result ≡ slice_get self.now i }
         ensures distinct { HasDistinctKeys K.eq self.now }
@@ -102,15 +102,12 @@ impl<K: Eq + Hash, V> Dict<K, V> {
         self.form.walk()
     }
 
-    /// Makes `at` take constant time until a key is taken out; the pairs stay. It takes time by their number where a
-    /// key was taken out since, and else none.
-    pub fn close_up(&mut self)
-    where
-        K: Drop,
-        V: Drop,
+    /// Keeps where the pair at a place stands, so that `at` finds that pair sooner, and `seek` the one after it; the
+    /// pairs stay. It takes what `at` takes.
+    pub fn seek(&mut self, i: usize)
         ensures { self.new ≡ self.old }
     {
-        self.form.close_up();
+        self.form.seek(i);
     }
 
     /// Gives a key its value, and answers the value that it had. A new key goes last; a held one keeps its place and

@@ -88,15 +88,12 @@ impl<K: Eq + Hash, V> Form<K, V> {
         }
     }
 
-    pub(crate) fn close_up(&mut self)
-    where
-        K: Drop,
-        V: Drop,
+    pub(crate) fn seek(&mut self, i: usize)
         ensures { pairs_of self.new ≡ pairs_of self.old }
     {
         match self {
             Form::Few(_) => (),
-            Form::Many(table) => table.close_up(),
+            Form::Many(table) => table.seek(i),
         }
     }
 

@@ -4,6 +4,7 @@
 mod dict;
 mod few;
 mod form;
+mod ranks;
 mod slot;
 mod table;
 mod walk;
@@ -12,6 +13,8 @@ pub use dict::Dict;
 // A crate can name a dict in a contract only if the types of its fields are exported.
 #[doc(hidden)]
 pub use form::Form;
+#[doc(hidden)]
+pub use ranks::Ranks;
 #[doc(hidden)]
 pub use slot::Slot;
 #[doc(hidden)]

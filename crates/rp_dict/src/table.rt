@@ -9,6 +9,8 @@ ghost use Rattle.rp_dict.specs.Places.{AreCounted, flat, is_live, live, second_c
 ghost use Rattle.rp_dict.specs.Slot.{slot_eq};
 ghost use Rattle.rp_dict.specs.declared.slot.Slot.TheVariants.{Dead};
 
+use crate::ranks;
+use crate::ranks::Ranks;
 use crate::slot::Slot;
 use crate::walk::{Walk, first, walked_at};
 use indexmap::IndexMap;
@@ -25,17 +27,19 @@ pub struct Table<K: Eq + Hash, V> {
     map: IndexMap<Slot<K>, Option<V>, Seed>,
     next: u64,
     dead: usize,
+    ranks: Ranks,
 }
 
 impl<K: Eq + Hash, V> Model for Table<K, V> {
     ghost use Rattle.std.specs.Prelude.{List};
-    ghost use Rattle.rp_dict.specs.Places.{AreCounted, live};
+    ghost use Rattle.rp_dict.specs.Places.{live};
+    ghost use Rattle.rp_dict.specs.Ranks.{IsTable};
 
     ghost Value = { List (K × V) };
 
     ghost view = { λ m. live m.map.entries };
 
-    ghost invariant = { λ m. AreCounted m.next m.dead m.map.entries };
+    ghost invariant = { λ m. IsTable m.next m.dead m.ranks.counts.items m.ranks.index m.ranks.place m.map.entries };
 }
 
 impl<K: Eq + Hash, V> Table<K, V> {
@@ -47,6 +51,7 @@ impl<K: Eq + Hash, V> Table<K, V> {
             map: IndexMap::with_hasher(alloc, seed),
             next: 0,
             dead: 0,
+            ranks: Ranks::new(alloc),
         }
     }
 
@@ -65,6 +70,7 @@ impl<K: Eq + Hash, V> Table<K, V> {
             map: IndexMap::with_capacity_and_hasher(alloc, n, seed)?,
             next: 0,
             dead: 0,
+            ranks: Ranks::new(alloc),
         })
     }
 
@@ -92,6 +98,7 @@ impl<K: Eq + Hash, V> Table<K, V> {
             map,
             next: 0,
             dead: 0,
+            ranks: Ranks::new(alloc),
         };
         Ok(table)
     }
@@ -104,8 +111,8 @@ impl<K: Eq + Hash, V> Table<K, V> {
         self.map.len() - self.dead
     }
 
-    /// The pair at a place, counted from 0: in constant time where there is no mark, else it is walked to. None exactly
-    /// where the place is not below the length.
+    /// The pair at a place, counted from 0: in constant time where there is no mark, else it is walked to within its
+    /// block. None exactly where the place is not below the length.
     pub(crate) fn at(&self, i: usize) -> Option<(&K, &V)>
         ensures { option_map deref_pair result ≡ slice_get self.now i }
     {
@@ -113,14 +120,15 @@ impl<K: Eq + Hash, V> Table<K, V> {
             let (slot, value) = self.map.get_index(i)?;
             return first(slot, value);
         }
-        walked_at(self.walk(), i)
+        let (place, left) = ranks::near(&self.map, &self.ranks, i);
+        walked_at(Walk::of_places(&self.map, place), left)
     }
 
     /// A walk over the pairs, in their order.
     pub(crate) fn walk(&self) -> Walk<'_, K, V>
         ensures { result ≡ self.now }
     {
-        Walk::of_places(&self.map)
+        Walk::of_places(&self.map, 0)
     }
 
     /// The value of a key. None exactly where no pair has it.
@@ -148,6 +156,7 @@ impl<K: Eq + Hash, V> Table<K, V> {
         ensures same { OnErr result (self.new ≡ self.old) }
     {
         let old = self.map.insert(Slot::Live(key), Some(value))?;
+        ranks::count_blocks(&self.map, &mut self.ranks.counts);
         Ok(flattened(old))
     }
 
@@ -162,8 +171,10 @@ impl<K: Eq + Hash, V> Table<K, V> {
         let place = self.map.get_index_of(Slot::Live(key))?;
         let half = self.map.len() / 2;
         if self.next == u64::MAX {
+            self.ranks.reset();
             return taken_away(&mut self.map, place);
         }
+        ranks::lower(&self.map, &mut self.ranks, place);
         match marked(&mut self.map, place, self.next) {
             Ok(old) => {
                 self.next += 1;
@@ -171,23 +182,24 @@ impl<K: Eq + Hash, V> Table<K, V> {
                 if self.dead > half {
                     unmark(&mut self.map);
                     self.dead = 0;
+                    self.ranks.reset();
+                    ranks::count_blocks(&self.map, &mut self.ranks.counts);
                 }
                 old
             }
-            Err(_) => taken_away(&mut self.map, place),
+            Err(_) => {
+                self.ranks.reset();
+                taken_away(&mut self.map, place)
+            }
         }
     }
 
-    /// Takes all marks away, so that `at` takes constant time until a key is taken out.
-    pub(crate) fn close_up(&mut self)
-    where
-        K: Drop,
-        V: Drop,
+    /// Keeps where the pair at a place stands, so that `at` and the next `seek` begin there.
+    pub(crate) fn seek(&mut self, i: usize)
         ensures { self.new ≡ self.old }
     {
         if self.dead > 0 {
-            unmark(&mut self.map);
-            self.dead = 0;
+            ranks::stand(&self.map, &mut self.ranks, i);
         }
     }
 
@@ -199,6 +211,7 @@ impl<K: Eq + Hash, V> Table<K, V> {
     {
         self.map.clear();
         self.dead = 0;
+        self.ranks.reset();
     }
 }
 

@@ -45,12 +45,16 @@ impl<'a, K: Eq + Hash, V> Walk<'a, K, V> {
         }
     }
 
-    pub(crate) fn of_places(map: &'a IndexMap<Slot<K>, Option<V>, Seed>) -> Walk<'a, K, V>
-        ensures { result ≡ live map.now.entries }
+    /// The pairs from a place on.
+    pub(crate) fn of_places(
+        map: &'a IndexMap<Slot<K>, Option<V>, Seed>,
+        place: usize,
+    ) -> Walk<'a, K, V>
+        ensures { result ≡ live (drop place map.now.entries) }
     {
         Walk {
             rest: Rest::Many(map),
-            place: 0,
+            place,
         }
     }
 
@@ -101,7 +105,7 @@ fn next_pair<'a, K: Eq + Hash, V>(
     None
 }
 
-fn pair<'a, K, V>(slot: &'a Slot<K>, value: &'a Option<V>) -> Option<(&'a K, &'a V)>
+pub(crate) fn pair<'a, K, V>(slot: &'a Slot<K>, value: &'a Option<V>) -> Option<(&'a K, &'a V)>
     ensures { (ps : List (K × V)) → MatchOption result (before slot.now value.now ps ≡ ps) (λ p. before slot.now value.now ps ≡ (p.0.now, p.1.now) ∷ ps) }
 {
     match slot {

@@ -136,7 +136,7 @@ fn no_walk(alloc: Global) -> Result<Cursor, OpEnd>
 impl Cursor {
     /// The next element, None where there is none. An element takes a step, and a character then costs a cell for each
     /// of its bytes. A list is walked as it is now, also where it has grown; what is walked out of a proxy is lent. It
-    /// takes constant time, but for a dict out of which a key was taken since the last element, which closes up.
+    /// takes constant time, but for a dict out of which keys were taken, in which the place of a key is sought.
     ///
     /// # Errors
     /// - `Raised` with `RuntimeError`, where a dict has another number of keys than at first.
@@ -211,7 +211,7 @@ fn key_after(
     ensures sound { (heap : List Owned) → IfOk result (λ found. IfSome found (λ v. IsSound heap v)) }
     ensures fewer { meter.new.left ≤ meter.old.left }
 {
-    store.close_up(at);
+    store.seek(at, *next);
     let entries = entries_at(store, at);
     if entries.len() != size {
         return Err(Refusal::Resized.end(alloc));

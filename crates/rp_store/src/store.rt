@@ -122,12 +122,13 @@ impl Store {
         self.limit = limit;
     }
 
-    /// Counts the bytes of a text that costs no cell, as that of an exception which the system raises. A text of at
-    /// most 128 bytes has room in the cell of what holds it.
+    /// Counts the bytes of a text that costs no cell, as that of an exception which the system raises: twice, since the
+    /// text may have room for as many again from when it was built. A text of at most 128 bytes has room in the cell of
+    /// what holds it.
     ///
     /// # Errors
-    /// `Memory` where those of all such texts so far pass 300 bytes for each cell of the limit, and 64 MB. They are
-    /// never given back.
+    /// `Memory` where what is counted so far passes 300 bytes for each cell of the limit, and 64 MB. It is never given
+    /// back.
     pub fn hold_text(&mut self, bytes: usize) -> Result<(), Memory>
         ensures same { self.new ≡ self.old }
     {
@@ -139,7 +140,7 @@ impl Store {
             .limit
             .saturating_mul(BYTES_OF_A_CELL)
             .max(BYTES_OF_A_STORE);
-        self.held = self.held.saturating_add(bytes);
+        self.held = self.held.saturating_add(bytes.saturating_mul(2));
         if self.held > most {
             return Err(Memory);
         }
@@ -562,13 +563,13 @@ impl Store {
         Ok(())
     }
 
-    /// Makes the entries of a dict be found by their places in constant time until a key is taken out. What it holds
-    /// stays, as does an object that is no dict.
-    pub fn close_up(&mut self, at: Oid)
+    /// Keeps in a dict where its entry at a place stands, so that this entry and the one after it are found sooner. What
+    /// it holds stays, as does an object that is no dict.
+    pub fn seek(&mut self, at: Oid, place: usize)
         requires { IsHeld self.old.heap at }
         ensures { self.new ≡ self.old }
     {
-        self.slots[at.0].object.close_up();
+        self.slots[at.0].object.seek(place);
     }
 
     /// Takes a key out of a dict, and answers its value. None exactly where no entry has the key.

@@ -75,7 +75,7 @@ const CALLS: [&str; 66] = [
     "class_of",
     "element",
     "len_of",
-    "close_up",
+    "seek",
     "slice",
     "live",
 ];
@@ -214,7 +214,6 @@ fn told_of(world: &mut World, verb: &str, a: &Value) -> Result<Answer, Fault> {
         "key" => key(a),
         "class_of" => stored::class_of(store, place(a)?),
         "len_of" => stored::len_of(store, place(a)?),
-        "close_up" => stored::close_up(store, place(a)?),
         "clear_methods" => stored::clear_methods(store, place(a)?),
         _ => Err(Fault::Unread),
     }
@@ -247,6 +246,7 @@ fn of_two(world: &mut World, verb: &str, a: &Value, b: &Value) -> Result<Answer,
         "element" => stored::element(store, place(a)?, (count(b)? & 0xFFFF) as usize),
         "remove_at" => stored::remove_at(store, place(a)?, (count(b)? & 0xFFFF) as usize),
         "drop_key" => stored::drop_key(store, place(a)?, b),
+        "seek" => stored::seek(store, place(a)?, (count(b)? & 0xFFFF) as usize),
         _ => Err(Fault::Unread),
     }
 }

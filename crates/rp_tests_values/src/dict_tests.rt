@@ -122,7 +122,7 @@ fn a_walk_passes_over_what_was_taken_out(rt: HostRuntime) -> Result<(), Fail> {
         walked(alloc, &dict)?.as_str(),
         "9=90 10=100 11=110 12=120 3=33 "
     );
-    dict.close_up();
+    dict.seek(2);
     assert_eq!(rt;
         walked(alloc, &dict)?.as_str(),
         "9=90 10=100 11=110 12=120 3=33 "

@@ -137,11 +137,11 @@ pub(crate) fn len_of(store: &Store, at: Oid) -> Result<Answer, Fault> {
     }
 }
 
-pub(crate) fn close_up(store: &mut Store, at: Oid) -> Result<Answer, Fault> {
+pub(crate) fn seek(store: &mut Store, at: Oid, place: usize) -> Result<Answer, Fault> {
     if at.0 >= store.len() {
         return Err(Fault::Unsound);
     }
-    store.close_up(at);
+    store.seek(at, place);
     done()
 }
 

@@ -52,10 +52,10 @@ const CASES: &str = "
     f = def f(); g = def g(); charged; cells 3; c = class C {a: f}; set_method c a g; used; set_method c b f; set_method c d f; c; method c a; method c d; clear_methods c; method c a; used => done; 2; done; stop cells; class C {a: g, b: f}; def g(); none; done; none; 3 | 3 cells
     f = def f(); c = class C {a: f}; clear_methods c; method c a; c => done; none; class C {}
 
-    Texts without cells are counted. A text of more than 128 bytes that costs no cell counts: 300 bytes for each cell of the limit, and at least 64 MB. A store that counts its cells again keeps that count.
-    cells 0; hold 128; hold 64000000; used => done; done; 0
-    cells 0; hold 64000001; hold 128; used => no memory; done; 0
-    cells 1000000; hold 300000000; hold 128; hold 129; cells 1000000; hold 129 => done; done; no memory; no memory
+    Texts without cells are counted. A text of more than 128 bytes that costs no cell counts twice: 300 bytes for each cell of the limit, and at least 64 MB. A store that counts its cells again keeps that count.
+    cells 0; hold 128; hold 32000000; used => done; done; 0
+    cells 0; hold 32000001; hold 128; used => no memory; done; 0
+    cells 1000000; hold 150000000; hold 128; hold 129; cells 1000000; hold 129 => done; done; no memory; no memory
 
     Parts are read by place and by name.
     x = [5, 6]; element x 1; element x 2; len_of x; t = (7,); element t 0; len_of t => 6; none; 2; 7; 1
@@ -63,7 +63,7 @@ const CASES: &str = "
     f = def f(); c = class C {a: f}; x = c {b: 7}; method_of x a; method_of x b; class_of x => def f(); none; class C {a: f}
     f = def f(); class_of f; method_of f a; class_of []; method f a => none; none; none; none
     f = def f(); g = def g(); c = class C {a: f}; d = class D {b: g, e: f}; set_methods c d; c; d => done; class C {b: g, e: f}; class D {b: g, e: f}
-    d = {1: 2, 3: 4}; drop_key d 1; close_up d; d; x = [1]; close_up x; x => 2; done; {3: 4}; done; [1]
+    d = {1: 2, 3: 4}; drop_key d 1; seek d 0; d; x = [1]; seek x 1; x => 2; done; {3: 4}; done; [1]
 
     What breaks a condition is not called.
     x = [1]; put x 1 2; set_field x a 1; clear_methods x; insert x 2 0; set_at x 1 0; remove_at x 1; x => unsound; unsound; unsound; unsound; unsound; unsound; [1]

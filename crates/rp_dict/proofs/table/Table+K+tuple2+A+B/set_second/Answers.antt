@@ -2,6 +2,7 @@ use Rattle.std.proofs.Common.{◌≡◌, refl, sym, subst, ◌∙◌, None, Some
 use Rattle.std.specs.Option.{option_map}
 use Rattle.rp_dict.specs.declared.slot.Slot.TheVariants.{Live, Dead}
 use Rattle.rp_dict.specs.Slot.{sought}
+use Rattle.rp_dict.proofs.Blocks.{blocks_like, place_like, rank_second, set_longer as longer}
 use Rattle.rp_dict.proofs.Live.{absent-live, second_answer-absent, second_answer-held, second_place, taken_at}
 use Rattle.rp_dict.proofs.Pairs.{same-with_second, with_second-missing}
 use Rattle.rp_dict.proofs.table.Table+K+tuple2+A+B.set_second.Goals as goal
@@ -9,7 +10,7 @@ use Rattle.rp_dict.proofs.table.Table+K+tuple2+A+B.set_second.Goals as goal
 pub invariant_of-self : goal.invariant_of-self
 invariant_of-self g c =
     let s = second_place g.K.PartialEq.eq c.args.key.now (sought g.K.PartialEq.eq (Live c.args.key)) (λ b. refl) (λ m. refl) c.args.value _ _ c.in-Some.place c.self.invariant.kept (sym c.in-Some.ensures.index) in
-    rw (c.second_set.ensures.set (Dead 0, None)) (record { kept = s.kept; counted = c.self.invariant.counted ∙ sym s.counted })
+    rw (c.second_set.ensures.set (Dead 0, None)) (record { kept = s.kept; counted = c.self.invariant.counted ∙ sym s.counted; blocks = blocks_like _ _ _ c.self.invariant.blocks (longer _ _ _) (λ i below. rank_second c.args.value _ _ (Dead 0, None) i); stand = place_like _ _ _ _ c.self.invariant.stand (longer _ _ _) (λ i below. rank_second c.args.value _ _ (Dead 0, None) i) })
 
 pub returns-in-Some-clause-set : goal.returns-in-Some-clause-set
 returns-in-Some-clause-set g c =

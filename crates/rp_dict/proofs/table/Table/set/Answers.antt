@@ -1,7 +1,8 @@
-use Rattle.std.proofs.Common.{refl, sym, ap, ◌∙◌, Result, Ok, Err, OnErr}
+use Rattle.std.proofs.Common.{refl, sym, ap, ◌∙◌, Result, Ok, Err, OnErr, Some}
 use Rattle.rp_dict.specs.declared.slot.Slot.TheVariants.{Live}
 use Rattle.rp_dict.specs.Places.{flat}
 use Rattle.rp_dict.specs.Slot.{slot_eq}
+use Rattle.rp_dict.proofs.Blocks.{blocks_like, insert_entry-longer, place_like, rank_insert}
 use Rattle.rp_dict.proofs.Live.{lookup-live, set}
 use Rattle.rp_dict.proofs.table.Table.set.Goals as goal
 
@@ -17,7 +18,7 @@ returns-in_err-old-clause-absent g c =
 pub invariant_of-self-2 : goal.invariant_of-self-2
 invariant_of-self-2 g c =
     let done = set g.K.PartialEq.eq c.args.key c.args.value c.self.inside.next c.self.inside.map.entries c.self.invariant.kept in
-    rw c.in_ok-old.ensures.entries (record { kept = done.kept; counted = c.self.invariant.counted ∙ sym done.counted })
+    rw c.in_ok-old.ensures.entries (record { kept = done.kept; counted = c.self.invariant.counted ∙ sym done.counted; blocks = rw (← c.in_ok-old.ensures.entries) c.count_blocks.ensures; stand = place_like _ _ _ _ c.self.invariant.stand (insert_entry-longer (slot_eq g.K.PartialEq.eq) (Live c.args.key) (Some c.args.value) _) (λ i below. rank_insert g.K.PartialEq.eq c.args.key c.args.value c.self.inside.next _ i c.self.invariant.kept below) })
 
 pub returns-clause-set : goal.returns-clause-set
 returns-clause-set g c =
@@ -28,3 +29,8 @@ pub returns-clause-held : goal.returns-clause-held
 returns-clause-held g c =
     rw (← c.self.view_is)
     (c.flattened.ensures ∙ ap flat c.in_ok-old.ensures.old ∙ lookup-live g.K.PartialEq.eq c.args.key (slot_eq g.K.PartialEq.eq (Live c.args.key)) (λ b. refl) (λ m. refl) _ _ c.self.invariant.kept)
+
+pub count_blocks-requires : goal.count_blocks-requires
+count_blocks-requires g c =
+    rw c.in_ok-old.ensures.entries
+    (blocks_like _ _ _ c.self.invariant.blocks (insert_entry-longer (slot_eq g.K.PartialEq.eq) (Live c.args.key) (Some c.args.value) _) (λ i below. rank_insert g.K.PartialEq.eq c.args.key c.args.value c.self.inside.next _ i c.self.invariant.kept below))
