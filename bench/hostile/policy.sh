@@ -1,12 +1,13 @@
 #!/usr/bin/env bash
 # The processor seconds and peak megabytes of `./rpy may` on each file that bench/hostile/policy.py writes, the least of three runs:
-# classes each like the next beside as many that are like none, and a principal in 1,000 groups of 20 roles of 1,000 permissions.
+# classes each like the next beside as many that are like none, and a principal in 1,000 groups of 20 roles of 1,000 permissions,
+# once with 20 roles in all and once with as many as fit.
 # Each is answered with status 0 or 1, or the line says what status it had. Builds what it needs. Asks for Linux (wait4).
 cd "$(dirname "${BASH_SOURCE[0]}")/../.." || exit 2
 ./rpy >/dev/null 2>&1 </dev/null
 folder=$(mktemp -d) || exit 2
 trap 'rm -r "$folder"' EXIT
-for kind in plain chain roles; do
+for kind in plain chain roles wide; do
     python3 bench/hostile/policy.py "$kind" "$folder/$kind.toml" || exit 2
     python3 - "$kind" "$folder/$kind.toml" <<'PYTHON'
 import os

@@ -25,7 +25,7 @@ use Rattle.rp_ops.specs.Outcome.{State, Outcome, raised, ends, gives, on_value}
 use Rattle.rp_ops.specs.Words.{word_of}
 use Rattle.rp_tree.specs.declared.expr.Expr.{Expr}
 use Rattle.rp_tree.specs.declared.expr.Params.{Params, out-Params}
-use Rattle.rp_tree.specs.declared.parts.Named.{Named}
+use Rattle.rp_tree.specs.Expressions.{Named}
 
 -- the parameters without a star, and whether there is `*NAME` and `**NAME`
 abbrev pub plain : Params → List (Named × Option Expr)

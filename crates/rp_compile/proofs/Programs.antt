@@ -4,14 +4,14 @@ use Rattle.std.specs.List.{All, list_all}
 use Rattle.rp_base.specs.Names.{HoldsEachOnce}
 use Rattle.rp_base.specs.declared.value.Line.{Line}
 use Rattle.rp_base.specs.declared.value.Name.{Name}
-use Rattle.rp_expr.specs.Brackets.{IsShallow}
-use Rattle.rp_expr.specs.Kinds.{Tokens, line_at}
+use Rattle.rp_grammar.specs.Brackets.{IsShallow}
+use Rattle.rp_grammar.specs.Kinds.{Tokens, line_at}
 use Rattle.rp_parse.specs.declared.fault.ParseFault.{ParseFault}
 use Rattle.rp_parse.specs.declared.fault.ParseFault.TheVariants as parse
-use Rattle.rp_parse.specs.Program.{IsLongestGood, Spells}
-use Rattle.rp_parse.specs.Renaming.{IsInjective, renamed_stmts, renamed_tokens}
-use Rattle.rp_parse.proofs.Complete.{one_tree}
-use Rattle.rp_parse.proofs.Renaming.{line_renamed, longest_renamed, spells_back, spells_renamed}
+use Rattle.rp_grammar.specs.Program.{IsLongestGood, Spells}
+use Rattle.rp_grammar.proofs.Renamed.{IsInjective, renamed_stmts, renamed_tokens}
+use Rattle.rp_grammar.proofs.StatementComplete.{one_tree}
+use Rattle.rp_grammar.proofs.Renaming.{line_renamed, longest_renamed, spells_back, spells_renamed}
 use Rattle.rp_token.specs.declared.fault.TokenFault.{TokenFault}
 use Rattle.rp_token.specs.declared.token.Token.{Token}
 use Rattle.rp_token.specs.Form.{Item}

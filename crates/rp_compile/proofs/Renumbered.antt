@@ -4,8 +4,8 @@ use Rattle.std.specs.List.{All, list_all}
 use Rattle.std.proofs.lemmas.Option.{get_or_from_slice_get, slice_get-get_or, slice_get_within}
 use Rattle.rp_base.specs.Names.{HoldsEachOnce}
 use Rattle.rp_base.specs.declared.value.Name.{Name}
-use Rattle.rp_expr.specs.Kinds.{Tokens}
-use Rattle.rp_parse.specs.Renaming.{IsInjective, renamed_kind, renamed_tokens}
+use Rattle.rp_grammar.specs.Kinds.{Tokens}
+use Rattle.rp_grammar.proofs.Renamed.{IsInjective, renamed_kind, renamed_tokens}
 use Rattle.rp_token.specs.declared.token.Token.{Token}
 use Rattle.rp_token.specs.declared.token.TokenKind.{TokenKind}
 use Rattle.rp_token.specs.declared.token.TokenKind.TheVariants as kind

@@ -2,7 +2,7 @@
 use Rattle.std.proofs.Common.{◌≡◌, refl, sym, ap, ◌∙◌, ℕ, Bool, true, false, if◌then◌else◌, List, [], ◌∷◌, map, codes, Option, Some, None, option_map, option_and_then}
 use Rattle.rp_base.specs.declared.value.Name.{Name}
 use Rattle.rp_base.specs.Same.{same_text}
-use Rattle.rp_parse.specs.Renaming.{renamed_args, renamed_expr, renamed_form, renamed_place, renamed_stmt_form, renamed_stmts, renamed_trailers}
+use Rattle.rp_grammar.proofs.Renamed.{renamed_args, renamed_expr, renamed_form, renamed_place, renamed_stmt_form, renamed_stmts, renamed_trailers}
 use Rattle.rp_tree.specs.Expressions as t
 use Rattle.rp_tree.specs.Expressions.{Args, Expr, Form, Place, Trailers}
 use Rattle.rp_tree.specs.Statements as s

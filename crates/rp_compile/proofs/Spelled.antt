@@ -9,7 +9,7 @@ use Rattle.std.proofs.lemmas.List.Folds.{list_all-append}
 use Rattle.rp_base.specs.Identifier.{identifier_of, is_start}
 use Rattle.rp_base.specs.Keyword.{is_keyword}
 use Rattle.rp_base.specs.declared.value.Line.{Line}
-use Rattle.rp_expr.specs.Kinds.{Tokens}
+use Rattle.rp_grammar.specs.Kinds.{Tokens}
 use Rattle.rp_token.specs.declared.fault.TokenFault.{TokenFault}
 use Rattle.rp_token.specs.declared.fault.TokenFault.TheVariants as fault
 use Rattle.rp_token.specs.declared.token.Token.{Token}

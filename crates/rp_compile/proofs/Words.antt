@@ -4,7 +4,7 @@ use Rattle.std.specs.List.{All}
 use Rattle.rp_base.specs.Names.{HoldsEachOnce, is_held, with_word}
 use Rattle.rp_base.specs.Same.{same_text}
 use Rattle.rp_base.proofs.Words.{same_text-equal, same_text-refl}
-use Rattle.rp_expr.specs.Kinds.{Tokens}
+use Rattle.rp_grammar.specs.Kinds.{Tokens}
 use Rattle.rp_token.specs.declared.token.TokenKind.{TokenKind}
 use Rattle.rp_token.specs.declared.token.TokenKind.TheVariants as kind
 use Rattle.rp_token.specs.Form.{Form, Item, name}

@@ -3,8 +3,8 @@ use Rattle.std.specs.Prelude.{◌≡◌, ℕ, negsuc, Bool, true, false, List, [
 use Rattle.std.specs.List.{All, list_all}
 use Rattle.std.specs.Str.{IsUtf8}
 use Rattle.rp_base.specs.Names.{HoldsEachOnce, with_word}
-use Rattle.rp_expr.specs.Kinds.{Tokens}
-use Rattle.rp_parse.specs.Program.{Spells}
+use Rattle.rp_grammar.specs.Kinds.{Tokens}
+use Rattle.rp_grammar.specs.Program.{Spells}
 use Rattle.rp_token.specs.declared.token.Token.{Token}
 use Rattle.rp_token.specs.declared.token.TokenKind.{TokenKind}
 use Rattle.rp_token.specs.declared.token.TokenKind.TheVariants as kind

@@ -3,10 +3,10 @@ use Rattle.std.specs.Prelude.{◌≡◌, ℕ, List, ◌++◌, chars, codes, Err}
 use Rattle.std.specs.Fmt.{decimal}
 use Rattle.std.specs.Str.{IsUtf8, IsValidUpTo}
 use Rattle.rp_base.specs.declared.value.Line.{Line}
-use Rattle.rp_expr.specs.Kinds.{Tokens, line_at}
+use Rattle.rp_grammar.specs.Kinds.{Tokens, line_at}
 use Rattle.rp_parse.specs.declared.fault.ParseFault.{ParseFault}
 use Rattle.rp_parse.specs.declared.fault.ParseFault.TheVariants as parse
-use Rattle.rp_parse.specs.Program.{IsLongestGood, Spells}
+use Rattle.rp_grammar.specs.Program.{IsLongestGood, Spells}
 use Rattle.rp_token.specs.declared.fault.TokenFault.{TokenFault}
 use Rattle.rp_token.specs.declared.fault.TokenFault.TheVariants as fault
 use Rattle.rp_token.specs.Tokens.{tokens_of}

@@ -10,7 +10,8 @@ use rp_base::Memory;
 use rp_tree::{Branch, Except, Expr, Named, Place, Stmt, StmtForm, Tree, stmts_of};
 use std::alloc::Global;
 
-/// An equal tree, lines and guard marks included. Its texts share their characters with the tree's.
+/// An equal tree, with its lines, its guard marks and the numbers of its code blocks. Its texts share their
+/// characters with the tree's.
 ///
 /// # Errors
 /// `Memory` where a growth was refused.
@@ -147,7 +148,8 @@ fn copy_stmt_form(alloc: Global, form: &StmtForm) -> Result<StmtForm, Memory>
                 last: as_block(last, lasts),
             })
         }
-        StmtForm::Def(name, params, body) => Ok(StmtForm::Def(
+        StmtForm::Def(block, name, params, body) => Ok(StmtForm::Def(
+            *block,
             *name,
             copy_params(alloc, params)?,
             copy_stmts(alloc, body)?,

@@ -1,11 +1,11 @@
-//! The likeness of statements and of whole trees, but for lines.
+//! The likeness of statements and of whole trees, but for lines and the numbers of code blocks.
 
 ghost use Rattle.std.specs.Prelude.{◌≡◌, ◌↔◌, IsTrue, map, option_map};
 ghost use Rattle.rp_tree.specs.ExpressionViews.{view_expr, view_place};
 ghost use Rattle.rp_tree.specs.StatementViews as v;
 ghost use Rattle.rp_tree.specs.Statements.{IsTry};
 ghost use Rattle.rp_tree.specs.Maps as m;
-ghost use Rattle.rp_tree.specs.Maps.{no_lines, without_lines};
+ghost use Rattle.rp_tree.specs.Maps.{shape, shape_of};
 
 use crate::likeness::{
     is_same_expr, is_same_named, is_same_option_named, is_same_params, is_same_place,
@@ -13,16 +13,16 @@ use crate::likeness::{
 };
 use rp_tree::{Branch, Except, Expr, Named, Place, Stmt, StmtForm, Tree, stmts_of};
 
-/// Whether the trees are the same but for lines: names by their places, texts by their characters, guard
-/// marks too.
+/// Whether the trees are the same but for lines and the numbers of code blocks: names by their places, texts by
+/// their characters, guard marks too.
 pub fn same(left: &Tree, right: &Tree) -> bool
-    ensures { IsTrue result ↔ (without_lines (v.view_tree left.now) ≡ without_lines (v.view_tree right.now)) }
+    ensures { IsTrue result ↔ (shape_of (v.view_tree left.now) ≡ shape_of (v.view_tree right.now)) }
 {
     are_same_stmts(&left.body, &right.body)
 }
 
 fn is_same_option_expr(left: &Option<Expr>, right: &Option<Expr>) -> bool
-    ensures { IsTrue result ↔ (option_map (m.map_expr no_lines) (option_map view_expr left.now) ≡ option_map (m.map_expr no_lines) (option_map view_expr right.now)) }
+    ensures { IsTrue result ↔ (option_map (m.map_expr shape) (option_map view_expr left.now) ≡ option_map (m.map_expr shape) (option_map view_expr right.now)) }
 {
     match (left, right) {
         (None, None) => true,
@@ -33,8 +33,8 @@ fn is_same_option_expr(left: &Option<Expr>, right: &Option<Expr>) -> bool
 
 /// Whether a block is there in both places or in neither.
 fn are_there_alike(left: &Option<Vec<Stmt>>, right: &Option<Vec<Stmt>>) -> bool
-    ensures alike { IsTrue result → (m.map_stmts no_lines (v.view_stmts (v.block_items left.now)) ≡ m.map_stmts no_lines (v.view_stmts (v.block_items right.now))) ↔ (m.map_maybe_stmts no_lines (v.view_maybe_stmts left.now) ≡ m.map_maybe_stmts no_lines (v.view_maybe_stmts right.now)) }
-    ensures apart { m.map_maybe_stmts no_lines (v.view_maybe_stmts left.now) ≡ m.map_maybe_stmts no_lines (v.view_maybe_stmts right.now) → IsTrue result }
+    ensures alike { IsTrue result → (m.map_stmts shape (v.view_stmts (v.block_items left.now)) ≡ m.map_stmts shape (v.view_stmts (v.block_items right.now))) ↔ (m.map_maybe_stmts shape (v.view_maybe_stmts left.now) ≡ m.map_maybe_stmts shape (v.view_maybe_stmts right.now)) }
+    ensures apart { m.map_maybe_stmts shape (v.view_maybe_stmts left.now) ≡ m.map_maybe_stmts shape (v.view_maybe_stmts right.now) → IsTrue result }
 {
     match (left, right) {
         (None, None) => true,
@@ -44,7 +44,7 @@ fn are_there_alike(left: &Option<Vec<Stmt>>, right: &Option<Vec<Stmt>>) -> bool
 }
 
 fn are_same_places(left: &[Place], right: &[Place]) -> bool
-    ensures { IsTrue result ↔ (map (m.map_place no_lines) (map view_place left.now) ≡ map (m.map_place no_lines) (map view_place right.now)) }
+    ensures { IsTrue result ↔ (map (m.map_place shape) (map view_place left.now) ≡ map (m.map_place shape) (map view_place right.now)) }
 {
     let mut rest = right;
     'places: for place in left {
@@ -65,7 +65,7 @@ fn are_same_places(left: &[Place], right: &[Place]) -> bool
 }
 
 fn are_same_names(left: &[Named], right: &[Named]) -> bool
-    ensures { IsTrue result ↔ (map (m.map_named no_lines) left.now ≡ map (m.map_named no_lines) right.now) }
+    ensures { IsTrue result ↔ (map (m.map_named shape) left.now ≡ map (m.map_named shape) right.now) }
 {
     let mut rest = right;
     'names: for name in left {
@@ -87,7 +87,7 @@ fn are_same_names(left: &[Named], right: &[Named]) -> bool
 
 #[cycle(is_same_stmt)]
 fn is_same_stmt(left: &Stmt, right: &Stmt) -> bool
-    ensures { IsTrue result ↔ (m.map_stmt no_lines (v.view_stmt left.now) ≡ m.map_stmt no_lines (v.view_stmt right.now)) }
+    ensures { IsTrue result ↔ (m.map_stmt shape (v.view_stmt left.now) ≡ m.map_stmt shape (v.view_stmt right.now)) }
 {
     is_same_stmt_form(&left.form, &right.form)
 }
@@ -95,7 +95,7 @@ fn is_same_stmt(left: &Stmt, right: &Stmt) -> bool
 #[cycle(is_same_stmt)]
 #[tactic(auto, using(rp_tree::proofs::StatementEquations::variants))]
 fn is_same_stmt_form(left: &StmtForm, right: &StmtForm) -> bool
-    ensures { IsTrue result ↔ (m.map_stmt_form no_lines (v.view_stmt_form left.now) ≡ m.map_stmt_form no_lines (v.view_stmt_form right.now)) }
+    ensures { IsTrue result ↔ (m.map_stmt_form shape (v.view_stmt_form left.now) ≡ m.map_stmt_form shape (v.view_stmt_form right.now)) }
 {
     match (left, right) {
         (StmtForm::Expr(a), StmtForm::Expr(b)) => is_same_expr(a, b),
@@ -138,7 +138,7 @@ fn is_same_stmt_form(left: &StmtForm, right: &StmtForm) -> bool
             && are_same_stmts(x, y),
         (StmtForm::For(w, x), StmtForm::For(u, y)) => is_same_walk(w, u) && are_same_stmts(x, y),
         (StmtForm::Try { .. }, StmtForm::Try { .. }) => is_same_try(left, right),
-        (StmtForm::Def(n, p, x), StmtForm::Def(o, q, y)) => is_same_named(n, o)
+        (StmtForm::Def(_, n, p, x), StmtForm::Def(_, o, q, y)) => is_same_named(n, o)
             && is_same_params(p, q)
             && are_same_stmts(x, y),
         (StmtForm::Class(n, x), StmtForm::Class(o, y)) => is_same_named(n, o)
@@ -149,7 +149,7 @@ fn is_same_stmt_form(left: &StmtForm, right: &StmtForm) -> bool
 
 #[cycle(is_same_stmt)]
 fn is_same_try(left: &StmtForm, right: &StmtForm) -> bool
-    ensures { IsTry (v.view_stmt_form left.now) → IsTrue result ↔ (m.map_stmt_form no_lines (v.view_stmt_form left.now) ≡ m.map_stmt_form no_lines (v.view_stmt_form right.now)) }
+    ensures { IsTry (v.view_stmt_form left.now) → IsTrue result ↔ (m.map_stmt_form shape (v.view_stmt_form left.now) ≡ m.map_stmt_form shape (v.view_stmt_form right.now)) }
 {
     match (left, right) {
         (
@@ -187,7 +187,7 @@ fn is_same_try(left: &StmtForm, right: &StmtForm) -> bool
 
 #[cycle(is_same_stmt)]
 fn are_same_stmts(left: &[Stmt], right: &[Stmt]) -> bool
-    ensures { IsTrue result ↔ (m.map_stmts no_lines (v.view_stmts left.now) ≡ m.map_stmts no_lines (v.view_stmts right.now)) }
+    ensures { IsTrue result ↔ (m.map_stmts shape (v.view_stmts left.now) ≡ m.map_stmts shape (v.view_stmts right.now)) }
 {
     let mut rest = right;
     'stmts: for stmt in left {
@@ -209,7 +209,7 @@ fn are_same_stmts(left: &[Stmt], right: &[Stmt]) -> bool
 
 #[cycle(is_same_stmt)]
 fn are_same_branches(left: &[Branch], right: &[Branch]) -> bool
-    ensures { IsTrue result ↔ (m.map_branches no_lines (v.branches_of (map v.view_branch left.now)) ≡ m.map_branches no_lines (v.branches_of (map v.view_branch right.now))) }
+    ensures { IsTrue result ↔ (m.map_branches shape (v.branches_of (map v.view_branch left.now)) ≡ m.map_branches shape (v.branches_of (map v.view_branch right.now))) }
 {
     let mut rest = right;
     'branches: for branch in left {
@@ -233,7 +233,7 @@ fn are_same_branches(left: &[Branch], right: &[Branch]) -> bool
 
 #[cycle(is_same_stmt)]
 fn are_same_handlers(left: &[Except], right: &[Except]) -> bool
-    ensures { IsTrue result ↔ (m.map_excepts no_lines (v.excepts_of (map v.view_except left.now)) ≡ m.map_excepts no_lines (v.excepts_of (map v.view_except right.now))) }
+    ensures { IsTrue result ↔ (m.map_excepts shape (v.excepts_of (map v.view_except left.now)) ≡ m.map_excepts shape (v.excepts_of (map v.view_except right.now))) }
 {
     let mut rest = right;
     'handlers: for handler in left {
@@ -255,7 +255,7 @@ fn are_same_handlers(left: &[Except], right: &[Except]) -> bool
 
 #[cycle(is_same_stmt)]
 fn is_same_handler(left: &Except, right: &Except) -> bool
-    ensures { IsTrue result ↔ (m.map_except no_lines (v.view_except left.now) ≡ m.map_except no_lines (v.view_except right.now)) }
+    ensures { IsTrue result ↔ (m.map_except shape (v.view_except left.now) ≡ m.map_except shape (v.view_except right.now)) }
 {
     is_same_option_expr(&left.kind, &right.kind)
         && is_same_option_named(&left.name, &right.name)

@@ -4,7 +4,9 @@ ghost use Rattle.std.specs.Prelude.{◌≡◌, IfOk, map, option_map};
 ghost use Rattle.rp_tree.specs.ExpressionViews as v;
 
 use rp_base::{BinOp, Memory};
-use rp_tree::{Arg, Clause, Expr, ExprForm, Named, Params, Place, Target, Test, Trailer, Walk};
+use rp_tree::{
+    Arg, Clause, Expr, ExprForm, Named, Params, Place, Slice, Target, Test, Trailer, Walk,
+};
 use std::alloc::Global;
 
 /// An equal expression.
@@ -35,17 +37,20 @@ fn copy_form(alloc: Global, form: &ExprForm) -> Result<ExprForm, Memory>
         ExprForm::Tuple(exprs) => Ok(ExprForm::Tuple(copy_exprs(alloc, exprs)?)),
         ExprForm::List(exprs) => Ok(ExprForm::List(copy_exprs(alloc, exprs)?)),
         ExprForm::Dict(pairs) => Ok(ExprForm::Dict(copy_pairs(alloc, pairs)?)),
-        ExprForm::ListOf(element, clauses) => Ok(ExprForm::ListOf(
+        ExprForm::ListOf(block, element, clauses) => Ok(ExprForm::ListOf(
+            *block,
             copy_expr(alloc, element)?,
             copy_clauses(alloc, clauses)?,
         )),
-        ExprForm::DictOf(key, value, clauses) => {
-            let key = copy_expr(alloc, key)?;
-            Ok(ExprForm::DictOf(key, copy_expr(alloc, value)?, copy_clauses(alloc, clauses)?))
-        }
-        ExprForm::Lambda(params, body) => {
+        ExprForm::DictOf(block, key, value, clauses) => Ok(ExprForm::DictOf(
+            *block,
+            copy_expr(alloc, key)?,
+            copy_expr(alloc, value)?,
+            copy_clauses(alloc, clauses)?,
+        )),
+        ExprForm::Lambda(block, params, body) => {
             let params = copy_params(alloc, params)?;
-            Ok(ExprForm::Lambda(Box::new(alloc, params)?, copy_expr(alloc, body)?))
+            Ok(ExprForm::Lambda(*block, Box::new(alloc, params)?, copy_expr(alloc, body)?))
         }
         ExprForm::Cond { test, yes, no } => Ok(ExprForm::Cond {
             test: copy_expr(alloc, test)?,
@@ -276,19 +281,23 @@ fn copy_trailer(alloc: Global, trailer: &Trailer) -> Result<Trailer, Memory>
     match trailer {
         Trailer::Attr(name, guard) => Ok(Trailer::Attr(*name, *guard)),
         Trailer::Item(key, guard) => Ok(Trailer::Item(copy_expr(alloc, key)?, *guard)),
-        Trailer::Slice {
-            from,
-            to,
-            step,
-            guard,
-        } => Ok(Trailer::Slice {
-            from: copy_option(alloc, from)?,
-            to: copy_option(alloc, to)?,
-            step: copy_option(alloc, step)?,
-            guard: *guard,
-        }),
+        Trailer::Slice(slice, guard) => {
+            let slice = copy_slice(alloc, slice)?;
+            Ok(Trailer::Slice(Box::new(alloc, slice)?, *guard))
+        }
         Trailer::Call(args, guard) => Ok(Trailer::Call(copy_args(alloc, args)?, *guard)),
     }
+}
+
+#[cycle(copy_expr)]
+fn copy_slice(alloc: Global, slice: &Slice) -> Result<Slice, Memory>
+    ensures { IfOk result (λ made. v.view_slice made ≡ v.view_slice slice.now) }
+{
+    Ok(Slice {
+        from: copy_option(alloc, &slice.from)?,
+        to: copy_option(alloc, &slice.to)?,
+        step: copy_option(alloc, &slice.step)?,
+    })
 }
 
 #[cycle(copy_expr)]

@@ -1,4 +1,4 @@
-//! Copies of trees, and when two trees are the same but for lines.
+//! Copies of trees, and when two trees are the same but for lines and the numbers of code blocks.
 #![tactic(auto)]
 
 mod block_copies;

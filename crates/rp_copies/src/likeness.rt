@@ -1,23 +1,25 @@
-//! The likeness of expressions and of their parts, but for lines.
+//! The likeness of expressions and of their parts, but for lines and the numbers of code blocks.
 
 ghost use Rattle.std.specs.Prelude.{◌≡◌, ◌↔◌, IsTrue, map, option_map};
 ghost use Rattle.rp_tree.specs.ExpressionViews as v;
 ghost use Rattle.rp_tree.specs.Maps as m;
-ghost use Rattle.rp_tree.specs.Maps.{no_lines};
+ghost use Rattle.rp_tree.specs.Maps.{shape};
 
 use rp_base::BinOp;
-use rp_tree::{Arg, Clause, Expr, ExprForm, Named, Params, Place, Target, Test, Trailer, Walk};
+use rp_tree::{
+    Arg, Clause, Expr, ExprForm, Named, Params, Place, Slice, Target, Test, Trailer, Walk,
+};
 
 /// Whether the names are the same.
 pub fn is_same_named(left: &Named, right: &Named) -> bool
-    ensures { IsTrue result ↔ (m.map_named no_lines left.now ≡ m.map_named no_lines right.now) }
+    ensures { IsTrue result ↔ (m.map_named shape left.now ≡ m.map_named shape right.now) }
 {
     left.name == right.name
 }
 
 /// Whether the names are the same, or missing in both places.
 pub fn is_same_option_named(left: &Option<Named>, right: &Option<Named>) -> bool
-    ensures { IsTrue result ↔ (option_map (m.map_named no_lines) left.now ≡ option_map (m.map_named no_lines) right.now) }
+    ensures { IsTrue result ↔ (option_map (m.map_named shape) left.now ≡ option_map (m.map_named shape) right.now) }
 {
     match (left, right) {
         (None, None) => true,
@@ -26,10 +28,10 @@ pub fn is_same_option_named(left: &Option<Named>, right: &Option<Named>) -> bool
     }
 }
 
-/// Whether the expressions are the same but for lines.
+/// Whether the expressions are the same but for lines and the numbers of code blocks.
 #[cycle(is_same_expr)]
 pub fn is_same_expr(left: &Expr, right: &Expr) -> bool
-    ensures { IsTrue result ↔ (m.map_expr no_lines (v.view_expr left.now) ≡ m.map_expr no_lines (v.view_expr right.now)) }
+    ensures { IsTrue result ↔ (m.map_expr shape (v.view_expr left.now) ≡ m.map_expr shape (v.view_expr right.now)) }
 {
     is_same_form(&left.form, &right.form)
 }
@@ -37,7 +39,7 @@ pub fn is_same_expr(left: &Expr, right: &Expr) -> bool
 #[cycle(is_same_expr)]
 #[tactic(auto, using(rp_tree::proofs::ExpressionEquations::form_dict, rp_tree::proofs::ExpressionEquations::form_compare, rp_tree::proofs::ExpressionEquations::form_chain))]
 fn is_same_form(left: &ExprForm, right: &ExprForm) -> bool
-    ensures { IsTrue result ↔ (m.map_form no_lines (v.view_form left.now) ≡ m.map_form no_lines (v.view_form right.now)) }
+    ensures { IsTrue result ↔ (m.map_form shape (v.view_form left.now) ≡ m.map_form shape (v.view_form right.now)) }
 {
     match (left, right) {
         (ExprForm::Name(a), ExprForm::Name(b)) => a == b,
@@ -47,12 +49,12 @@ fn is_same_form(left: &ExprForm, right: &ExprForm) -> bool
         (ExprForm::Tuple(a), ExprForm::Tuple(b)) => are_same_exprs(a, b),
         (ExprForm::List(a), ExprForm::List(b)) => are_same_exprs(a, b),
         (ExprForm::Dict(a), ExprForm::Dict(b)) => are_same_pairs(a, b),
-        (ExprForm::ListOf(a, cs), ExprForm::ListOf(b, ds)) => is_same_expr(a, b)
+        (ExprForm::ListOf(_, a, cs), ExprForm::ListOf(_, b, ds)) => is_same_expr(a, b)
             && are_same_clauses(cs, ds),
-        (ExprForm::DictOf(a, x, cs), ExprForm::DictOf(b, y, ds)) => {
+        (ExprForm::DictOf(_, a, x, cs), ExprForm::DictOf(_, b, y, ds)) => {
             is_same_expr(a, b) && is_same_expr(x, y) && are_same_clauses(cs, ds)
         }
-        (ExprForm::Lambda(p, a), ExprForm::Lambda(q, b)) => is_same_params(p, q)
+        (ExprForm::Lambda(_, p, a), ExprForm::Lambda(_, q, b)) => is_same_params(p, q)
             && is_same_expr(a, b),
         (
             ExprForm::Cond { test, yes, no },
@@ -79,7 +81,7 @@ fn is_same_form(left: &ExprForm, right: &ExprForm) -> bool
 
 #[cycle(is_same_expr)]
 fn are_same_exprs(left: &[Expr], right: &[Expr]) -> bool
-    ensures { IsTrue result ↔ (m.map_exprs no_lines (v.exprs_of (map v.view_expr left.now)) ≡ m.map_exprs no_lines (v.exprs_of (map v.view_expr right.now))) }
+    ensures { IsTrue result ↔ (m.map_exprs shape (v.exprs_of (map v.view_expr left.now)) ≡ m.map_exprs shape (v.exprs_of (map v.view_expr right.now))) }
 {
     let mut rest = right;
     'exprs: for expr in left {
@@ -101,7 +103,7 @@ fn are_same_exprs(left: &[Expr], right: &[Expr]) -> bool
 
 #[cycle(is_same_expr)]
 fn are_same_pairs(left: &[(Expr, Expr)], right: &[(Expr, Expr)]) -> bool
-    ensures { IsTrue result ↔ (m.map_pairs no_lines (v.pairs_of (map v.view_pair left.now)) ≡ m.map_pairs no_lines (v.pairs_of (map v.view_pair right.now))) }
+    ensures { IsTrue result ↔ (m.map_pairs shape (v.pairs_of (map v.view_pair left.now)) ≡ m.map_pairs shape (v.pairs_of (map v.view_pair right.now))) }
 {
     let mut rest = right;
     'pairs: for pair in left {
@@ -123,7 +125,7 @@ fn are_same_pairs(left: &[(Expr, Expr)], right: &[(Expr, Expr)]) -> bool
 
 #[cycle(is_same_expr)]
 fn are_same_tests(left: &[(Test, Expr)], right: &[(Test, Expr)]) -> bool
-    ensures { IsTrue result ↔ (m.map_tests no_lines (v.tests_of (map v.view_test left.now)) ≡ m.map_tests no_lines (v.tests_of (map v.view_test right.now))) }
+    ensures { IsTrue result ↔ (m.map_tests shape (v.tests_of (map v.view_test left.now)) ≡ m.map_tests shape (v.tests_of (map v.view_test right.now))) }
 {
     let mut rest = right;
     'tests: for test in left {
@@ -145,7 +147,7 @@ fn are_same_tests(left: &[(Test, Expr)], right: &[(Test, Expr)]) -> bool
 
 #[cycle(is_same_expr)]
 fn are_same_operands(left: &[(BinOp, Expr)], right: &[(BinOp, Expr)]) -> bool
-    ensures { IsTrue result ↔ (m.map_ops no_lines (v.ops_of (map v.view_op left.now)) ≡ m.map_ops no_lines (v.ops_of (map v.view_op right.now))) }
+    ensures { IsTrue result ↔ (m.map_ops shape (v.ops_of (map v.view_op left.now)) ≡ m.map_ops shape (v.ops_of (map v.view_op right.now))) }
 {
     let mut rest = right;
     'operands: for operand in left {
@@ -167,7 +169,7 @@ fn are_same_operands(left: &[(BinOp, Expr)], right: &[(BinOp, Expr)]) -> bool
 
 #[cycle(is_same_expr)]
 fn are_same_clauses(left: &[Clause], right: &[Clause]) -> bool
-    ensures { IsTrue result ↔ (m.map_clauses no_lines (v.clauses_of (map v.view_clause left.now)) ≡ m.map_clauses no_lines (v.clauses_of (map v.view_clause right.now))) }
+    ensures { IsTrue result ↔ (m.map_clauses shape (v.clauses_of (map v.view_clause left.now)) ≡ m.map_clauses shape (v.clauses_of (map v.view_clause right.now))) }
 {
     let mut rest = right;
     'clauses: for clause in left {
@@ -189,7 +191,7 @@ fn are_same_clauses(left: &[Clause], right: &[Clause]) -> bool
 
 #[cycle(is_same_expr)]
 fn are_same_targets(left: &[Target], right: &[Target]) -> bool
-    ensures { IsTrue result ↔ (m.map_targets no_lines (v.targets_of (map v.view_target left.now)) ≡ m.map_targets no_lines (v.targets_of (map v.view_target right.now))) }
+    ensures { IsTrue result ↔ (m.map_targets shape (v.targets_of (map v.view_target left.now)) ≡ m.map_targets shape (v.targets_of (map v.view_target right.now))) }
 {
     let mut rest = right;
     'targets: for target in left {
@@ -211,7 +213,7 @@ fn are_same_targets(left: &[Target], right: &[Target]) -> bool
 
 #[cycle(is_same_expr)]
 fn are_same_plain(left: &[(Named, Option<Expr>)], right: &[(Named, Option<Expr>)]) -> bool
-    ensures { IsTrue result ↔ (m.map_plain no_lines (v.plain_of (map v.view_plain left.now)) ≡ m.map_plain no_lines (v.plain_of (map v.view_plain right.now))) }
+    ensures { IsTrue result ↔ (m.map_plain shape (v.plain_of (map v.view_plain left.now)) ≡ m.map_plain shape (v.plain_of (map v.view_plain right.now))) }
 {
     let mut rest = right;
     'plain: for param in left {
@@ -242,7 +244,7 @@ fn are_same_plain(left: &[(Named, Option<Expr>)], right: &[(Named, Option<Expr>)
 
 #[cycle(is_same_expr)]
 fn are_same_trailers(left: &[Trailer], right: &[Trailer]) -> bool
-    ensures { IsTrue result ↔ (m.map_trailers no_lines (v.trailers_of (map v.view_trailer left.now)) ≡ m.map_trailers no_lines (v.trailers_of (map v.view_trailer right.now))) }
+    ensures { IsTrue result ↔ (m.map_trailers shape (v.trailers_of (map v.view_trailer left.now)) ≡ m.map_trailers shape (v.trailers_of (map v.view_trailer right.now))) }
 {
     let mut rest = right;
     'trailers: for trailer in left {
@@ -264,7 +266,7 @@ fn are_same_trailers(left: &[Trailer], right: &[Trailer]) -> bool
 
 #[cycle(is_same_expr)]
 fn are_same_args(left: &[Arg], right: &[Arg]) -> bool
-    ensures { IsTrue result ↔ (m.map_args no_lines (v.args_of (map v.view_arg left.now)) ≡ m.map_args no_lines (v.args_of (map v.view_arg right.now))) }
+    ensures { IsTrue result ↔ (m.map_args shape (v.args_of (map v.view_arg left.now)) ≡ m.map_args shape (v.args_of (map v.view_arg right.now))) }
 {
     let mut rest = right;
     'args: for arg in left {
@@ -286,7 +288,7 @@ fn are_same_args(left: &[Arg], right: &[Arg]) -> bool
 
 #[cycle(is_same_expr)]
 fn is_same_option(left: &Option<Expr>, right: &Option<Expr>) -> bool
-    ensures { IsTrue result ↔ (m.map_maybe no_lines (v.maybe_of (option_map v.view_expr left.now)) ≡ m.map_maybe no_lines (v.maybe_of (option_map v.view_expr right.now))) }
+    ensures { IsTrue result ↔ (m.map_maybe shape (v.maybe_of (option_map v.view_expr left.now)) ≡ m.map_maybe shape (v.maybe_of (option_map v.view_expr right.now))) }
 {
     match (left, right) {
         (None, None) => true,
@@ -297,14 +299,14 @@ fn is_same_option(left: &Option<Expr>, right: &Option<Expr>) -> bool
 
 #[cycle(is_same_expr)]
 fn is_same_clause(left: &Clause, right: &Clause) -> bool
-    ensures { IsTrue result ↔ (m.map_clause no_lines (v.view_clause left.now) ≡ m.map_clause no_lines (v.view_clause right.now)) }
+    ensures { IsTrue result ↔ (m.map_clause shape (v.view_clause left.now) ≡ m.map_clause shape (v.view_clause right.now)) }
 {
     is_same_walk(&left.walk, &right.walk) && are_same_exprs(&left.tests, &right.tests)
 }
 
 #[cycle(is_same_expr)]
 pub fn is_same_walk(left: &Walk, right: &Walk) -> bool
-    ensures { IsTrue result ↔ (m.map_walk no_lines (v.view_walk left.now) ≡ m.map_walk no_lines (v.view_walk right.now)) }
+    ensures { IsTrue result ↔ (m.map_walk shape (v.view_walk left.now) ≡ m.map_walk shape (v.view_walk right.now)) }
 {
     left.guard == right.guard
         && is_same_target(&left.target, &right.target)
@@ -314,7 +316,7 @@ pub fn is_same_walk(left: &Walk, right: &Walk) -> bool
 #[cycle(is_same_expr)]
 #[tactic(auto, using(rp_tree::proofs::ExpressionEquations::target_place, rp_tree::proofs::ExpressionEquations::target_group))]
 pub fn is_same_target(left: &Target, right: &Target) -> bool
-    ensures { IsTrue result ↔ (m.map_target no_lines (v.view_target left.now) ≡ m.map_target no_lines (v.view_target right.now)) }
+    ensures { IsTrue result ↔ (m.map_target shape (v.view_target left.now) ≡ m.map_target shape (v.view_target right.now)) }
 {
     match (left, right) {
         (Target::Place(left), Target::Place(right)) => is_same_place(left, right),
@@ -326,7 +328,7 @@ pub fn is_same_target(left: &Target, right: &Target) -> bool
 #[cycle(is_same_expr)]
 #[tactic(auto, using(rp_tree::proofs::ExpressionEquations::place_name, rp_tree::proofs::ExpressionEquations::place_attr, rp_tree::proofs::ExpressionEquations::place_item))]
 pub fn is_same_place(left: &Place, right: &Place) -> bool
-    ensures { IsTrue result ↔ (m.map_place no_lines (v.view_place left.now) ≡ m.map_place no_lines (v.view_place right.now)) }
+    ensures { IsTrue result ↔ (m.map_place shape (v.view_place left.now) ≡ m.map_place shape (v.view_place right.now)) }
 {
     match (left, right) {
         (Place::Name(a), Place::Name(b)) => is_same_named(a, b),
@@ -345,7 +347,7 @@ pub fn is_same_place(left: &Place, right: &Place) -> bool
 #[cycle(is_same_expr)]
 #[tactic(auto, using(rp_tree::proofs::ExpressionEquations::params_out))]
 pub fn is_same_params(left: &Params, right: &Params) -> bool
-    ensures { IsTrue result ↔ (m.map_params no_lines (v.view_params left.now) ≡ m.map_params no_lines (v.view_params right.now)) }
+    ensures { IsTrue result ↔ (m.map_params shape (v.view_params left.now) ≡ m.map_params shape (v.view_params right.now)) }
 {
     are_same_plain(&left.plain, &right.plain)
         && is_same_option_named(&left.list, &right.list)
@@ -355,39 +357,30 @@ pub fn is_same_params(left: &Params, right: &Params) -> bool
 #[cycle(is_same_expr)]
 #[tactic(auto, using(rp_tree::proofs::ExpressionEquations::trailer_attr, rp_tree::proofs::ExpressionEquations::trailer_item, rp_tree::proofs::ExpressionEquations::trailer_slice, rp_tree::proofs::ExpressionEquations::trailer_call))]
 fn is_same_trailer(left: &Trailer, right: &Trailer) -> bool
-    ensures { IsTrue result ↔ (m.map_trailer no_lines (v.view_trailer left.now) ≡ m.map_trailer no_lines (v.view_trailer right.now)) }
+    ensures { IsTrue result ↔ (m.map_trailer shape (v.view_trailer left.now) ≡ m.map_trailer shape (v.view_trailer right.now)) }
 {
     match (left, right) {
         (Trailer::Attr(n, g), Trailer::Attr(o, h)) => is_same_named(n, o) && g == h,
         (Trailer::Item(a, g), Trailer::Item(b, h)) => is_same_expr(a, b) && g == h,
-        (
-            Trailer::Slice {
-                from,
-                to,
-                step,
-                guard,
-            },
-            Trailer::Slice {
-                from: f,
-                to: t,
-                step: s,
-                guard: g,
-            },
-        ) => {
-            is_same_option(from, f)
-                && is_same_option(to, t)
-                && is_same_option(step, s)
-                && guard == g
-        }
+        (Trailer::Slice(a, g), Trailer::Slice(b, h)) => is_same_slice(a, b) && g == h,
         (Trailer::Call(xs, g), Trailer::Call(ys, h)) => are_same_args(xs, ys) && g == h,
         _ => false,
     }
 }
 
 #[cycle(is_same_expr)]
+fn is_same_slice(left: &Slice, right: &Slice) -> bool
+    ensures { IsTrue result ↔ ((m.map_maybe shape (v.view_slice left.now).0 ≡ m.map_maybe shape (v.view_slice right.now).0) × (m.map_maybe shape (v.view_slice left.now).1 ≡ m.map_maybe shape (v.view_slice right.now).1) × (m.map_maybe shape (v.view_slice left.now).2 ≡ m.map_maybe shape (v.view_slice right.now).2)) }
+{
+    is_same_option(&left.from, &right.from)
+        && is_same_option(&left.to, &right.to)
+        && is_same_option(&left.step, &right.step)
+}
+
+#[cycle(is_same_expr)]
 #[tactic(auto, using(rp_tree::proofs::ExpressionEquations::arg_plain, rp_tree::proofs::ExpressionEquations::arg_star, rp_tree::proofs::ExpressionEquations::arg_key, rp_tree::proofs::ExpressionEquations::arg_stars))]
 fn is_same_arg(left: &Arg, right: &Arg) -> bool
-    ensures { IsTrue result ↔ (m.map_arg no_lines (v.view_arg left.now) ≡ m.map_arg no_lines (v.view_arg right.now)) }
+    ensures { IsTrue result ↔ (m.map_arg shape (v.view_arg left.now) ≡ m.map_arg shape (v.view_arg right.now)) }
 {
     match (left, right) {
         (Arg::Plain(a), Arg::Plain(b)) => is_same_expr(a, b),

@@ -1,15 +1,2 @@
-pub mod Marks
-pub mod Basics
-pub mod Targets
-pub mod Sound
-pub mod Takes
-pub mod Loops
+pub mod Faults
 pub mod Views
-pub mod Texts
-pub mod Follow
-pub mod Nest
-pub mod Complete
-pub mod Turns
-pub mod Depth
-pub mod Repeats
-pub mod Laws

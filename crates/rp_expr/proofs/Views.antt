@@ -2,7 +2,7 @@
 use Rattle.std.proofs.Common.{◌≡◌, Bool, List, [], ◌∷◌, ◌++◌, length, map, Option, Some, None, Vec, Global, refl, sym, ap, ◌∙◌, rules, option_map}
 use Rattle.std.proofs.lemmas.List.{map_push}
 use Rattle.rp_base.specs.declared.value.Line.{Line}
-use Rattle.rp_tree.specs.declared.parts.Named.{Named}
+use Rattle.rp_tree.specs.Expressions.{Named}
 use Rattle.rp_tree.specs.declared.expr.Expr.{Expr}
 use Rattle.rp_tree.specs.declared.expr.Trailer.{Trailer}
 use Rattle.rp_tree.specs.declared.expr.Target.{Target}
@@ -12,11 +12,11 @@ use Rattle.rp_tree.specs.declared.expr.Arg.TheFolds.{the_lemmas}
 use Rattle.rp_tree.specs.Expressions as t
 use Rattle.rp_tree.specs.ExpressionViews as v
 use Rattle.rp_tree.proofs.ExpressionEquations.{form_primary, target_group}
-use Rattle.rp_expr.specs.Expressions.{line_of}
-use Rattle.rp_expr.specs.Conversion as c
+use Rattle.rp_grammar.specs.Expressions.{line_of}
+use Rattle.rp_grammar.specs.Conversion as c
 use Rattle.rp_expr.specs.Gives.{plain_item}
-use Rattle.rp_expr.specs.Reading as r
-use Rattle.rp_expr.proofs.Loops.{front, front_more}
+use Rattle.rp_grammar.specs.ExpressionReading as r
+use Rattle.rp_grammar.proofs.Loops.{front, front_more}
 
 -- the line is seen as it is
 pub view_line : (e : Expr) → line_of (v.view_expr e) ≡ e.line

@@ -1,6 +1,6 @@
 -- What the readers of the program promise.
 use Rattle.std.specs.Prelude.{◌≡◌, Option, Some, None, Result, Ok, Err}
-use Rattle.rp_tree.specs.declared.parts.Named.{Named}
+use Rattle.rp_tree.specs.Expressions.{Named}
 use Rattle.rp_tree.specs.Expressions as t
 use Rattle.rp_tree.specs.ExpressionViews.{maybe_of}
 use Rattle.rp_expr.specs.declared.fault.Fault.{Fault}

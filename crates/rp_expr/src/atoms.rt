@@ -4,7 +4,7 @@ ghost use Rattle.std.specs.Prelude.{◌≡◌, Some, map, option_map};
 ghost use Rattle.rp_tree.specs.Expressions as t;
 ghost use Rattle.rp_tree.specs.ExpressionViews as v;
 ghost use Rattle.rp_expr.specs.Gives.{Gives};
-ghost use Rattle.rp_expr.specs.Reading as r;
+ghost use Rattle.rp_grammar.specs.ExpressionReading as r;
 
 use crate::clauses::clauses;
 use crate::expressions::inner_expr;
@@ -18,11 +18,11 @@ use crate::node::{Read, node};
 use crate::text::texts;
 use rp_base::Line;
 use rp_token::{Token, TokenKind};
-use rp_tree::{Const, Expr, ExprForm};
+use rp_tree::{Block, Const, Expr, ExprForm};
 use std::alloc::Global;
 
 #[cycle(expr)]
-#[tactic(auto, unfolding(crate::specs::Reading::parenthesized), using(rp_tree::proofs::ExpressionEquations::variants))]
+#[tactic(auto, unfolding(rp_grammar::specs::ExpressionReading::parenthesized), using(rp_tree::proofs::ExpressionEquations::variants))]
 fn parenthesized(alloc: Global, line: Line, tokens: &[Token], depth: usize) -> Read<'_, Expr>
     ensures { Gives (λ x. (v.view_expr x.0, x.1.now)) result (r.parenthesized (r.readers depth) line tokens.now) }
 {
@@ -41,7 +41,7 @@ fn parenthesized(alloc: Global, line: Line, tokens: &[Token], depth: usize) -> R
 }
 
 #[cycle(expr)]
-#[tactic(auto, unfolding(crate::specs::Reading::bracketed), using(rp_tree::proofs::ExpressionEquations::variants))]
+#[tactic(auto, unfolding(rp_grammar::specs::ExpressionReading::bracketed), using(rp_tree::proofs::ExpressionEquations::variants))]
 fn bracketed(alloc: Global, line: Line, tokens: &[Token], depth: usize) -> Read<'_, Expr>
     ensures { Gives (λ x. (v.view_expr x.0, x.1.now)) result (r.bracketed (r.readers depth) line tokens.now) }
 {
@@ -53,7 +53,10 @@ fn bracketed(alloc: Global, line: Line, tokens: &[Token], depth: usize) -> Read<
     if is_for(rest) {
         let (clauses, rest) = clauses(alloc, rest, depth)?;
         let rest = after_right_bracket(rest)?;
-        return Ok((node(alloc, line, ExprForm::ListOf(first, clauses))?, rest));
+        return Ok((
+            node(alloc, line, ExprForm::ListOf(Block(0), first, clauses))?,
+            rest,
+        ));
     }
     let (all, rest) = others(alloc, first, rest, depth)?;
     let rest = after_right_bracket(rest)?;
@@ -61,7 +64,7 @@ fn bracketed(alloc: Global, line: Line, tokens: &[Token], depth: usize) -> Read<
 }
 
 #[cycle(expr)]
-#[tactic(auto, unfolding(crate::specs::Reading::braced), using(rp_tree::proofs::ExpressionEquations::variants))]
+#[tactic(auto, unfolding(rp_grammar::specs::ExpressionReading::braced), using(rp_tree::proofs::ExpressionEquations::variants))]
 fn braced(alloc: Global, line: Line, tokens: &[Token], depth: usize) -> Read<'_, Expr>
     ensures { Gives (λ x. (v.view_expr x.0, x.1.now)) result (r.braced (r.readers depth) line tokens.now) }
 {
@@ -75,7 +78,7 @@ fn braced(alloc: Global, line: Line, tokens: &[Token], depth: usize) -> Read<'_,
         let rest = after_right_brace(rest)?;
         let (key, value) = first;
         return Ok((
-            node(alloc, line, ExprForm::DictOf(key, value, clauses))?,
+            node(alloc, line, ExprForm::DictOf(Block(0), key, value, clauses))?,
             rest,
         ));
     }
@@ -86,7 +89,7 @@ fn braced(alloc: Global, line: Line, tokens: &[Token], depth: usize) -> Read<'_,
 
 /// A name, a literal, or what stands in brackets.
 #[cycle(expr)]
-#[tactic(auto, unfolding(crate::specs::Reading::atom))]
+#[tactic(auto, unfolding(rp_grammar::specs::ExpressionReading::atom))]
 pub fn atom(alloc: Global, tokens: &[Token], depth: usize) -> Read<'_, Expr>
     ensures { Gives (λ x. (v.view_expr x.0, x.1.now)) result (r.atom (r.readers depth) tokens.now) }
 {

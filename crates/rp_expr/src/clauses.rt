@@ -4,7 +4,7 @@ ghost use Rattle.std.specs.Prelude.{◌≡◌, Some, map, option_map};
 ghost use Rattle.rp_tree.specs.Expressions as t;
 ghost use Rattle.rp_tree.specs.ExpressionViews as v;
 ghost use Rattle.rp_expr.specs.Gives.{Gives};
-ghost use Rattle.rp_expr.specs.Reading as r;
+ghost use Rattle.rp_grammar.specs.ExpressionReading as r;
 
 use crate::conversion::target_of;
 use crate::expressions::{inner_or, inner_primary};
@@ -15,7 +15,7 @@ use rp_tree::{Clause, Expr, Target, Walk};
 use std::alloc::Global;
 
 #[cycle(expr)]
-#[tactic(auto, unfolding(crate::specs::Reading::part))]
+#[tactic(auto, unfolding(rp_grammar::specs::ExpressionReading::part))]
 fn part(alloc: Global, tokens: &[Token], depth: usize) -> Read<'_, Target>
     ensures { Gives (λ x. (v.view_target x.0, x.1.now)) result (r.part (r.readers depth) tokens.now) }
 {
@@ -27,7 +27,7 @@ fn part(alloc: Global, tokens: &[Token], depth: usize) -> Read<'_, Target>
 fn parts(alloc: Global, first: Target, tokens: &[Token], depth: usize) -> Read<'_, Vec<Target>>
     ensures { Gives (λ x. (v.targets_of (map v.view_target x.0.items), x.1.now)) result (r.parts (r.readers depth) (v.view_target first) tokens.now) }
 {
-    let mut found = Vec::new(alloc);
+    let mut found = Vec::with_capacity(alloc, 1)?;
     found.push(first)?;
     let mut rest = tokens;
     'items: while starts(rest) {
@@ -43,7 +43,7 @@ fn parts(alloc: Global, first: Target, tokens: &[Token], depth: usize) -> Read<'
 
 /// The target of `for`.
 #[cycle(expr)]
-#[tactic(auto, unfolding(crate::specs::Reading::target), using(rp_tree::proofs::ExpressionEquations::variants))]
+#[tactic(auto, unfolding(rp_grammar::specs::ExpressionReading::target), using(rp_tree::proofs::ExpressionEquations::variants))]
 pub fn target(alloc: Global, tokens: &[Token], depth: usize) -> Read<'_, Target>
     ensures { Gives (λ x. (v.view_target x.0, x.1.now)) result (r.target (r.readers depth) tokens.now) }
 {
@@ -70,7 +70,7 @@ fn ifs(alloc: Global, tokens: &[Token], depth: usize) -> Read<'_, Vec<Expr>>
 }
 
 #[cycle(expr)]
-#[tactic(auto, unfolding(crate::specs::Reading::clause))]
+#[tactic(auto, unfolding(rp_grammar::specs::ExpressionReading::clause))]
 fn clause(alloc: Global, tokens: &[Token], depth: usize) -> Read<'_, Clause>
     ensures { Gives (λ x. (v.view_clause x.0, x.1.now)) result (r.clause (r.readers depth) tokens.now) }
 {

@@ -3,7 +3,7 @@
 ghost use Rattle.std.specs.Prelude.{◌≡◌, Some, map, option_map};
 ghost use Rattle.rp_tree.specs.Expressions as t;
 ghost use Rattle.rp_tree.specs.ExpressionViews as v;
-ghost use Rattle.rp_expr.specs.Conversion as c;
+ghost use Rattle.rp_grammar.specs.Conversion as c;
 ghost use Rattle.rp_expr.specs.Gives.{Gives};
 
 use crate::fault::Fault;

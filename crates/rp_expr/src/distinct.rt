@@ -3,7 +3,7 @@
 ghost use Rattle.std.specs.Prelude.{◌≡◌, ◌↔◌, ◌++◌, IfOk, IsTrue, Some, map, option_to_list};
 ghost use Rattle.std.specs.List.Sorted.{IsStrictlyIncreasing};
 ghost use Rattle.rp_tree.specs.ExpressionViews as v;
-ghost use Rattle.rp_expr.specs.Expressions as g;
+ghost use Rattle.rp_grammar.specs.Expressions as g;
 ghost use Rattle.rp_expr.specs.Gives.{Gives};
 
 use crate::fault::Fault;

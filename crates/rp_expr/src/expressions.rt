@@ -4,7 +4,7 @@ ghost use Rattle.std.specs.Prelude.{◌≡◌, Some, map, option_map};
 ghost use Rattle.rp_tree.specs.Expressions as t;
 ghost use Rattle.rp_tree.specs.ExpressionViews as v;
 ghost use Rattle.rp_expr.specs.Gives.{Gives};
-ghost use Rattle.rp_expr.specs.Reading as r;
+ghost use Rattle.rp_grammar.specs.ExpressionReading as r;
 
 use crate::distinct::has_distinct_names;
 use crate::fault::Fault;
@@ -16,7 +16,7 @@ use crate::parameters::params;
 use crate::trailers::primary;
 use rp_base::Line;
 use rp_token::Token;
-use rp_tree::{Expr, ExprForm};
+use rp_tree::{Block, Expr, ExprForm};
 use std::alloc::Global;
 
 /// An expression within another.
@@ -75,7 +75,7 @@ pub fn inner_primary(alloc: Global, tokens: &[Token], depth: usize) -> Read<'_, 
 }
 
 #[cycle(expr)]
-#[tactic(auto, unfolding(crate::specs::Reading::lambda), using(rp_tree::proofs::ExpressionEquations::variants))]
+#[tactic(auto, unfolding(rp_grammar::specs::ExpressionReading::lambda), using(rp_tree::proofs::ExpressionEquations::variants))]
 fn lambda(alloc: Global, line: Line, tokens: &[Token], depth: usize) -> Read<'_, Expr>
     ensures { Gives (λ x. (v.view_expr x.0, x.1.now)) result (r.lambda (r.readers depth) line tokens.now) }
 {
@@ -86,11 +86,14 @@ fn lambda(alloc: Global, line: Line, tokens: &[Token], depth: usize) -> Read<'_,
     let rest = after_colon(rest)?;
     let (body, rest) = inner_expr(alloc, rest, depth)?;
     let params = Box::new(alloc, params)?;
-    Ok((node(alloc, line, ExprForm::Lambda(params, body))?, rest))
+    Ok((
+        node(alloc, line, ExprForm::Lambda(Block(0), params, body))?,
+        rest,
+    ))
 }
 
 #[cycle(expr)]
-#[tactic(auto, unfolding(crate::specs::Reading::conditional), using(rp_tree::proofs::ExpressionEquations::variants))]
+#[tactic(auto, unfolding(rp_grammar::specs::ExpressionReading::conditional), using(rp_tree::proofs::ExpressionEquations::variants))]
 fn conditional(alloc: Global, yes: Expr, tokens: &[Token], depth: usize) -> Read<'_, Expr>
     ensures { Gives (λ x. (v.view_expr x.0, x.1.now)) result (r.conditional (r.readers depth) (v.view_expr yes) tokens.now) }
 {
@@ -103,7 +106,7 @@ fn conditional(alloc: Global, yes: Expr, tokens: &[Token], depth: usize) -> Read
 
 /// An expression.
 #[cycle(expr)]
-#[tactic(auto, unfolding(crate::specs::Reading::expr))]
+#[tactic(auto, unfolding(rp_grammar::specs::ExpressionReading::expr))]
 pub fn expr(alloc: Global, tokens: &[Token], depth: usize) -> Read<'_, Expr>
     ensures { Gives (λ x. (v.view_expr x.0, x.1.now)) result (r.expr (r.readers depth) tokens.now) }
 {
@@ -118,7 +121,7 @@ pub fn expr(alloc: Global, tokens: &[Token], depth: usize) -> Read<'_, Expr>
 }
 
 /// An expression list, which is a tuple where it has a comma.
-#[tactic(auto, unfolding(crate::specs::Reading::expr_list), using(rp_tree::proofs::ExpressionEquations::variants))]
+#[tactic(auto, unfolding(rp_grammar::specs::ExpressionReading::expr_list), using(rp_tree::proofs::ExpressionEquations::variants))]
 pub fn expr_list(alloc: Global, tokens: &[Token], depth: usize) -> Read<'_, Expr>
     ensures { Gives (λ x. (v.view_expr x.0, x.1.now)) result (r.expr_list (r.readers depth) tokens.now) }
 {

@@ -4,7 +4,7 @@ ghost use Rattle.std.specs.Prelude.{◌≡◌, Some, map, option_map};
 ghost use Rattle.rp_tree.specs.Expressions as t;
 ghost use Rattle.rp_tree.specs.ExpressionViews as v;
 ghost use Rattle.rp_expr.specs.Gives.{Gives};
-ghost use Rattle.rp_expr.specs.Reading as r;
+ghost use Rattle.rp_grammar.specs.ExpressionReading as r;
 
 use crate::expressions::inner_expr;
 use crate::look::{after_colon, is_comma, skip, starts};
@@ -18,7 +18,7 @@ use std::alloc::Global;
 pub fn exprs(alloc: Global, first: Expr, tokens: &[Token], depth: usize) -> Read<'_, Vec<Expr>>
     ensures { Gives (λ x. (v.exprs_of (map v.view_expr x.0.items), x.1.now)) result (r.exprs (r.readers depth) (v.view_expr first) tokens.now) }
 {
-    let mut found = Vec::new(alloc);
+    let mut found = Vec::with_capacity(alloc, 1)?;
     found.push(first)?;
     let mut rest = tokens;
     'items: while starts(rest) {
@@ -34,21 +34,21 @@ pub fn exprs(alloc: Global, first: Expr, tokens: &[Token], depth: usize) -> Read
 
 /// An expression, and those behind it.
 #[cycle(expr)]
-#[tactic(auto, unfolding(crate::specs::Reading::others))]
+#[tactic(auto, unfolding(rp_grammar::specs::ExpressionReading::others))]
 pub fn others(alloc: Global, first: Expr, tokens: &[Token], depth: usize) -> Read<'_, Vec<Expr>>
     ensures { Gives (λ x. (v.exprs_of (map v.view_expr x.0.items), x.1.now)) result (r.others (r.readers depth) (v.view_expr first) tokens.now) }
 {
     if is_comma(tokens) {
         return exprs(alloc, first, skip(tokens), depth);
     }
-    let mut found = Vec::new(alloc);
+    let mut found = Vec::with_capacity(alloc, 1)?;
     found.push(first)?;
     Ok((found, tokens))
 }
 
 /// A key and its value.
 #[cycle(expr)]
-#[tactic(auto, unfolding(crate::specs::Reading::pair))]
+#[tactic(auto, unfolding(rp_grammar::specs::ExpressionReading::pair))]
 pub fn pair(alloc: Global, tokens: &[Token], depth: usize) -> Read<'_, (Expr, Expr)>
     ensures { Gives (λ x. (v.view_pair x.0, x.1.now)) result (r.pair (r.readers depth) tokens.now) }
 {
@@ -68,7 +68,7 @@ fn pairs(
 ) -> Read<'_, Vec<(Expr, Expr)>>
     ensures { Gives (λ x. (v.pairs_of (map v.view_pair x.0.items), x.1.now)) result (r.pairs (r.readers depth) (v.view_pair first) tokens.now) }
 {
-    let mut found = Vec::new(alloc);
+    let mut found = Vec::with_capacity(alloc, 1)?;
     found.push(first)?;
     let mut rest = tokens;
     'items: while starts(rest) {
@@ -84,7 +84,7 @@ fn pairs(
 
 /// A pair, and those behind it.
 #[cycle(expr)]
-#[tactic(auto, unfolding(crate::specs::Reading::other_pairs))]
+#[tactic(auto, unfolding(rp_grammar::specs::ExpressionReading::other_pairs))]
 pub fn other_pairs(
     alloc: Global,
     first: (Expr, Expr),
@@ -96,7 +96,7 @@ pub fn other_pairs(
     if is_comma(tokens) {
         return pairs(alloc, first, skip(tokens), depth);
     }
-    let mut found = Vec::new(alloc);
+    let mut found = Vec::with_capacity(alloc, 1)?;
     found.push(first)?;
     Ok((found, tokens))
 }

@@ -3,9 +3,9 @@
 ghost use Rattle.std.specs.Prelude.{◌≡◌, ◌==◌, suc, None, Some, if◌then◌else◌};
 ghost use Rattle.std.specs.Option.{option_map_or};
 ghost use Rattle.rp_token.specs.declared.token.TokenKind.TheVariants as kind;
-ghost use Rattle.rp_expr.specs.Kinds.{first, line_at, skip, binary_of, augmented_of, looseness, unary_of, order_of};
-ghost use Rattle.rp_expr.specs.Front as f;
-ghost use Rattle.rp_expr.specs.Reading.{after, is_some, operator_of, at_test};
+ghost use Rattle.rp_grammar.specs.Kinds.{first, line_at, skip, binary_of, augmented_of, looseness, unary_of, order_of};
+ghost use Rattle.rp_grammar.specs.Front as f;
+ghost use Rattle.rp_grammar.specs.ExpressionReading.{after, is_some, operator_of, at_test};
 ghost use Rattle.rp_expr.specs.Gives.{Gives};
 
 use crate::fault::Fault;

@@ -1,16 +1,16 @@
 //! Nodes, and what a reader answers.
 
-ghost use Rattle.std.specs.Prelude.{Some};
+ghost use Rattle.std.specs.Prelude.{None, Some, option_map};
 ghost use Rattle.rp_tree.specs.Expressions as t;
-ghost use Rattle.rp_tree.specs.ExpressionViews.{view_expr, view_form};
+ghost use Rattle.rp_tree.specs.ExpressionViews.{maybe_of, view_expr, view_form, view_trailer};
 ghost use Rattle.rp_expr.specs.Gives.{Gives};
-ghost use Rattle.rp_expr.specs.Kinds.{first};
-ghost use Rattle.rp_expr.specs.Reading as r;
+ghost use Rattle.rp_grammar.specs.Kinds.{first};
+ghost use Rattle.rp_grammar.specs.ExpressionReading as r;
 
 use crate::fault::Fault;
 use rp_base::Line;
 use rp_token::{Token, TokenKind};
-use rp_tree::{Expr, ExprForm, Named};
+use rp_tree::{Expr, ExprForm, Named, Slice, Trailer};
 use std::alloc::Global;
 
 /// What is read at the front of some tokens, and the tokens behind it.
@@ -22,6 +22,20 @@ pub fn node(alloc: Global, line: Line, form: ExprForm) -> Result<Expr, Fault>
 {
     let form = Box::new(alloc, form)?;
     Ok(Expr { line, form })
+}
+
+/// A slicing by these bounds and this stride.
+#[tactic(auto, using(rp_tree::proofs::ExpressionEquations::trailer_slice, rp_tree::proofs::ExpressionEquations::slice_roll))]
+pub fn slicing(
+    alloc: Global,
+    from: Option<Expr>,
+    to: Option<Expr>,
+    step: Option<Expr>,
+) -> Result<Trailer, Fault>
+    ensures { Gives view_trailer result (Some (t.slice (maybe_of (option_map view_expr from)) (maybe_of (option_map view_expr to)) (maybe_of (option_map view_expr step)) None)) }
+{
+    let slice = Box::new(alloc, Slice { from, to, step })?;
+    Ok(Trailer::Slice(slice, None))
 }
 
 /// The name at the front of some tokens, with its line, and the tokens behind it.

@@ -3,9 +3,9 @@
 ghost use Rattle.std.specs.Prelude.{◌≡◌, suc, Some, map, option_map};
 ghost use Rattle.rp_tree.specs.Expressions as t;
 ghost use Rattle.rp_tree.specs.ExpressionViews as v;
-ghost use Rattle.rp_expr.specs.Kinds.{first};
+ghost use Rattle.rp_grammar.specs.Kinds.{first};
 ghost use Rattle.rp_expr.specs.Gives.{Gives};
-ghost use Rattle.rp_expr.specs.Reading as r;
+ghost use Rattle.rp_grammar.specs.ExpressionReading as r;
 
 use crate::expressions::{inner_not, inner_unary};
 use crate::fault::Fault;
@@ -25,7 +25,7 @@ use std::alloc::Global;
 const LOOSEST: usize = 6;
 
 #[cycle(expr)]
-#[tactic(auto, unfolding(crate::specs::Reading::power), using(rp_tree::proofs::ExpressionEquations::variants))]
+#[tactic(auto, unfolding(rp_grammar::specs::ExpressionReading::power), using(rp_tree::proofs::ExpressionEquations::variants))]
 fn power(alloc: Global, tokens: &[Token], depth: usize) -> Read<'_, Expr>
     ensures { Gives (λ x. (v.view_expr x.0, x.1.now)) result (r.power (r.readers depth) tokens.now) }
 {
@@ -40,7 +40,7 @@ fn power(alloc: Global, tokens: &[Token], depth: usize) -> Read<'_, Expr>
 
 /// An operand of the binary operators.
 #[cycle(expr)]
-#[tactic(auto, unfolding(crate::specs::Reading::unary), using(rp_tree::proofs::ExpressionEquations::variants))]
+#[tactic(auto, unfolding(rp_grammar::specs::ExpressionReading::unary), using(rp_tree::proofs::ExpressionEquations::variants))]
 pub fn unary(alloc: Global, tokens: &[Token], depth: usize) -> Read<'_, Expr>
     ensures { Gives (λ x. (v.view_expr x.0, x.1.now)) result (r.unary (r.readers depth) tokens.now) }
 {
@@ -75,7 +75,7 @@ fn operations(
 
 /// A first operand, and the operations of the looseness above the level behind it, if there are any.
 #[cycle(expr)]
-#[tactic(auto, unfolding(crate::specs::Reading::chained_at), using(rp_tree::proofs::ExpressionEquations::variants))]
+#[tactic(auto, unfolding(rp_grammar::specs::ExpressionReading::chained_at), using(rp_tree::proofs::ExpressionEquations::variants))]
 fn chained(
     alloc: Global,
     level: usize,
@@ -175,7 +175,7 @@ fn test_at<'a>(
 }
 
 #[cycle(expr)]
-#[tactic(auto, unfolding(crate::specs::Reading::comparison))]
+#[tactic(auto, unfolding(rp_grammar::specs::ExpressionReading::comparison))]
 fn test(alloc: Global, tokens: &[Token], depth: usize) -> Read<'_, (Test, Expr)>
     ensures { Gives (λ x. (v.view_test x.0, x.1.now)) result (r.comparison (r.readers depth) tokens.now) }
 {
@@ -200,7 +200,7 @@ fn tests(alloc: Global, tokens: &[Token], depth: usize) -> Read<'_, Vec<(Test, E
 }
 
 #[cycle(expr)]
-#[tactic(auto, unfolding(crate::specs::Reading::compare), using(rp_tree::proofs::ExpressionEquations::variants))]
+#[tactic(auto, unfolding(rp_grammar::specs::ExpressionReading::compare), using(rp_tree::proofs::ExpressionEquations::variants))]
 fn compare(alloc: Global, tokens: &[Token], depth: usize) -> Read<'_, Expr>
     ensures { Gives (λ x. (v.view_expr x.0, x.1.now)) result (r.compare (r.readers depth) tokens.now) }
 {
@@ -215,7 +215,7 @@ fn compare(alloc: Global, tokens: &[Token], depth: usize) -> Read<'_, Expr>
 
 /// An operand of `and`.
 #[cycle(expr)]
-#[tactic(auto, unfolding(crate::specs::Reading::not), using(rp_tree::proofs::ExpressionEquations::variants))]
+#[tactic(auto, unfolding(rp_grammar::specs::ExpressionReading::not), using(rp_tree::proofs::ExpressionEquations::variants))]
 pub fn not(alloc: Global, tokens: &[Token], depth: usize) -> Read<'_, Expr>
     ensures { Gives (λ x. (v.view_expr x.0, x.1.now)) result (r.not (r.readers depth) tokens.now) }
 {
@@ -230,7 +230,7 @@ pub fn not(alloc: Global, tokens: &[Token], depth: usize) -> Read<'_, Expr>
 fn ands(alloc: Global, first: Expr, tokens: &[Token], depth: usize) -> Read<'_, Vec<Expr>>
     ensures { Gives (λ x. (v.exprs_of (map v.view_expr x.0.items), x.1.now)) result (r.ands (r.readers depth) (v.view_expr first) tokens.now) }
 {
-    let mut found = Vec::new(alloc);
+    let mut found = Vec::with_capacity(alloc, 1)?;
     found.push(first)?;
     let mut rest = tokens;
     'items: while is_and(rest) {
@@ -242,7 +242,7 @@ fn ands(alloc: Global, first: Expr, tokens: &[Token], depth: usize) -> Read<'_, 
 }
 
 #[cycle(expr)]
-#[tactic(auto, unfolding(crate::specs::Reading::and), using(rp_tree::proofs::ExpressionEquations::variants))]
+#[tactic(auto, unfolding(rp_grammar::specs::ExpressionReading::and), using(rp_tree::proofs::ExpressionEquations::variants))]
 fn and(alloc: Global, tokens: &[Token], depth: usize) -> Read<'_, Expr>
     ensures { Gives (λ x. (v.view_expr x.0, x.1.now)) result (r.and (r.readers depth) tokens.now) }
 {
@@ -259,7 +259,7 @@ fn and(alloc: Global, tokens: &[Token], depth: usize) -> Read<'_, Expr>
 fn ors(alloc: Global, first: Expr, tokens: &[Token], depth: usize) -> Read<'_, Vec<Expr>>
     ensures { Gives (λ x. (v.exprs_of (map v.view_expr x.0.items), x.1.now)) result (r.ors (r.readers depth) (v.view_expr first) tokens.now) }
 {
-    let mut found = Vec::new(alloc);
+    let mut found = Vec::with_capacity(alloc, 1)?;
     found.push(first)?;
     let mut rest = tokens;
     'items: while is_or(rest) {
@@ -272,7 +272,7 @@ fn ors(alloc: Global, first: Expr, tokens: &[Token], depth: usize) -> Read<'_, V
 
 /// An operand of a conditional expression.
 #[cycle(expr)]
-#[tactic(auto, unfolding(crate::specs::Reading::or), using(rp_tree::proofs::ExpressionEquations::variants))]
+#[tactic(auto, unfolding(rp_grammar::specs::ExpressionReading::or), using(rp_tree::proofs::ExpressionEquations::variants))]
 pub fn or(alloc: Global, tokens: &[Token], depth: usize) -> Read<'_, Expr>
     ensures { Gives (λ x. (v.view_expr x.0, x.1.now)) result (r.or (r.readers depth) tokens.now) }
 {

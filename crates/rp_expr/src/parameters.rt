@@ -3,10 +3,10 @@
 ghost use Rattle.std.specs.Prelude.{◌≡◌, Some, map, option_map};
 ghost use Rattle.rp_tree.specs.Expressions as t;
 ghost use Rattle.rp_tree.specs.ExpressionViews as v;
-ghost use Rattle.rp_expr.specs.Kinds.{first};
+ghost use Rattle.rp_grammar.specs.Kinds.{first};
 ghost use Rattle.rp_expr.specs.Gives.{Gives};
 ghost use Rattle.rp_expr.specs.Gives as g;
-ghost use Rattle.rp_expr.specs.Reading as r;
+ghost use Rattle.rp_grammar.specs.ExpressionReading as r;
 
 use crate::expressions::inner_expr;
 use crate::fault::Fault;
@@ -20,7 +20,7 @@ use std::alloc::Global;
 type Plain = (Named, Option<Expr>);
 
 /// The last name, behind which a comma may stand.
-#[tactic(auto, unfolding(crate::specs::Reading::last_name))]
+#[tactic(auto, unfolding(rp_grammar::specs::ExpressionReading::last_name))]
 fn last_name(tokens: &[Token]) -> Read<'_, Named>
     ensures { Gives (λ x. (x.0, x.1.now)) result (r.last_name tokens.now) }
 {
@@ -32,7 +32,7 @@ fn last_name(tokens: &[Token]) -> Read<'_, Named>
 }
 
 /// `**NAME`, where it comes.
-#[tactic(auto, unfolding(crate::specs::Reading::dict_param))]
+#[tactic(auto, unfolding(rp_grammar::specs::ExpressionReading::dict_param))]
 fn dict_param(tokens: &[Token]) -> Read<'_, Option<Named>>
     ensures { Gives (λ x. (x.0, x.1.now)) result (r.dict_param tokens.now) }
 {
@@ -44,7 +44,7 @@ fn dict_param(tokens: &[Token]) -> Read<'_, Option<Named>>
 }
 
 /// `*NAME` and `**NAME`, where they come.
-#[tactic(auto, unfolding(crate::specs::Reading::star_params))]
+#[tactic(auto, unfolding(rp_grammar::specs::ExpressionReading::star_params))]
 fn star_params(tokens: &[Token]) -> Read<'_, (Option<Named>, Option<Named>)>
     ensures { Gives (λ x. (x.0, x.1.now)) result (r.star_params tokens.now) }
 {
@@ -61,7 +61,7 @@ fn star_params(tokens: &[Token]) -> Read<'_, (Option<Named>, Option<Named>)>
 }
 
 #[cycle(expr)]
-#[tactic(auto, unfolding(crate::specs::Reading::plain))]
+#[tactic(auto, unfolding(rp_grammar::specs::ExpressionReading::plain))]
 fn plain(alloc: Global, defaults: bool, tokens: &[Token], depth: usize) -> Read<'_, (Plain, bool)>
     ensures { Gives (λ x. ((g.plain_item (v.view_plain x.0.0), x.0.1), x.1.now)) result (r.plain (r.readers depth) defaults tokens.now) }
 {
@@ -97,7 +97,7 @@ fn plains(alloc: Global, tokens: &[Token], depth: usize) -> Read<'_, (Vec<Plain>
 
 /// The parameters of a function or of a lambda.
 #[cycle(expr)]
-#[tactic(auto, unfolding(crate::specs::Reading::params))]
+#[tactic(auto, unfolding(rp_grammar::specs::ExpressionReading::params))]
 pub fn params(alloc: Global, tokens: &[Token], depth: usize) -> Read<'_, Params>
     ensures { Gives (λ x. (v.view_params x.0, x.1.now)) result (r.params (r.readers depth) tokens.now) }
 {

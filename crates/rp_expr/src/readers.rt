@@ -5,12 +5,12 @@ ghost use Rattle.rp_base.specs.declared.value.Line as l;
 ghost use Rattle.rp_tree.specs.Expressions as t;
 ghost use Rattle.rp_tree.specs.ExpressionViews as v;
 ghost use Rattle.rp_tree.specs.Heights as h;
-ghost use Rattle.rp_expr.specs.Brackets.{IsShallow};
-ghost use Rattle.rp_expr.specs.Expressions.{IsExpr, IsExprs, IsTarget, IsParams, any};
-ghost use Rattle.rp_expr.specs.Front.{goes_on, goes_on_list, goes_on_target, goes_on_params};
+ghost use Rattle.rp_grammar.specs.Brackets.{IsShallow};
+ghost use Rattle.rp_grammar.specs.Expressions.{IsExpr, IsExprs, IsTarget, IsParams, any};
+ghost use Rattle.rp_grammar.specs.Front.{goes_on, goes_on_list, goes_on_target, goes_on_params};
 ghost use Rattle.rp_expr.specs.Gives.{Gives};
-ghost use Rattle.rp_expr.specs.Kinds.{Tokens, first};
-ghost use Rattle.rp_expr.specs.Reading as r;
+ghost use Rattle.rp_grammar.specs.Kinds.{Tokens, first};
+ghost use Rattle.rp_grammar.specs.ExpressionReading as r;
 
 use crate::node::Read;
 use crate::{clauses, expressions, parameters};

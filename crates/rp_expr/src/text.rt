@@ -1,10 +1,10 @@
 //! Adjacent text literals.
 
 ghost use Rattle.std.specs.Prelude.{◌≡◌, option_map};
-ghost use Rattle.rp_expr.specs.Front.{text_of};
+ghost use Rattle.rp_grammar.specs.Front.{text_of};
 ghost use Rattle.rp_expr.specs.Gives.{Gives};
-ghost use Rattle.rp_expr.specs.Kinds.{first};
-ghost use Rattle.rp_expr.specs.Reading as r;
+ghost use Rattle.rp_grammar.specs.Kinds.{first};
+ghost use Rattle.rp_grammar.specs.ExpressionReading as r;
 
 use crate::look::{is_text, kind_at, skip};
 use crate::node::Read;

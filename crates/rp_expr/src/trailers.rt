@@ -3,9 +3,9 @@
 ghost use Rattle.std.specs.Prelude.{◌≡◌, Some, map, option_map};
 ghost use Rattle.rp_tree.specs.Expressions as t;
 ghost use Rattle.rp_tree.specs.ExpressionViews as v;
-ghost use Rattle.rp_expr.specs.Kinds.{first};
+ghost use Rattle.rp_grammar.specs.Kinds.{first};
 ghost use Rattle.rp_expr.specs.Gives.{Gives};
-ghost use Rattle.rp_expr.specs.Reading as r;
+ghost use Rattle.rp_grammar.specs.ExpressionReading as r;
 
 use crate::atoms::atom;
 use crate::distinct::has_distinct_keys;
@@ -15,13 +15,13 @@ use crate::look::{
     after_right_bracket, after_right_paren, is_colon, is_comma, is_equal, skip, starts, starts_arg,
     starts_trailer,
 };
-use crate::node::{Read, name, node};
+use crate::node::{Read, name, node, slicing};
 use rp_token::{Token, TokenKind};
 use rp_tree::{Arg, Expr, ExprForm, Trailer};
 use std::alloc::Global;
 
 #[cycle(expr)]
-#[tactic(auto, unfolding(crate::specs::Reading::maybe))]
+#[tactic(auto, unfolding(rp_grammar::specs::ExpressionReading::maybe))]
 fn maybe(alloc: Global, tokens: &[Token], depth: usize) -> Read<'_, Option<Expr>>
     ensures { Gives (λ x. (v.maybe_of (option_map v.view_expr x.0), x.1.now)) result (r.maybe (r.readers depth) tokens.now) }
 {
@@ -33,38 +33,22 @@ fn maybe(alloc: Global, tokens: &[Token], depth: usize) -> Read<'_, Option<Expr>
 }
 
 #[cycle(expr)]
-#[tactic(auto, unfolding(crate::specs::Reading::slice), using(rp_tree::proofs::ExpressionEquations::variants))]
+#[tactic(auto, unfolding(rp_grammar::specs::ExpressionReading::slice), using(rp_tree::proofs::ExpressionEquations::variants))]
 fn slice(alloc: Global, from: Option<Expr>, tokens: &[Token], depth: usize) -> Read<'_, Trailer>
     ensures { Gives (λ x. (v.view_trailer x.0, x.1.now)) result (r.slice (r.readers depth) (v.maybe_of (option_map v.view_expr from)) tokens.now) }
 {
     let (to, rest) = maybe(alloc, tokens, depth)?;
     if !is_colon(rest) {
         let rest = after_right_bracket(rest)?;
-        return Ok((
-            Trailer::Slice {
-                from,
-                to,
-                step: None,
-                guard: None,
-            },
-            rest,
-        ));
+        return Ok((slicing(alloc, from, to, None)?, rest));
     }
     let (step, rest) = maybe(alloc, skip(rest), depth)?;
     let rest = after_right_bracket(rest)?;
-    Ok((
-        Trailer::Slice {
-            from,
-            to,
-            step,
-            guard: None,
-        },
-        rest,
-    ))
+    Ok((slicing(alloc, from, to, step)?, rest))
 }
 
 #[cycle(expr)]
-#[tactic(auto, unfolding(crate::specs::Reading::subscript), using(rp_tree::proofs::ExpressionEquations::variants))]
+#[tactic(auto, unfolding(rp_grammar::specs::ExpressionReading::subscript), using(rp_tree::proofs::ExpressionEquations::variants))]
 fn subscript(alloc: Global, tokens: &[Token], depth: usize) -> Read<'_, Trailer>
     ensures { Gives (λ x. (v.view_trailer x.0, x.1.now)) result (r.subscript (r.readers depth) tokens.now) }
 {
@@ -80,7 +64,7 @@ fn subscript(alloc: Global, tokens: &[Token], depth: usize) -> Read<'_, Trailer>
 }
 
 #[cycle(expr)]
-#[tactic(auto, unfolding(crate::specs::Reading::positional), using(rp_tree::proofs::ExpressionEquations::variants))]
+#[tactic(auto, unfolding(rp_grammar::specs::ExpressionReading::positional), using(rp_tree::proofs::ExpressionEquations::variants))]
 fn positional(alloc: Global, named: bool, tokens: &[Token], depth: usize) -> Read<'_, (Arg, bool)>
     ensures { Gives (λ x. ((v.view_arg x.0.0, x.0.1), x.1.now)) result (r.positional (r.readers depth) named tokens.now) }
 {
@@ -92,7 +76,7 @@ fn positional(alloc: Global, named: bool, tokens: &[Token], depth: usize) -> Rea
 }
 
 #[cycle(expr)]
-#[tactic(auto, unfolding(crate::specs::Reading::starred), using(rp_tree::proofs::ExpressionEquations::variants))]
+#[tactic(auto, unfolding(rp_grammar::specs::ExpressionReading::starred), using(rp_tree::proofs::ExpressionEquations::variants))]
 fn starred(alloc: Global, named: bool, tokens: &[Token], depth: usize) -> Read<'_, (Arg, bool)>
     ensures { Gives (λ x. ((v.view_arg x.0.0, x.0.1), x.1.now)) result (r.starred (r.readers depth) named tokens.now) }
 {
@@ -104,7 +88,7 @@ fn starred(alloc: Global, named: bool, tokens: &[Token], depth: usize) -> Read<'
 }
 
 #[cycle(expr)]
-#[tactic(auto, unfolding(crate::specs::Reading::arg), using(rp_tree::proofs::ExpressionEquations::variants))]
+#[tactic(auto, unfolding(rp_grammar::specs::ExpressionReading::arg), using(rp_tree::proofs::ExpressionEquations::variants))]
 fn arg(alloc: Global, named: bool, tokens: &[Token], depth: usize) -> Read<'_, (Arg, bool)>
     ensures { Gives (λ x. ((v.view_arg x.0.0, x.0.1), x.1.now)) result (r.arg (r.readers depth) named tokens.now) }
 {
@@ -145,7 +129,7 @@ fn args(alloc: Global, tokens: &[Token], depth: usize) -> Read<'_, Vec<Arg>>
 }
 
 #[cycle(expr)]
-#[tactic(auto, unfolding(crate::specs::Reading::called), using(rp_tree::proofs::ExpressionEquations::variants))]
+#[tactic(auto, unfolding(rp_grammar::specs::ExpressionReading::called), using(rp_tree::proofs::ExpressionEquations::variants))]
 fn called(alloc: Global, tokens: &[Token], depth: usize) -> Read<'_, Trailer>
     ensures { Gives (λ x. (v.view_trailer x.0, x.1.now)) result (r.called (r.readers depth) tokens.now) }
 {
@@ -158,7 +142,7 @@ fn called(alloc: Global, tokens: &[Token], depth: usize) -> Read<'_, Trailer>
 }
 
 #[cycle(expr)]
-#[tactic(auto, unfolding(crate::specs::Reading::trailer), using(rp_tree::proofs::ExpressionEquations::variants))]
+#[tactic(auto, unfolding(rp_grammar::specs::ExpressionReading::trailer), using(rp_tree::proofs::ExpressionEquations::variants))]
 fn trailer(alloc: Global, tokens: &[Token], depth: usize) -> Read<'_, Trailer>
     ensures { Gives (λ x. (v.view_trailer x.0, x.1.now)) result (r.trailer (r.readers depth) tokens.now) }
 {
@@ -193,7 +177,7 @@ fn trailers(alloc: Global, tokens: &[Token], depth: usize) -> Read<'_, Vec<Trail
 /// # Errors
 /// `Syntax` where the front of the tokens spells no primary within the depth, `Memory` where a growth was refused.
 #[cycle(expr)]
-#[tactic(auto, unfolding(crate::specs::Reading::primary), using(rp_tree::proofs::ExpressionEquations::variants))]
+#[tactic(auto, unfolding(rp_grammar::specs::ExpressionReading::primary), using(rp_tree::proofs::ExpressionEquations::variants))]
 pub fn primary(alloc: Global, tokens: &[Token], depth: usize) -> Read<'_, Expr>
     ensures { Gives (λ x. (v.view_expr x.0, x.1.now)) result (r.primary (r.readers depth) tokens.now) }
 {
@@ -207,7 +191,7 @@ pub fn primary(alloc: Global, tokens: &[Token], depth: usize) -> Read<'_, Expr>
 }
 
 /// A name behind a dot.
-#[tactic(auto, unfolding(crate::specs::Reading::attr), using(rp_tree::proofs::ExpressionEquations::variants))]
+#[tactic(auto, unfolding(rp_grammar::specs::ExpressionReading::attr), using(rp_tree::proofs::ExpressionEquations::variants))]
 fn attr(tokens: &[Token]) -> Read<'_, Trailer>
     ensures { Gives (λ x. (v.view_trailer x.0, x.1.now)) result (r.attr tokens.now) }
 {

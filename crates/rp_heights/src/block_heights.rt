@@ -81,7 +81,7 @@ fn stmt_form_height(form: &StmtForm) -> u32
             let other_height = block_height(stmts_of(other)).max(block_height(stmts_of(last)));
             block_height(body).max(handlers_height(handlers).max(other_height))
         }
-        StmtForm::Def(_, params, body) => params_height(params).max(block_height(body)),
+        StmtForm::Def(_, _, params, body) => params_height(params).max(block_height(body)),
         StmtForm::Class(_, body) => block_height(body),
     }
 }

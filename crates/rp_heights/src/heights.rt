@@ -1,12 +1,14 @@
 //! The heights of expressions and of their parts.
 
-ghost use Rattle.std.specs.Prelude.{◌≡◌, ℕ, suc, map, option_map};
+ghost use Rattle.std.specs.Prelude.{◌≡◌, ℕ, suc, max, map, option_map};
 ghost use Rattle.rp_tree.specs.ExpressionViews as v;
 ghost use Rattle.rp_tree.specs.Heights as h;
 ghost use Rattle.rp_tree.specs.Heights.{capped};
 
 use rp_base::BinOp;
-use rp_tree::{Arg, Clause, Expr, ExprForm, Named, Params, Place, Target, Test, Trailer, Walk};
+use rp_tree::{
+    Arg, Clause, Expr, ExprForm, Named, Params, Place, Slice, Target, Test, Trailer, Walk,
+};
 
 /// The height of a node with parts of this height.
 #[tactic(auto, unfolding(rp_tree::specs::Heights::capped))]
@@ -34,11 +36,11 @@ fn form_height(form: &ExprForm) -> u32
         ExprForm::Tuple(exprs) => exprs_height(exprs),
         ExprForm::List(exprs) => exprs_height(exprs),
         ExprForm::Dict(pairs) => pairs_height(pairs),
-        ExprForm::ListOf(element, clauses) => expr_height(element).max(clauses_height(clauses)),
-        ExprForm::DictOf(key, value, clauses) => {
+        ExprForm::ListOf(_, element, clauses) => expr_height(element).max(clauses_height(clauses)),
+        ExprForm::DictOf(_, key, value, clauses) => {
             expr_height(key).max(expr_height(value).max(clauses_height(clauses)))
         }
-        ExprForm::Lambda(params, body) => params_height(params).max(expr_height(body)),
+        ExprForm::Lambda(_, params, body) => params_height(params).max(expr_height(body)),
         ExprForm::Cond { test, yes, no } => {
             expr_height(test).max(expr_height(yes).max(expr_height(no)))
         }
@@ -201,11 +203,17 @@ fn trailer_height(trailer: &Trailer) -> u32
     match trailer {
         Trailer::Attr(_, _) => 0,
         Trailer::Item(key, _) => expr_height(key),
-        Trailer::Slice { from, to, step, .. } => {
-            maybe_height(from).max(maybe_height(to).max(maybe_height(step)))
-        }
+        Trailer::Slice(slice, _) => slice_height(slice),
         Trailer::Call(args, _) => args_height(args),
     }
+}
+
+#[cycle(expr_height)]
+#[tactic(auto, unfolding(rp_tree::specs::Heights::capped))]
+fn slice_height(slice: &Slice) -> u32
+    ensures { result ≡ capped (max (h.maybe_height (v.view_slice slice.now).0) (max (h.maybe_height (v.view_slice slice.now).1) (h.maybe_height (v.view_slice slice.now).2))) }
+{
+    maybe_height(&slice.from).max(maybe_height(&slice.to).max(maybe_height(&slice.step)))
 }
 
 #[cycle(expr_height)]

@@ -15,8 +15,8 @@ use Rattle.rp_decl.specs.Word.{is_among}
 use Rattle.rp_decl.specs.declared.records.GroupDecl.{GroupDecl}
 use Rattle.rp_decl.specs.declared.records.Perm.{Perm}
 use Rattle.rp_decl.specs.declared.records.RoleDecl.{RoleDecl}
-use Rattle.rp_interact.specs.Answers.{group_granted, permissions_of, reason_view, role_granted}
-use Rattle.rp_interact.specs.Granted.{GroupGranted, group_role, is_in, least_allowing, least_denying, least_role, least_with_role, role_at}
+use Rattle.rp_interact.specs.Answers.{reason_view}
+use Rattle.rp_interact.specs.Granted.{GroupGranted, group_granted, group_role, is_in, least_allowing, least_denying, least_role, least_with_role, permissions_of, role_at, role_granted}
 use Rattle.rp_interact.specs.Least.{least_of, least_place, lower}
 use Rattle.rp_interact.specs.Why as text
 use Rattle.rp_interact.specs.declared.reason.Reason.TheVariants.{GroupRole}
@@ -70,7 +70,7 @@ group-ids permissions ids [] = refl
 group-ids permissions ids (g ∷ groups) = ap (λ ids. g.id ∷ ids) (group-ids permissions ids groups)
 
 -- an element that stands at a place has what all have
-stands-all : {X : Type 0} (P : X → Type 0) (xs : List X) (k : ℕ) (x : X) → All P xs → slice_get xs k ≡ Some x → P x
+pub stands-all : {X : Type 0} (P : X → Type 0) (xs : List X) (k : ℕ) (x : X) → All P xs → slice_get xs k ≡ Some x → P x
 stands-all P xs k x all e = rw (get_or_from_slice_get xs k x x e) at (all k x (slice_get_within xs k x e))
 
 or_true : (b : Bool) → (b || true) ≡ true

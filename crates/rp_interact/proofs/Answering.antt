@@ -2,6 +2,7 @@
 use Rattle.std.proofs.Common.{◌≡◌, refl, sym, ap, ◌∙◌, ℕ, zero, suc, ◌+◌, ◌<◌, Bool, true, false, cond, ◌||◌, ◌&&◌, List, [], ◌∷◌, map, length, get_or, unwrap_or, Option, Some, None, arith, position}
 use Rattle.std.specs.List.{All, list_all, position_from, slice_get}
 use Rattle.std.specs.Option.{option_and_then, option_map, option_map_or}
+use Rattle.std.proofs.lemmas.List.FromFn.{get_or-map-range_with_len}
 use Rattle.std.proofs.lemmas.Iterator.Adapters.{position_from-zero}
 use Rattle.std.proofs.lemmas.List.Quantifiers.{position-Some}
 use Rattle.rp_base.specs.Same.{same_text}
@@ -13,13 +14,14 @@ use Rattle.rp_decl.specs.Records.{Declarations}
 use Rattle.rp_decl.specs.View.{Placed, declarations_view, group_ids, perm_text, role_ids, text_at}
 use Rattle.rp_decl.specs.declared.records.Perm.{Perm}
 use Rattle.rp_decl.specs.declared.records.PrincipalDecl.{PrincipalDecl}
-use Rattle.rp_interact.specs.Answers.{granted_of, reason_view}
-use Rattle.rp_interact.specs.Granted.{Granted, first_rule, is_everybody, is_in, is_yes, least_allowing, least_denying, least_role, reason, rule, rules, why_in}
+use Rattle.rp_interact.specs.Answers.{reason_view}
+use Rattle.rp_interact.specs.Granted.{first_rule, granted_of, is_in, least_allowing, least_denying, least_role, reason, rule, rules}
+use Rattle.rp_interact.specs.Interacting.{is_everybody, is_yes, reason_at, why_in}
 use Rattle.rp_interact.specs.Why as text
 use Rattle.rp_interact.specs.declared.reason.Reason.{Reason}
 use Rattle.rp_interact.specs.declared.reason.Reason.TheVariants.{Public, Own, Role, Group, GroupRole, Nothing}
 use Rattle.rp_interact.proofs.Agreeing.{allowing-agrees, denying-agrees, is_among-places, roles-agree, with-role-agrees}
-use Rattle.rp_interact.proofs.Naming.{AreNamed, find-within, principal-named, principal_of, view_of}
+use Rattle.rp_interact.proofs.Naming.{AreNamed, find-within, principal-named, principal_of, table_of, view_of}
 use Rattle.rp_interact.proofs.Orders.{same_text-places}
 
 position_from-none : {X : Type 0} (test : X → Bool) (first : ℕ) (xs : List X) → position_from test first xs ≡ None → (k : ℕ) (d : X) → k < length xs → test (get_or xs k d) ≡ false
@@ -74,9 +76,13 @@ module _ (names : List (List ℕ)) (d : Placed) (ordered : AreInOrder (declarati
           let its : text_at d.permissions i ≡ zope_public = same_text-equal _ _ stands.1 in
           sym (same_text-places d.permissions p.0 i ordered.permissions here stands.0) ∙ ap (same_text asked) its
 
+  -- the reason in the table is the one that the rules give
+  table-reason : (pd : PrincipalDecl) → reason_at (table_of d pd) p ≡ reason (granted_of d.roles d.groups pd) p
+  table-reason pd = get_or-map-range_with_len (λ q. reason (granted_of d.roles d.groups pd) (record { 0 = q })) 0 (length d.permissions) p.0 p.0 Nothing here (omega arith)
+
   -- the rules behind the first one
   rules-agree : (pd : PrincipalDecl) → IsPrincipalWithin (length d.permissions) (length d.roles) (length d.groups) pd
-      → reason_view d (reason (granted_of d.roles d.groups pd) p)
+      → reason_view d (reason_at (table_of d pd) p)
       ≡ text.first_rule (text.rules said (view_of d pd) asked)
   rules-agree pd within =
       let g = granted_of d.roles d.groups pd in
@@ -88,48 +94,48 @@ module _ (names : List (List ℕ)) (d : Placed) (ordered : AreInOrder (declarati
       let allowing = map-view (λ q. Group q true) (reason_view d) (least_allowing g.groups p) ∙ sym (map-view (text_at (group_ids d)) (λ q. text.group q true) (least_allowing g.groups p))
       ∙ ap (option_map (λ q. text.group q true)) (sym (allowing-agrees names d ordered roles_within groups_within p here pd.groups.items within.groups_within)) in
       let by_role = sym (with-role-agrees names d ordered roles_within groups_within p here pd.groups.items within.groups_within) in
-      rules-view d (rules g p) ∙ (λ k. text.first_rule (deny k ∷ allow k ∷ roles k ∷ denying k ∷ allowing k ∷ by_role k ∷ []))
+      ap (reason_view d) (table-reason pd) ∙ rules-view d (rules g p) ∙ (λ k. text.first_rule (deny k ∷ allow k ∷ roles k ∷ denying k ∷ allowing k ∷ by_role k ∷ []))
 
-  pub why-agrees : (pd : PrincipalDecl) → IsPrincipalWithin (length d.permissions) (length d.roles) (length d.groups) pd → reason_view d (why_in everybody (granted_of d.roles d.groups pd) p) ≡ text.why said (view_of d pd) asked
+  pub why-agrees : (pd : PrincipalDecl) → IsPrincipalWithin (length d.permissions) (length d.roles) (length d.groups) pd → reason_view d (why_in everybody (table_of d pd) p) ≡ text.why said (view_of d pd) asked
   why-agrees pd within = by (is_everybody everybody p) (same_text asked zope_public) everybody-agrees
     where
-      by : (b c : Bool) → b ≡ c → reason_view d (cond b Public (reason (granted_of d.roles d.groups pd) p)) ≡ unwrap_or (text.rule c text.public) (text.first_rule (text.rules said (view_of d pd) asked))
+      by : (b c : Bool) → b ≡ c → reason_view d (cond b Public (reason_at (table_of d pd) p)) ≡ unwrap_or (text.rule c text.public) (text.first_rule (text.rules said (view_of d pd) asked))
       by true c e = ap (λ b. unwrap_or (text.rule b text.public) (text.first_rule (text.rules said (view_of d pd) asked))) e
       by false c e = rules-agree pd within ∙ ap (λ b. unwrap_or (text.rule b text.public) (text.first_rule (text.rules said (view_of d pd) asked))) e
 
   -- the principal of an id
-  id-agrees : (id : List ℕ) (g : Granted) → option_map (granted_of d.roles d.groups) (principal_of d id) ≡ Some g → text.why_of said id asked ≡ Some (reason_view d (why_in everybody g p))
+  id-agrees : (id : List ℕ) (g : List Reason) → option_map (table_of d) (principal_of d id) ≡ Some g → text.why_of said id asked ≡ Some (reason_view d (why_in everybody g p))
   id-agrees id g e = ap (option_map (λ p. text.why said p asked)) (principal-named names d id) ∙ by (principal_of d id) refl e
     where
-      by : (o : Option PrincipalDecl) → principal_of d id ≡ o → option_map (granted_of d.roles d.groups) o ≡ Some g → option_map (λ p. text.why said p asked) (option_map (view_of d) o) ≡ Some (reason_view d (why_in everybody g p))
+      by : (o : Option PrincipalDecl) → principal_of d id ≡ o → option_map (table_of d) o ≡ Some g → option_map (λ p. text.why said p asked) (option_map (view_of d) o) ≡ Some (reason_view d (why_in everybody g p))
       by None found e = cc
       by (Some pd) found e =
-          let its : granted_of d.roles d.groups pd ≡ g = cc in
+          let its : table_of d pd ≡ g = cc in
           let within = find-within (IsPrincipalWithin (length d.permissions) (length d.roles) (length d.groups)) _ d.principals pd principals_within found in
           ap Some (sym (why-agrees pd within)) ∙ ap (λ g. Some (reason_view d (why_in everybody g p))) its
 
-  all-agrees : is_everybody everybody p ≡ false → (ids : List (List ℕ)) (granted : List Granted) → AreNamed d ids granted → list_all (λ g. is_yes (reason g p)) granted ≡ list_all (text.id_has said asked) ids
+  all-agrees : is_everybody everybody p ≡ false → (ids : List (List ℕ)) (reasons : List (List Reason)) → AreNamed d ids reasons → list_all (λ g. is_yes (reason_at g p)) reasons ≡ list_all (text.id_has said asked) ids
   all-agrees no_rule [] [] named = refl
-  all-agrees no_rule [] (g ∷ granted) named = cc
+  all-agrees no_rule [] (g ∷ reasons) named = cc
   all-agrees no_rule (id ∷ ids) [] named = cc
-  all-agrees no_rule (id ∷ ids) (g ∷ granted) named =
-      let first : Some g ≡ option_map (granted_of d.roles d.groups) (principal_of d id) = cc in
-      let rest : AreNamed d ids granted = cc in
-      let seen : is_yes (why_in everybody g p) ≡ is_yes (reason g p) = ap (λ b. is_yes (cond b Public (reason g p))) no_rule in
-      let one : text.id_has said asked id ≡ is_yes (reason g p) = ap (λ o. option_map_or text.is_yes o false) (id-agrees id g (sym first)) ∙ yes-view d (why_in everybody g p) ∙ seen in
-      λ k. sym one k && all-agrees no_rule ids granted rest k
+  all-agrees no_rule (id ∷ ids) (g ∷ reasons) named =
+      let first : Some g ≡ option_map (table_of d) (principal_of d id) = cc in
+      let rest : AreNamed d ids reasons = cc in
+      let seen : is_yes (why_in everybody g p) ≡ is_yes (reason_at g p) = ap (λ b. is_yes (cond b Public (reason_at g p))) no_rule in
+      let one : text.id_has said asked id ≡ is_yes (reason_at g p) = ap (λ o. option_map_or text.is_yes o false) (id-agrees id g (sym first)) ∙ yes-view d (why_in everybody g p) ∙ seen in
+      λ k. sym one k && all-agrees no_rule ids reasons rest k
 
-  pub has-agrees : (ids : List (List ℕ)) (granted : List Granted) → AreNamed d ids granted → (is_everybody everybody p || list_all (λ g. is_yes (reason g p)) granted) ≡ text.has_all said ids asked
-  has-agrees ids granted named = by (is_everybody everybody p) refl ∙ ap (λ b. b || list_all (text.id_has said asked) ids) everybody-agrees
+  pub has-agrees : (ids : List (List ℕ)) (reasons : List (List Reason)) → AreNamed d ids reasons → (is_everybody everybody p || list_all (λ g. is_yes (reason_at g p)) reasons) ≡ text.has_all said ids asked
+  has-agrees ids reasons named = by (is_everybody everybody p) refl ∙ ap (λ b. b || list_all (text.id_has said asked) ids) everybody-agrees
     where
-      by : (b : Bool) → is_everybody everybody p ≡ b → (b || list_all (λ g. is_yes (reason g p)) granted) ≡ (b || list_all (text.id_has said asked) ids)
+      by : (b : Bool) → is_everybody everybody p ≡ b → (b || list_all (λ g. is_yes (reason_at g p)) reasons) ≡ (b || list_all (text.id_has said asked) ids)
       by true e = refl
-      by false e = all-agrees e ids granted named
+      by false e = all-agrees e ids reasons named
 
-  pub why-at-agrees : (ids : List (List ℕ)) (granted : List Granted) (k : ℕ) → AreNamed d ids granted
-      → option_map (reason_view d) (option_map (λ g. why_in everybody g p) (slice_get granted k)) ≡ option_and_then (λ id. text.why_of said id asked) (slice_get ids k)
+  pub why-at-agrees : (ids : List (List ℕ)) (reasons : List (List Reason)) (k : ℕ) → AreNamed d ids reasons
+      → option_map (reason_view d) (option_map (λ g. why_in everybody g p) (slice_get reasons k)) ≡ option_and_then (λ id. text.why_of said id asked) (slice_get ids k)
   why-at-agrees [] [] k named = refl
-  why-at-agrees [] (g ∷ granted) k named = cc
+  why-at-agrees [] (g ∷ reasons) k named = cc
   why-at-agrees (id ∷ ids) [] k named = cc
-  why-at-agrees (id ∷ ids) (g ∷ granted) zero named = let first : Some g ≡ option_map (granted_of d.roles d.groups) (principal_of d id) = cc in sym (id-agrees id g (sym first))
-  why-at-agrees (id ∷ ids) (g ∷ granted) (suc k) named = let rest : AreNamed d ids granted = cc in why-at-agrees ids granted k rest
+  why-at-agrees (id ∷ ids) (g ∷ reasons) zero named = let first : Some g ≡ option_map (table_of d) (principal_of d id) = cc in sym (id-agrees id g (sym first))
+  why-at-agrees (id ∷ ids) (g ∷ reasons) (suc k) named = let rest : AreNamed d ids reasons = cc in why-at-agrees ids reasons k rest

@@ -8,8 +8,8 @@ use Rattle.std.proofs.lemmas.List.{length-take}
 use Rattle.std.proofs.lemmas.List.Elements.{All-cons, All-head, All-tail, All-take}
 use Rattle.rp_decl.specs.declared.records.Perm.{Perm}
 use Rattle.lru.specs.LruCache.{LruCache, lru_cache, promoted, put_entries}
-use Rattle.rp_interact.specs.Granted.{Interacting, has_in}
-use Rattle.rp_interact.specs.Kept.{IsKeptOrNot, IsSound, is_perm, keeping, most_kept, used}
+use Rattle.rp_interact.specs.Interacting.{Interacting, has_in}
+use Rattle.rp_interact.specs.Kept.{IsKeptOrNot, IsSound, is_perm, keeping, latest, most_kept, used}
 
 abbrev Kept : Type 0
 Kept = List (Perm × Bool)
@@ -102,3 +102,28 @@ after-keep i room p old new answer s none was right kept = by kept
     by (inr same) =
         let full : new ≡ lru_cache i.kept room = same ∙ stays in
         (rw full s, inr (ap (λ (c : LruCache Perm Bool). record i { kept = c.entries }) full))
+
+-- the latest answer is a kept one
+pub latest-lookup : (p : Perm) (es : Kept) (a : Bool) → latest es p ≡ Some a → lookup (is_perm p) es ≡ Some a
+latest-lookup p [] a e = cc
+latest-lookup p (x ∷ es) a e = by (is_perm p x.0) e
+  where
+    by : (b : Bool) → cond b (Some x.1) None ≡ Some a → cond b (Some x.1) (lookup (is_perm p) es) ≡ Some a
+    by true e = e
+    by false e = cc
+
+-- it is in front already
+pub latest-promoted : (p : Perm) (es : Kept) (a : Bool) → latest es p ≡ Some a → promoted (is_perm p) es ≡ es
+latest-promoted p [] a e = cc
+latest-promoted p (x ∷ es) a e = by (is_perm p x.0) e
+  where
+    by : (b : Bool) → cond b (Some x.1) None ≡ Some a → option_map_or (λ e. e ∷ cond b es (x ∷ remove_entry (is_perm p) es)) (cond b (Some x) (lookup_entry (is_perm p) es)) (x ∷ es) ≡ x ∷ es
+    by true e = refl
+    by false e = cc
+
+-- what is said of a kept answer, where it is the latest
+pub used-latest : (i : Interacting) (p : Perm) (a : Bool) → latest i.kept p ≡ Some a → i ≡ used i p
+used-latest i p a e = ap (λ es. record i { kept = es }) (sym (latest-promoted p i.kept a e))
+
+pub latest-right : (i : Interacting) (room : ℕ) (p : Perm) (a : Bool) → IsSound i room → latest i.kept p ≡ Some a → a ≡ has_in i p
+latest-right i room p a s e = lookup-right (has_in i) p i.kept a s.right (latest-lookup p i.kept a e)

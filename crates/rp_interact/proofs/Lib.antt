@@ -2,5 +2,8 @@ pub mod Agreeing
 pub mod Answering
 pub mod Keeping
 pub mod Leasts
+pub mod Mentions
 pub mod Naming
 pub mod Orders
+pub mod Rules
+pub mod Tables

@@ -8,8 +8,8 @@ use Rattle.rp_base.specs.Same.{same_text}
 use Rattle.rp_decl.specs.View.{Placed, declarations_view, group_ids, principal_view, role_ids}
 use Rattle.rp_decl.specs.Records.{Principal}
 use Rattle.rp_decl.specs.declared.records.PrincipalDecl.{PrincipalDecl}
-use Rattle.rp_interact.specs.Answers.{granted_of}
-use Rattle.rp_interact.specs.Granted.{Granted}
+use Rattle.rp_interact.specs.Granted.{granted_of, reasons_of}
+use Rattle.rp_interact.specs.declared.reason.Reason.{Reason}
 use Rattle.rp_interact.specs.Why.{first_unknown, principal_named}
 use Rattle.rp_interact.proofs.Leasts.{find-first}
 
@@ -20,20 +20,24 @@ principal_of d id = find (λ p. same_text id p.id) d.principals
 abbrev pub view_of : Placed → PrincipalDecl → Principal
 view_of d = principal_view d.permissions (role_ids d) (group_ids d)
 
--- each id names a principal, with these grants
-abbrev pub AreNamed : Placed → List (List ℕ) → List Granted → Type 0
-AreNamed d ids granted = map Some granted ≡ map (λ id. option_map (granted_of d.roles d.groups) (principal_of d id)) ids
+-- why a principal has each permission or not
+abbrev pub table_of : Placed → PrincipalDecl → List Reason
+table_of d p = reasons_of (length d.permissions) (granted_of d.roles d.groups p)
 
-pub named-more : (d : Placed) (who : List (List ℕ)) (i : ℕ) (id : List ℕ) (p : PrincipalDecl) (granted : List Granted) → i < length who → id ≡ get_or who i id → principal_of d id ≡ Some p → AreNamed d (take i who) granted
-    → AreNamed d (take (i + 1) who) (granted ++ granted_of d.roles d.groups p ∷ [])
-named-more d who i id p granted inside is found named =
-    map_push Some granted (granted_of d.roles d.groups p)
-    ∙ (λ k. named k ++ ap (option_map (granted_of d.roles d.groups)) (sym found) k ∷ [])
-    ∙ ap (λ x. map (λ id. option_map (granted_of d.roles d.groups) (principal_of d id)) (take i who) ++ option_map (granted_of d.roles d.groups) (principal_of d x) ∷ []) is
-    ∙ sym (map_more (λ id. option_map (granted_of d.roles d.groups) (principal_of d id)) who i id inside)
+-- each id names a principal, with these reasons
+abbrev pub AreNamed : Placed → List (List ℕ) → List (List Reason) → Type 0
+AreNamed d ids reasons = map Some reasons ≡ map (λ id. option_map (table_of d) (principal_of d id)) ids
 
-pub named-length : (d : Placed) (ids : List (List ℕ)) (granted : List Granted) → AreNamed d ids granted → length ids ≡ length granted
-named-length d ids granted named = sym (length-map ids (λ id. option_map (granted_of d.roles d.groups) (principal_of d id))) ∙ ap length (sym named) ∙ length-map granted Some
+pub named-more : (d : Placed) (who : List (List ℕ)) (i : ℕ) (id : List ℕ) (p : PrincipalDecl) (reasons : List (List Reason)) → i < length who → id ≡ get_or who i id → principal_of d id ≡ Some p → AreNamed d (take i who) reasons
+    → AreNamed d (take (i + 1) who) (reasons ++ table_of d p ∷ [])
+named-more d who i id p reasons inside is found named =
+    map_push Some reasons (table_of d p)
+    ∙ (λ k. named k ++ ap (option_map (table_of d)) (sym found) k ∷ [])
+    ∙ ap (λ x. map (λ id. option_map (table_of d) (principal_of d id)) (take i who) ++ option_map (table_of d) (principal_of d x) ∷ []) is
+    ∙ sym (map_more (λ id. option_map (table_of d) (principal_of d id)) who i id inside)
+
+pub named-length : (d : Placed) (ids : List (List ℕ)) (reasons : List (List Reason)) → AreNamed d ids reasons → length ids ≡ length reasons
+named-length d ids reasons named = sym (length-map ids (λ id. option_map (table_of d) (principal_of d id))) ∙ ap length (sym named) ∙ length-map reasons Some
 
 pub find-within : {X : Type 0} (P : X → Type 0) (test : X → Bool) (xs : List X) (x : X) → All P xs → find test xs ≡ Some x → P x
 find-within P test [] x all e = cc
@@ -62,19 +66,19 @@ is-named : (names : List (List ℕ)) (d : Placed) (id : List ℕ) → is_some (p
 is-named names d id = ap is_some (principal-named names d id) ∙ some-mapped (view_of d) (principal_of d id)
 
 -- where each names a principal, none is unknown
-pub none-unknown : (names : List (List ℕ)) (d : Placed) (ids : List (List ℕ)) (granted : List Granted) → AreNamed d ids granted → first_unknown (declarations_view names d) ids ≡ None
-none-unknown names d [] granted named = refl
+pub none-unknown : (names : List (List ℕ)) (d : Placed) (ids : List (List ℕ)) (reasons : List (List Reason)) → AreNamed d ids reasons → first_unknown (declarations_view names d) ids ≡ None
+none-unknown names d [] reasons named = refl
 none-unknown names d (id ∷ ids) [] named = cc
-none-unknown names d (id ∷ ids) (g ∷ granted) named =
-    let first : Some g ≡ option_map (granted_of d.roles d.groups) (principal_of d id) = cc in
-    let rest : map Some granted ≡ map (λ id. option_map (granted_of d.roles d.groups) (principal_of d id)) ids = cc in
-    let known : is_some (principal_named (declarations_view names d) id) ≡ true = is-named names d id ∙ sym (some-mapped (granted_of d.roles d.groups) (principal_of d id)) ∙ sym (ap is_some first) in
-    ap (λ b. cond (not b) (Some id) (first_unknown (declarations_view names d) ids)) known ∙ none-unknown names d ids granted rest
+none-unknown names d (id ∷ ids) (g ∷ reasons) named =
+    let first : Some g ≡ option_map (table_of d) (principal_of d id) = cc in
+    let rest : map Some reasons ≡ map (λ id. option_map (table_of d) (principal_of d id)) ids = cc in
+    let known : is_some (principal_named (declarations_view names d) id) ≡ true = is-named names d id ∙ sym (some-mapped (table_of d) (principal_of d id)) ∙ sym (ap is_some first) in
+    ap (λ b. cond (not b) (Some id) (first_unknown (declarations_view names d) ids)) known ∙ none-unknown names d ids reasons rest
 
 -- the first id that names none
-pub one-unknown : (names : List (List ℕ)) (d : Placed) (who : List (List ℕ)) (i : ℕ) (id : List ℕ) (granted : List Granted) → i < length who → id ≡ get_or who i id → AreNamed d (take i who) granted → principal_of d id ≡ None
+pub one-unknown : (names : List (List ℕ)) (d : Placed) (who : List (List ℕ)) (i : ℕ) (id : List ℕ) (reasons : List (List Reason)) → i < length who → id ≡ get_or who i id → AreNamed d (take i who) reasons → principal_of d id ≡ None
     → first_unknown (declarations_view names d) who ≡ Some id
-one-unknown names d who i id granted inside is named none =
+one-unknown names d who i id reasons inside is named none =
     let here : not (is_some (principal_named (declarations_view names d) id)) ≡ true = ap not (is-named names d id ∙ ap is_some none) in
-    find-first (λ id. not (is_some (principal_named (declarations_view names d) id))) who i id inside (none-unknown names d (take i who) granted named) (ap (λ x. not (is_some (principal_named (declarations_view names d) x))) (sym is) ∙ here)
+    find-first (λ id. not (is_some (principal_named (declarations_view names d) id))) who i id inside (none-unknown names d (take i who) reasons named) (ap (λ x. not (is_some (principal_named (declarations_view names d) x))) (sym is) ∙ here)
     ∙ ap Some (sym is)

@@ -1,43 +1,13 @@
 -- When an interaction answers as the declarations say.
-use Rattle.std.specs.Prelude.{◌≡◌, ℕ, ◌<◌, List, [], length, map, Option, Some, option_and_then, option_map, slice_get}
-use Rattle.std.specs.Option.{option_map_or}
+use Rattle.std.specs.Prelude.{◌≡◌, ℕ, ◌<◌, List, length, Option, Some, option_and_then, option_map, slice_get}
 use Rattle.rp_decl.specs.View.{Placed, declarations_view, group_ids, perm_text, role_ids, text_at}
 use Rattle.rp_decl.specs.declared.records.Perm.{Perm}
-use Rattle.rp_decl.specs.declared.records.RoleDecl.{RoleDecl}
-use Rattle.rp_decl.specs.declared.records.GroupDecl.{GroupDecl}
-use Rattle.rp_decl.specs.declared.records.PrincipalDecl.{PrincipalDecl}
-use Rattle.rp_interact.specs.Granted.{RoleGranted, GroupGranted, Granted, Interacting, has_in, why_in}
+use Rattle.rp_interact.specs.Interacting.{Interacting, has_in, why_in}
 use Rattle.rp_interact.specs.Why as text
 use Rattle.rp_interact.specs.declared.who_fault.WhoFault.{WhoFault}
 use Rattle.rp_interact.specs.declared.who_fault.WhoFault.TheVariants.{Unknown, Memory}
 use Rattle.rp_interact.specs.declared.reason.Reason.{Reason}
 use Rattle.rp_interact.specs.declared.reason.Reason.TheVariants.{Public, Own, Role, Group, GroupRole, Nothing}
-
-abbrev pub permissions_of : List RoleDecl → ℕ → List Perm
-permissions_of roles place = option_map_or (λ r. r.permissions.items) (slice_get roles place) []
-
-abbrev pub role_granted : List RoleDecl → ℕ → RoleGranted
-role_granted roles place = record { place = place; permissions = permissions_of roles place }
-
-abbrev pub group_roles : List GroupDecl → ℕ → List ℕ
-group_roles groups place = option_map_or (λ g. g.roles.items) (slice_get groups place) []
-
-abbrev pub group_granted : List RoleDecl → List GroupDecl → ℕ → GroupGranted
-group_granted roles groups place = record {
-  place = place;
-  roles = map (role_granted roles) (group_roles groups place);
-  allow = option_map_or (λ g. g.allow.items) (slice_get groups place) [];
-  deny = option_map_or (λ g. g.deny.items) (slice_get groups place) [];
-}
-
--- what a principal of the declarations is granted and denied
-abbrev pub granted_of : List RoleDecl → List GroupDecl → PrincipalDecl → Granted
-granted_of roles groups p = record {
-  roles = map (role_granted roles) p.roles.items;
-  groups = map (group_granted roles groups) p.groups.items;
-  allow = p.allow.items;
-  deny = p.deny.items;
-}
 
 abbrev pub reason_view : Placed → Reason → text.Reason
 reason_view d Public = text.public
@@ -49,7 +19,7 @@ reason_view d Nothing = text.nothing
 
 -- why the principal at a place has the permission or not
 abbrev pub why_at : Interacting → ℕ → Perm → Option Reason
-why_at i k permission = option_map (λ g. why_in i.everybody g permission) (slice_get i.granted k)
+why_at i k permission = option_map (λ reasons. why_in i.everybody reasons permission) (slice_get i.reasons k)
 
 -- each answer is the one that the declarations say
 pub record AnswersAs (names : List (List ℕ)) (d : Placed) (i : Interacting) : Type 0 where

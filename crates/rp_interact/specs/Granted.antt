@@ -1,11 +1,14 @@
--- Grants as the program keeps them, with permissions, roles and groups as places.
-use Rattle.std.specs.Prelude.{ℕ, Bool, true, false, ◌||◌, nat_eq, List, [], ◌∷◌, find, Option, Some, None, option_map, option_and_then, is_some, unwrap_or, if◌then◌else◌}
-use Rattle.std.specs.List.{list_all, list_any}
+-- The rules for what a principal is granted and denied, with permissions, roles and groups as places.
+use Rattle.std.specs.Prelude.{ℕ, Bool, true, false, nat_eq, List, [], ◌∷◌, find, map, Option, Some, None, option_map, option_and_then, is_some, unwrap_or, if◌then◌else◌}
+use Rattle.std.specs.List.{list_any, range_with_len, slice_get}
 use Rattle.std.specs.Option.{option_map_or}
 use Rattle.rp_decl.specs.declared.records.Perm.{Perm}
+use Rattle.rp_decl.specs.declared.records.RoleDecl.{RoleDecl}
+use Rattle.rp_decl.specs.declared.records.GroupDecl.{GroupDecl}
+use Rattle.rp_decl.specs.declared.records.PrincipalDecl.{PrincipalDecl}
 use Rattle.rp_interact.specs.Least.{least_of}
 use Rattle.rp_interact.specs.declared.reason.Reason.{Reason}
-use Rattle.rp_interact.specs.declared.reason.Reason.TheVariants.{Public, Own, Role, Group, GroupRole, Nothing}
+use Rattle.rp_interact.specs.declared.reason.Reason.TheVariants.{Own, Role, Group, GroupRole, Nothing}
 
 -- a role's place, and its permissions
 pub record RoleGranted : Type 0 where
@@ -26,13 +29,31 @@ pub record Granted : Type 0 where
   pub allow : List Perm
   pub deny : List Perm
 
--- An interaction: the ids of its principals, the place of the permission that everybody has, what each principal is granted, and
--- the answers that are kept, the latest used first.
-pub record Interacting : Type 0 where
-  pub ids : List (List ℕ)
-  pub everybody : Option ℕ
-  pub granted : List Granted
-  pub kept : List (Perm × Bool)
+abbrev pub permissions_of : List RoleDecl → ℕ → List Perm
+permissions_of roles place = option_map_or (λ r. r.permissions.items) (slice_get roles place) []
+
+abbrev pub role_granted : List RoleDecl → ℕ → RoleGranted
+role_granted roles place = record { place = place; permissions = permissions_of roles place }
+
+abbrev pub group_roles : List GroupDecl → ℕ → List ℕ
+group_roles groups place = option_map_or (λ g. g.roles.items) (slice_get groups place) []
+
+abbrev pub group_granted : List RoleDecl → List GroupDecl → ℕ → GroupGranted
+group_granted roles groups place = record {
+  place = place;
+  roles = map (role_granted roles) (group_roles groups place);
+  allow = option_map_or (λ g. g.allow.items) (slice_get groups place) [];
+  deny = option_map_or (λ g. g.deny.items) (slice_get groups place) [];
+}
+
+-- what a principal of the declarations is granted and denied
+abbrev pub granted_of : List RoleDecl → List GroupDecl → PrincipalDecl → Granted
+granted_of roles groups p = record {
+  roles = map (role_granted roles) p.roles.items;
+  groups = map (group_granted roles groups) p.groups.items;
+  allow = p.allow.items;
+  deny = p.deny.items;
+}
 
 abbrev pub is_in : List Perm → Perm → Bool
 is_in permissions permission = list_any (λ p. nat_eq p.0 permission.0) permissions
@@ -77,19 +98,6 @@ rules g permission =
 abbrev pub reason : Granted → Perm → Reason
 reason g permission = first_rule (rules g permission)
 
-abbrev pub is_everybody : Option ℕ → Perm → Bool
-is_everybody place permission = option_map_or (nat_eq permission.0) place false
-
-abbrev pub why_in : Option ℕ → Granted → Perm → Reason
-why_in everybody g permission = if is_everybody everybody permission then Public else reason g permission
-
-abbrev pub is_yes : Reason → Bool
-is_yes Public = true
-is_yes (Own allowed) = allowed
-is_yes (Role r) = true
-is_yes (Group g allowed) = allowed
-is_yes (GroupRole g r) = true
-is_yes Nothing = false
-
-abbrev pub has_in : Interacting → Perm → Bool
-has_in i permission = is_everybody i.everybody permission || list_all (λ g. is_yes (reason g permission)) i.granted
+-- why a principal has each of so many permissions or not, where not everybody has it
+abbrev pub reasons_of : ℕ → Granted → List Reason
+reasons_of permissions g = map (λ place. reason g (record { 0 = place })) (range_with_len 0 permissions)

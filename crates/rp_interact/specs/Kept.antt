@@ -1,12 +1,17 @@
 -- The answers that an interaction keeps, the latest used first.
-use Rattle.std.specs.Prelude.{◌≡◌, ℕ, ◌≤◌, ◌⊎◌, Bool, nat_eq, ◌∷◌, length, take}
+use Rattle.std.specs.Prelude.{◌≡◌, ℕ, ◌≤◌, ◌⊎◌, Bool, nat_eq, if◌then◌else◌, List, [], ◌∷◌, length, take, Option, Some, None}
 use Rattle.std.specs.List.{All}
 use Rattle.rp_decl.specs.declared.records.Perm.{Perm}
 use Rattle.lru.specs.LruCache.{promoted}
-use Rattle.rp_interact.specs.Granted.{Interacting, has_in}
+use Rattle.rp_interact.specs.Interacting.{Interacting, has_in}
 
 abbrev pub is_perm : Perm → Perm → Bool
 is_perm a b = nat_eq a.0 b.0
+
+-- the answer in front, where it is the permission's
+abbrev pub latest : List (Perm × Bool) → Perm → Option Bool
+latest [] permission = None
+latest (e ∷ es) permission = if is_perm permission e.0 then Some e.1 else None
 
 -- with the answer for the permission in front
 abbrev pub used : Interacting → Perm → Interacting
@@ -24,9 +29,9 @@ most_kept = 64
 abbrev pub IsKeptOrNot : Interacting → Perm → Interacting → Type 0
 IsKeptOrNot i permission new = (new ≡ keeping most_kept i permission) ⊎ (new ≡ i)
 
--- each principal has its grants, and each kept answer is what `has` answers
+-- each principal has its reasons, and each kept answer is what `has` answers
 pub record IsSound (i : Interacting) (room : ℕ) : Type 0 where
-  pub as_many : length i.ids ≡ length i.granted
+  pub as_many : length i.ids ≡ length i.reasons
   pub right : All (λ e. e.1 ≡ has_in i e.0) i.kept
   pub few : length i.kept ≤ most_kept
   pub room_is : room ≡ most_kept

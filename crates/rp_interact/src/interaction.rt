@@ -8,13 +8,13 @@ ghost use Rattle.rp_decl.specs.Document.{public as zope_public};
 ghost use Rattle.rp_decl.specs.InOrder.{AreInOrder};
 ghost use Rattle.rp_decl.specs.View.{declarations_view};
 ghost use Rattle.rp_interact.specs.Answers.{AnswersAs, IsRefusedFor, why_at};
-ghost use Rattle.rp_interact.specs.Granted.{has_in, is_everybody, is_yes, reason};
-ghost use Rattle.rp_interact.specs.Kept.{IsKeptOrNot, is_perm, most_kept, used};
+ghost use Rattle.rp_interact.specs.Interacting.{has_in, is_everybody, is_yes, reason_at};
+ghost use Rattle.rp_interact.specs.Kept.{IsKeptOrNot, is_perm, latest, most_kept, used};
 ghost use Rattle.rp_interact.specs.Why.{first_unknown};
 ghost use Rattle.lru.specs.LruCache.{lru_cache, promoted, put_entries};
 
-use crate::grants::Grants;
 use crate::reason::Reason;
+use crate::reasons::Reasons;
 use crate::who_fault::WhoFault;
 use lru::LruCache;
 use rp_base::Text;
@@ -26,19 +26,19 @@ use std::num::NonZeroUsize;
 /// How many answers are kept.
 const MOST_KEPT: usize = 64;
 
-/// The principals that take part in a session, with what they are granted and denied, and the answers
+/// The principals that take part in a session, with why they have each permission or not, and the answers
 /// that were given last (zope.security: interactions and participations).
 #[derive(Drop)]
 pub struct Interaction {
     ids: Vec<Text>,
     /// The place of `zope.Public`.
     everybody: Option<usize>,
-    grants: Vec<Grants>,
+    reasons: Vec<Reasons>,
     kept: LruCache<Perm, bool>,
 }
 
 impl Model for Interaction {
-    ghost use Rattle.rp_interact.specs.Granted.{Interacting};
+    ghost use Rattle.rp_interact.specs.Interacting.{Interacting};
     ghost use Rattle.rp_interact.specs.Kept.{IsSound};
 
     ghost Value = { Interacting };
@@ -46,14 +46,14 @@ impl Model for Interaction {
     ghost view = { λ i. record {
       ids = i.ids.items;
       everybody = i.everybody;
-      granted = i.grants.items;
+      reasons = i.reasons.items;
       kept = i.kept.entries;
     } };
 
     ghost invariant = { λ i. IsSound (record {
       ids = i.ids.items;
       everybody = i.everybody;
-      granted = i.grants.items;
+      reasons = i.reasons.items;
       kept = i.kept.entries;
     }) i.kept.cap };
 }
@@ -71,24 +71,25 @@ impl Interaction {
         ensures known { IfOk result (λ _. (names : List (List ℕ)) → first_unknown (declarations_view names decl.now) who.now ≡ None) }
         ensures refused { IfErr result (IsRefusedFor decl.now who.now) }
     {
+        let permissions = decl.permissions();
         let roles = decl.roles();
         let groups = decl.groups();
         let principals = decl.principals();
         let mut ids = Vec::with_capacity(alloc, who.len())?;
-        let mut grants = Vec::with_capacity(alloc, who.len())?;
+        let mut reasons = Vec::with_capacity(alloc, who.len())?;
         for id in who {
             let Some(principal) = principal_named(principals, id) else {
                 return Err(WhoFault::Unknown(id.copy()?));
             };
             ids.push(id.copy()?)?;
-            grants.push(Grants::new(alloc, roles, groups, principal)?)?;
+            reasons.push(Reasons::new(alloc, permissions.len(), roles, groups, principal)?)?;
         }
         let kept = no_answers(alloc)?;
-        let everybody = public_place(decl.permissions());
+        let everybody = public_place(permissions);
         Ok(Interaction {
             ids,
             everybody,
-            grants,
+            reasons,
             kept,
         })
     }
@@ -104,7 +105,7 @@ impl Interaction {
     pub fn has(&self, permission: Perm) -> bool
         ensures { result ≡ has_in self.now permission }
     {
-        self.is_everybody(permission) || all_have(&self.grants, permission)
+        self.is_everybody(permission) || all_have(&self.reasons, permission)
     }
 
     /// Why the principal at a place has the permission or not.
@@ -112,11 +113,11 @@ impl Interaction {
         requires { i < length self.now.ids }
         ensures { why_at self.now i permission ≡ Some result }
     {
-        let grants = &self.grants[i];
+        let reasons = &self.reasons[i];
         if self.is_everybody(permission) {
             Reason::Public
         } else {
-            grants.reason(permission)
+            reasons.reason(permission)
         }
     }
 
@@ -127,6 +128,9 @@ impl Interaction {
         ensures held { IsSome (lookup (is_perm permission) self.old.kept) → self.new ≡ used self.old permission }
         ensures other { IsNone (lookup (is_perm permission) self.old.kept) → IsKeptOrNot self.old permission self.new }
     {
+        if let Some(answer) = latest(&self.kept, permission) {
+            return answer;
+        }
         if let Some(answer) = recall(&mut self.kept, permission) {
             return answer;
         }
@@ -170,6 +174,18 @@ fn no_answers(alloc: Global) -> Result<LruCache<Perm, bool>, AllocError>
     }
 }
 
+/// The answer that is kept for a permission, where it is the latest one used.
+fn latest(kept: &LruCache<Perm, bool>, permission: Perm) -> Option<bool>
+    ensures { result ≡ latest kept.now.entries permission }
+{
+    let (of, answer) = kept.peek_mru()?;
+    if permission == *of {
+        Some(*answer)
+    } else {
+        None
+    }
+}
+
 /// The answer that is kept for a permission, which becomes the latest one used.
 fn recall(kept: &mut LruCache<Perm, bool>, permission: Perm) -> Option<bool>
     ensures found { result ≡ lookup (is_perm permission) kept.old.entries }
@@ -199,10 +215,10 @@ fn is_public(id: &Text) -> bool
 }
 
 /// Whether each of them has the permission, where not everybody has it.
-fn all_have(grants: &[Grants], permission: Perm) -> bool
-    ensures { result ≡ list_all (λ g. is_yes (reason g permission)) grants.now }
+fn all_have(reasons: &[Reasons], permission: Perm) -> bool
+    ensures { result ≡ list_all (λ reasons. is_yes (reason_at reasons permission)) reasons.now }
 {
-    grants
+    reasons
         .iter()
-        .all(|grants| grants.reason(permission).is_yes())
+        .all(|reasons| reasons.reason(permission).is_yes())
 }

@@ -1,9 +1,9 @@
 //! Interactions: which permissions the principals of a session have, and why.
 #![tactic(auto)]
 
-mod grants;
 mod interaction;
 mod reason;
+mod reasons;
 mod who_fault;
 
 pub use interaction::Interaction;

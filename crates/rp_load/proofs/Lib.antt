@@ -1,5 +1,4 @@
 mod Apart
 mod Bound
 mod Loaded
-pub mod Later
 mod Sound

@@ -15,9 +15,10 @@ use Rattle.rp_base.specs.declared.value.Value.TheVariants as value
 use Rattle.rp_checker.specs.Answers.{operation_view, tag_view}
 use Rattle.rp_checker.specs.RowOf.{Tag, reading}
 use Rattle.rp_decl.specs.View.{declarations_view, name_text}
-use Rattle.rp_interact.specs.Granted.{Interacting}
+use Rattle.rp_interact.specs.Interacting.{Interacting}
+use Rattle.rp_ops.specs.Outcome.{no_cell as stopped, no_step, raised as refused}
 use Rattle.rp_proxy.specs.Decide as proxy
-use Rattle.rp_proxy.specs.Decide.{Decision, Monitor, class_at, go, no_cell as stopped, raised as refused, refusal}
+use Rattle.rp_proxy.specs.Decide.{Decision, Monitor, class_at, go, refusal, refuses}
 use Rattle.rp_proxy.specs.Faithful.{IsFaithful}
 use Rattle.rp_proxy.specs.Held.{IsValueHeld}
 use Rattle.rp_proxy.specs.View.{GivesDecision, OnlyDecides, monitor_of}
@@ -33,13 +34,14 @@ use Rattle.rp_machine.specs.World.{Ends, IsConfined, SameSetting, heap_view, sce
 
 -- the cells and the trail of a monitor in a state
 abbrev with_monitor : State → Monitor → State
-with_monitor s m = record s { used = m.used; log = m.log }
+with_monitor s m = record s { used = m.store.used; log = m.log }
 
 -- what becomes of a value by a decision
 abbrev on_decision : Value → Decision → State → Outcome
-on_decision v go s = gives v s
-on_decision v (refused r) s = record { answer = Err (raised r); state = s }
-on_decision v stopped s = record { answer = Err no_cell; state = s }
+on_decision v (Ok done) s = gives v s
+on_decision v (Err (refused r)) s = record { answer = Err (raised r); state = s }
+on_decision v (Err no_step) s = record { answer = Err no_cell; state = s }
+on_decision v (Err stopped) s = record { answer = Err no_cell; state = s }
 
 abbrev meant : Value → Decision × Monitor → State → Outcome
 meant v decided s = on_decision v decided.0 (with_monitor s decided.1)
@@ -54,7 +56,7 @@ module _ (w : World) (vs : List (Name × Value)) (x : Name) where
   refused-view : (v : Value) (what : Verdict) (t : State) → after_verdict v word what t ≡ on_decision v (proxy.outcome word what) t
   refused-view v what t = by (refusal word what)
     where
-      by : (found : Option Raised) → option_map_or (λ r. record { answer = Err (raised r); state = t }) found (gives v t) ≡ on_decision v (option_map_or refused found go) t
+      by : (found : Option Raised) → option_map_or (λ r. record { answer = Err (raised r); state = t }) found (gives v t) ≡ on_decision v (option_map_or refuses found go) t
       by None = refl
       by (Some r) = refl
 
@@ -64,7 +66,7 @@ module _ (w : World) (vs : List (Name × Value)) (x : Name) where
   logged-view v entry named = by (nat_lt s.limit (s.used + 1))
     where
       by : (b : Bool) → (if b then record { answer = Err no_cell; state = s } else after_verdict v word entry.verdict (add_entry entry (record s { used = s.used + 1 })))
-          ≡ meant v (if b then (stopped, monitor_of w) else (proxy.outcome entry.name entry.verdict, proxy.logged (monitor_of w) entry)) s
+          ≡ meant v (if b then (Err stopped, monitor_of w) else (proxy.outcome entry.name entry.verdict, proxy.logged (monitor_of w) entry)) s
       by true = refl
       by false =
           refused-view v entry.verdict (add_entry entry (record s { used = s.used + 1 }))
@@ -167,7 +169,7 @@ module _ (old new : World) (vs : List (Name × Value)) (only : OnlyDecides old n
     Ends-crossed t gives = let e = by-decision go gives in (ap (λ (o : Outcome). o.answer) e, ap (λ (o : Outcome). o.state) e)
 
     pub Ends-refused : (T : Type 0) (end : OpEnd) → GivesDecision {T = T} (Err end) (monitor_of old) (monitor_of new) decided → Ends (Err end) outcome (state_of new vs)
-    Ends-refused T (ended.Raised r) gives = let e = by-decision (refused r) gives in (ap (λ (o : Outcome). o.answer) e, ap (λ (o : Outcome). o.state) e)
+    Ends-refused T (ended.Raised r) gives = let e = by-decision (refuses r) gives in (ap (λ (o : Outcome). o.answer) e, ap (λ (o : Outcome). o.state) e)
     Ends-refused T ended.StopSteps gives = gives
-    Ends-refused T ended.StopCells gives = let e = by-decision stopped gives in (ap (λ (o : Outcome). o.answer) e, ap (λ (o : Outcome). o.state) e)
+    Ends-refused T ended.StopCells gives = let e = by-decision (Err stopped) gives in (ap (λ (o : Outcome). o.answer) e, ap (λ (o : Outcome). o.state) e)
     Ends-refused T ended.Memory gives = tt

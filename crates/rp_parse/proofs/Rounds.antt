@@ -7,11 +7,11 @@ use Rattle.rp_tree.specs.Expressions.{Expr}
 use Rattle.rp_tree.specs.Statements as s
 use Rattle.rp_tree.specs.Statements.{Stmt, Stmts, Branches, Except, Excepts}
 use Rattle.rp_tree.specs.StatementViews as w
-use Rattle.rp_expr.specs.Kinds.{Tokens, first, skip}
-use Rattle.rp_expr.proofs.Loops.{front, front_more}
-use Rattle.rp_parse.specs.Statements.{Context, joined, one}
-use Rattle.rp_parse.specs.Reading as p
-use Rattle.rp_parse.specs.Reading.{Found, Blocks, ◌>>>◌, from}
+use Rattle.rp_grammar.specs.Kinds.{Tokens, first, skip}
+use Rattle.rp_grammar.proofs.Loops.{front, front_more}
+use Rattle.rp_grammar.specs.Statements.{Context, joined, one}
+use Rattle.rp_grammar.specs.StatementReading as p
+use Rattle.rp_grammar.specs.StatementReading.{Found, Blocks, ◌>>>◌, from}
 use Rattle.rp_parse.specs.Gives.{Fails, ahead, deep, told, placed, with_branch}
 use Rattle.rp_parse.specs.declared.fault.Stop.{Stop}
 use Rattle.rp_parse.proofs.Turns.{joined_none, joined_joined}

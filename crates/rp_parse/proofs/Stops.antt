@@ -1,8 +1,8 @@
 -- A fault within what is read is a fault of the whole.
 use Rattle.std.proofs.Common.{◌≡◌, Option, Some, None, Result, Ok, Err, option_map, refl, ap, ◌∙◌}
-use Rattle.rp_expr.proofs.Basics.{some_is}
-use Rattle.rp_expr.specs.Kinds.{Tokens}
-use Rattle.rp_parse.specs.Reading.{Found, ◌>>>◌, from, hidden}
+use Rattle.rp_grammar.proofs.Basics.{some_is}
+use Rattle.rp_grammar.specs.Kinds.{Tokens}
+use Rattle.rp_grammar.specs.StatementReading.{Found, ◌>>>◌, from, hidden}
 use Rattle.rp_parse.specs.Gives.{Fails, ahead, told, placed, unplaced}
 use Rattle.rp_parse.specs.declared.fault.Stop.{Stop}
 use Rattle.rp_parse.specs.declared.fault.Stop.TheVariants as stop

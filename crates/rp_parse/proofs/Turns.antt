@@ -5,29 +5,29 @@ use Rattle.rp_base.specs.declared.value.Line.{Line}
 use Rattle.rp_token.specs.declared.token.Token.{Token}
 use Rattle.rp_token.specs.declared.token.TokenKind.{TokenKind}
 use Rattle.rp_token.specs.declared.token.TokenKind.TheVariants as kind
-use Rattle.rp_tree.specs.declared.parts.Named.{Named}
 use Rattle.rp_tree.specs.declared.stmt.Except.{Except}
 use Rattle.rp_tree.specs.declared.stmt.Stmt.{Stmt}
 use Rattle.rp_tree.specs.declared.stmt.StmtForm.TheVariants as form
 use Rattle.rp_tree.proofs.StatementEquations.{stmt_try}
-use Rattle.rp_tree.specs.Expressions.{Expr, Place}
+use Rattle.rp_tree.specs.Expressions.{Named, Expr, Place}
 use Rattle.rp_tree.specs.Statements as s
 use Rattle.rp_tree.specs.StatementViews as w
-use Rattle.rp_expr.specs.Conversion.{as_place}
-use Rattle.rp_expr.specs.Front as f
+use Rattle.rp_grammar.specs.Conversion.{as_place}
+use Rattle.rp_grammar.specs.Front as f
 use Rattle.rp_expr.specs.Gives as exprs
-use Rattle.rp_expr.specs.Kinds.{Tokens, first, skip}
-use Rattle.rp_expr.specs.Reading as read
-use Rattle.rp_expr.specs.Reading.{Readers, Read, ◌>>=◌, before, readers, name_by, at}
+use Rattle.rp_grammar.specs.Kinds.{Tokens, first, skip}
+use Rattle.rp_grammar.specs.ExpressionReading as read
+use Rattle.rp_grammar.specs.ExpressionReading.{Readers, Read, ◌>>=◌, before, readers, name_by, at}
 use Rattle.rp_expr.specs.declared.fault.Fault.{Fault}
 use Rattle.rp_expr.specs.declared.fault.Fault.TheVariants as fault
-use Rattle.rp_expr.proofs.Basics.{bind_some, some_is}
-use Rattle.rp_expr.proofs.Loops.{Shortens, ShortensIn, front, fails}
-use Rattle.rp_expr.proofs.Sound.{readers_sound, primary_sound}
-use Rattle.rp_expr.proofs.Takes.{skip_within, takes, primary_takes}
-use Rattle.rp_parse.specs.Statements.{Context, in_function, is_in_function, joined, one}
-use Rattle.rp_parse.specs.Reading as p
+use Rattle.rp_grammar.proofs.Basics.{bind_some, some_is}
+use Rattle.rp_grammar.proofs.Loops.{Shortens, ShortensIn, front}
+use Rattle.rp_grammar.proofs.ExpressionSound.{readers_sound, primary_sound}
+use Rattle.rp_grammar.proofs.ExpressionTakes.{skip_within, takes, primary_takes}
+use Rattle.rp_grammar.specs.Statements.{Context, in_function, is_in_function, joined, one}
+use Rattle.rp_grammar.specs.StatementReading as p
 use Rattle.rp_parse.specs.Gives.{deep, with_places}
+use Rattle.rp_expr.proofs.Faults.{fails}
 
 -- `return` cannot be named where the program names what is unfolded
 pub return_is : (r : Readers) (c : Context) (line : Line) (ts : Tokens) → p.return r c line ts ≡ (if is_in_function c then (p.maybe_exprs r ts >>= λ e. Some (s.a_stmt line (s.give_back e.0), e.1)) else None)

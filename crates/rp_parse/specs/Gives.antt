@@ -4,19 +4,18 @@ use Rattle.rp_base.specs.declared.value.Line.{Line}
 use Rattle.rp_base.specs.declared.value.Name.{Name}
 use Rattle.rp_token.specs.declared.token.TokenKind.{TokenKind}
 use Rattle.rp_token.specs.declared.token.TokenKind.TheVariants as kind
-use Rattle.rp_tree.specs.declared.parts.Named.{Named}
 use Rattle.rp_tree.specs.Expressions as t
-use Rattle.rp_tree.specs.Expressions.{Expr, Form, Place}
+use Rattle.rp_tree.specs.Expressions.{Named, Expr, Form, Place}
 use Rattle.rp_tree.specs.Statements as s
 use Rattle.rp_tree.specs.Statements.{Stmt, StmtForm, Stmts, Branches}
-use Rattle.rp_expr.specs.Kinds.{Tokens, first, skip}
-use Rattle.rp_expr.specs.Front.{is_comma, starts}
-use Rattle.rp_expr.specs.Reading as read
-use Rattle.rp_expr.specs.Reading.{Read, Readers, before, alike, all_many, all_listed, at, name_by, ◌>>=◌}
+use Rattle.rp_grammar.specs.Kinds.{Tokens, first, skip}
+use Rattle.rp_grammar.specs.Front.{is_comma, starts}
+use Rattle.rp_grammar.specs.ExpressionReading as read
+use Rattle.rp_grammar.specs.ExpressionReading.{Read, Readers, before, alike, all_many, all_listed, at, name_by, ◌>>=◌}
 use Rattle.rp_expr.specs.declared.fault.Fault.{Fault}
 use Rattle.rp_expr.specs.declared.fault.Fault.TheVariants as fault
-use Rattle.rp_parse.specs.Statements as g
-use Rattle.rp_parse.specs.Reading.{Found, ◌>>>◌, place, places, suite, handler, handlers, maybe_suite, is_else, is_finally, block_at}
+use Rattle.rp_grammar.specs.Statements as g
+use Rattle.rp_grammar.specs.StatementReading.{Found, ◌>>>◌, place, places, suite, handler, handlers, maybe_suite, is_else, is_finally, block_at}
 use Rattle.rp_parse.specs.declared.context.Context.{Context}
 use Rattle.rp_parse.specs.declared.context.Setting.{Setting}
 use Rattle.rp_parse.specs.declared.fault.Stop.{Stop}

@@ -3,11 +3,11 @@
 ghost use Rattle.std.specs.Prelude.{◌≡◌, Ok, map, length};
 ghost use Rattle.rp_tree.specs.Statements as s;
 ghost use Rattle.rp_tree.specs.StatementViews as w;
-ghost use Rattle.rp_expr.specs.Kinds.{first};
+ghost use Rattle.rp_grammar.specs.Kinds.{first};
 ghost use Rattle.rp_parse.specs.Gives.{Gives, ahead, block_of, context_of, deep};
-ghost use Rattle.rp_parse.specs.Reading as p;
-ghost use Rattle.rp_parse.specs.Reading.{block_at};
-ghost use Rattle.rp_parse.specs.Statements as g;
+ghost use Rattle.rp_grammar.specs.StatementReading as p;
+ghost use Rattle.rp_grammar.specs.StatementReading.{block_at};
+ghost use Rattle.rp_grammar.specs.Statements as g;
 ghost use Rattle.rp_tree.specs.Statements.{StmtForm as Form};
 
 use crate::compound::{
@@ -41,7 +41,7 @@ fn compound<'a>(
 
 /// A statement, or the statements of a line, which are put behind those found before.
 #[cycle(statements)]
-#[tactic(auto, unfolding(crate::specs::Reading::statement_at))]
+#[tactic(auto, unfolding(rp_grammar::specs::StatementReading::statement_at))]
 fn statement<'a>(
     alloc: Global,
     found: &mut Vec<Stmt>,
@@ -125,7 +125,7 @@ fn statements<'a>(
 
 /// Behind the beginning of an indented block.
 #[cycle(statements)]
-#[tactic(auto, unfolding(crate::specs::Reading::indented))]
+#[tactic(auto, unfolding(rp_grammar::specs::StatementReading::indented))]
 fn indented<'a>(alloc: Global, tokens: &'a [Token], setting: Setting<'_>) -> Found<'a, Vec<Stmt>>
     ensures { Gives (λ x. (w.view_stmts x.0.items, x.1.now)) result (p.indented deep setting.entry.height (context_of setting.entry.context) setting.entry.members (block_at deep setting.entry.height) tokens.now) }
 {
@@ -192,7 +192,7 @@ pub fn block<'a>(alloc: Global, tokens: &'a [Token], setting: Setting<'_>) -> Fo
 }
 
 /// A whole script, whose last token is END.
-#[tactic(auto, unfolding(crate::specs::Reading::program_at))]
+#[tactic(auto, unfolding(rp_grammar::specs::StatementReading::program_at))]
 pub fn program(alloc: Global, tokens: &[Token]) -> Found<'_, Vec<Stmt>>
     ensures { Gives (λ x. (w.view_stmts x.0.items, x.1.now)) result (p.program_at deep 199 tokens.now) }
 {

@@ -4,11 +4,11 @@ ghost use Rattle.std.specs.Prelude.{◌≡◌, false, map, option_map};
 ghost use Rattle.rp_tree.specs.StatementViews as w;
 ghost use Rattle.rp_parse.specs.Gives.{Gives, ahead, block_of, context_of, deep, handling_of, with_branch};
 ghost use Rattle.rp_parse.specs.Gives as gives;
-ghost use Rattle.rp_parse.specs.Reading as p;
-ghost use Rattle.rp_parse.specs.Reading.{block_at};
-ghost use Rattle.rp_expr.specs.Kinds.{first, skip};
+ghost use Rattle.rp_grammar.specs.StatementReading as p;
+ghost use Rattle.rp_grammar.specs.StatementReading.{block_at};
+ghost use Rattle.rp_grammar.specs.Kinds.{first, skip};
 ghost use Rattle.rp_tree.specs.ExpressionViews as v;
-ghost use Rattle.rp_parse.specs.Statements as g;
+ghost use Rattle.rp_grammar.specs.Statements as g;
 ghost use Rattle.rp_tree.specs.Statements as s;
 
 use crate::blocks::block;
@@ -19,7 +19,7 @@ use crate::look::{is_as, is_elif, is_else, is_except, is_finally, is_left_paren}
 use rp_expr::look::{is_colon, is_in, is_right_paren, skip};
 use rp_expr::{name, parameter_names};
 use rp_token::{Token, TokenKind};
-use rp_tree::{Branch, Except, Expr, Stmt, StmtForm, Walk};
+use rp_tree::{Block, Branch, Except, Expr, Stmt, StmtForm, Walk};
 use std::alloc::Global;
 
 /// A block behind a colon.
@@ -35,7 +35,7 @@ fn suite<'a>(alloc: Global, tokens: &'a [Token], setting: Setting<'_>) -> Found<
 
 /// Behind `if`, `elif` or `while`: a test and a block.
 #[cycle(statements)]
-#[tactic(auto, unfolding(crate::specs::Reading::tested), using(rp_tree::proofs::StatementEquations::variants))]
+#[tactic(auto, unfolding(rp_grammar::specs::StatementReading::tested), using(rp_tree::proofs::StatementEquations::variants))]
 fn tested<'a>(alloc: Global, tokens: &'a [Token], setting: Setting<'_>) -> Found<'a, Branch>
     ensures { Gives (λ x. (w.view_branch x.0, x.1.now)) result (p.tested deep setting.entry.height (block_of setting.entry) tokens.now) }
 {
@@ -54,7 +54,7 @@ fn elifs<'a>(
 ) -> Found<'a, Vec<Branch>>
     ensures { Gives (λ x. (w.branches_of (map w.view_branch x.0.items), x.1.now)) result (ahead (with_branch (w.view_branch first)) (p.elifs deep setting.entry.height (block_of setting.entry) tokens.now)) }
 {
-    let mut found = Vec::new(alloc);
+    let mut found = Vec::with_capacity(alloc, 1)?;
     found.push(first)?;
     let mut rest = tokens;
     let mut turns = tokens.len() + 1;
@@ -75,7 +75,7 @@ fn elifs<'a>(
 
 /// The block of `else`, where it comes.
 #[cycle(statements)]
-#[tactic(auto, unfolding(crate::specs::Reading::maybe_suite))]
+#[tactic(auto, unfolding(rp_grammar::specs::StatementReading::maybe_suite))]
 fn otherwise<'a>(
     alloc: Global,
     tokens: &'a [Token],
@@ -94,7 +94,7 @@ fn otherwise<'a>(
 
 /// The block of `finally`, where it comes.
 #[cycle(statements)]
-#[tactic(auto, unfolding(crate::specs::Reading::maybe_suite))]
+#[tactic(auto, unfolding(rp_grammar::specs::StatementReading::maybe_suite))]
 fn finally<'a>(
     alloc: Global,
     tokens: &'a [Token],
@@ -113,7 +113,7 @@ fn finally<'a>(
 
 /// Behind `if`.
 #[cycle(statements)]
-#[tactic(auto, unfolding(crate::specs::Reading::if_statement), using(rp_tree::proofs::StatementEquations::variants))]
+#[tactic(auto, unfolding(rp_grammar::specs::StatementReading::if_statement), using(rp_tree::proofs::StatementEquations::variants))]
 pub fn if_statement<'a>(
     alloc: Global,
     tokens: &'a [Token],
@@ -129,7 +129,7 @@ pub fn if_statement<'a>(
 
 /// Behind `while`.
 #[cycle(statements)]
-#[tactic(auto, unfolding(crate::specs::Reading::while_statement), using(rp_tree::proofs::StatementEquations::variants))]
+#[tactic(auto, unfolding(rp_grammar::specs::StatementReading::while_statement), using(rp_tree::proofs::StatementEquations::variants))]
 pub fn while_statement<'a>(
     alloc: Global,
     tokens: &'a [Token],
@@ -143,7 +143,7 @@ pub fn while_statement<'a>(
 
 /// Behind `for`.
 #[cycle(statements)]
-#[tactic(auto, unfolding(crate::specs::Reading::for_statement), using(rp_tree::proofs::StatementEquations::variants))]
+#[tactic(auto, unfolding(rp_grammar::specs::StatementReading::for_statement), using(rp_tree::proofs::StatementEquations::variants))]
 pub fn for_statement<'a>(
     alloc: Global,
     tokens: &'a [Token],
@@ -197,7 +197,7 @@ fn named_handler<'a>(
 
 /// Behind `except`: a handler, and whether it handles all.
 #[cycle(statements)]
-#[tactic(auto, unfolding(crate::specs::Reading::handler), using(rp_tree::proofs::StatementEquations::variants))]
+#[tactic(auto, unfolding(rp_grammar::specs::StatementReading::handler), using(rp_tree::proofs::StatementEquations::variants))]
 fn handler<'a>(
     alloc: Global,
     tokens: &'a [Token],
@@ -229,7 +229,7 @@ fn handlers<'a>(
 ) -> Found<'a, Vec<Except>>
     ensures { Gives (λ x. (w.excepts_of (map w.view_except x.0.items), x.1.now)) result (ahead (s.except (w.view_except first)) (p.handlers deep setting.entry.height (block_of setting.entry) handles_all tokens.now)) }
 {
-    let mut found = Vec::new(alloc);
+    let mut found = Vec::with_capacity(alloc, 1)?;
     found.push(first)?;
     let mut is_last = handles_all;
     let mut rest = tokens;
@@ -327,7 +327,7 @@ fn behind_try<'a>(
 
 /// Behind `try`.
 #[cycle(statements)]
-#[tactic(auto, unfolding(crate::specs::Reading::try_statement))]
+#[tactic(auto, unfolding(rp_grammar::specs::StatementReading::try_statement))]
 pub fn try_statement<'a>(
     alloc: Global,
     tokens: &'a [Token],
@@ -344,7 +344,7 @@ pub fn try_statement<'a>(
 
 /// Behind `def`.
 #[cycle(statements)]
-#[tactic(auto, unfolding(crate::specs::Reading::def_statement), using(rp_tree::proofs::StatementEquations::variants))]
+#[tactic(auto, unfolding(rp_grammar::specs::StatementReading::def_statement), using(rp_tree::proofs::StatementEquations::variants))]
 pub fn def_statement<'a>(
     alloc: Global,
     tokens: &'a [Token],
@@ -363,11 +363,11 @@ pub fn def_statement<'a>(
     let names = parameter_names(alloc, &parameters)?;
     let inner = setting.block(function_block(&names, setting.context));
     let (body, rest) = suite(alloc, skip(rest), inner)?;
-    Ok((StmtForm::Def(name, parameters, body), rest))
+    Ok((StmtForm::Def(Block(0), name, parameters, body), rest))
 }
 
 /// `()`, where it comes.
-#[tactic(auto, unfolding(crate::specs::Reading::bases))]
+#[tactic(auto, unfolding(rp_grammar::specs::StatementReading::bases))]
 fn bases(tokens: &[Token]) -> Result<&[Token], Stop<'_>>
     ensures { Gives (λ x. (tt, x.now)) result (p.bases tokens.now) }
 {
@@ -383,7 +383,7 @@ fn bases(tokens: &[Token]) -> Result<&[Token], Stop<'_>>
 
 /// Behind `class`.
 #[cycle(statements)]
-#[tactic(auto, unfolding(crate::specs::Reading::class_statement), using(rp_tree::proofs::StatementEquations::variants))]
+#[tactic(auto, unfolding(rp_grammar::specs::StatementReading::class_statement), using(rp_tree::proofs::StatementEquations::variants))]
 pub fn class_statement<'a>(
     alloc: Global,
     tokens: &'a [Token],

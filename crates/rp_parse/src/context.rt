@@ -2,7 +2,7 @@
 
 ghost use Rattle.std.specs.Prelude.{◌≡◌, ◌≢◌, ◌-◌, IfErr, IfOk, None, Some, false, true};
 ghost use Rattle.std.specs.List.{list_all};
-ghost use Rattle.rp_parse.specs.Statements as g;
+ghost use Rattle.rp_grammar.specs.Statements as g;
 ghost use Rattle.rp_parse.specs.Gives.{context_of};
 
 use crate::fault::Stop;

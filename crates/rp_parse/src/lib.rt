@@ -3,10 +3,12 @@
 
 ghost use Rattle.std.specs.Prelude.{◌≡◌, ◌≢◌, IfErr, IfOk, MatchResult};
 ghost use Rattle.rp_token.specs.Laws.{IsWithin};
+ghost use Rattle.rp_tree.specs.Marks.{HasNoGuards};
 ghost use Rattle.rp_tree.specs.Statements.{Stmts};
 ghost use Rattle.rp_tree.specs.StatementViews.{view_tree};
-ghost use Rattle.rp_expr.specs.Kinds.{Tokens, line_at};
-ghost use Rattle.rp_parse.specs.Program.{IsLongestGood, Spells};
+ghost use Rattle.rp_grammar.specs.Kinds.{Tokens, line_at};
+ghost use Rattle.rp_grammar.specs.Leaves.{HasLeavesOf};
+ghost use Rattle.rp_grammar.specs.Program.{IsLongestGood, Spells};
 
 mod blocks;
 mod compound;
@@ -27,7 +29,8 @@ use std::alloc::Global;
 /// The tree of a script (Python Language Reference, File input). No place of the tokens stands within more than 450
 /// open brackets; those of a text open at most 200.
 ///
-/// The tree has height at most 200, and is the only one that the tokens spell.
+/// The tree has height at most 200, and is the only one that the tokens spell. It has no guard marks and no numbers of
+/// code blocks, and each of its names and of its numbers is one of a token.
 ///
 /// # Errors
 /// `Syntax` where the tokens spell no such tree. Its line is that of the token behind the longest front that can be
@@ -37,6 +40,8 @@ pub fn parse(alloc: Global, tokens: &[Token]) -> Result<Tree, ParseFault>
     ensures spelled { IfOk result (λ tree. Spells (view_tree tree) tokens.now) }
     ensures only { (tree : Stmts) → Spells tree tokens.now → MatchResult result (λ t. view_tree t ≡ tree) (λ e. e ≡ ParseFault.Memory) }
     ensures one { (a b : Stmts) → Spells a tokens.now → Spells b tokens.now → a ≡ b }
+    ensures plain { IfOk result (λ tree. HasNoGuards (view_tree tree)) }
+    ensures leaves { IfOk result (λ tree. HasLeavesOf tokens.now (view_tree tree)) }
     ensures syntax { IfErr result (λ e. e ≢ ParseFault.Memory → (front : Tokens) × (rest : Tokens) × (e ≡ ParseFault.Syntax (line_at rest)) × IsLongestGood front rest tokens.now) }
 {
     match program(alloc, tokens) {

@@ -6,11 +6,11 @@ ghost use Rattle.rp_tree.specs.Heights.{capped};
 ghost use Rattle.rp_tree.specs.ExpressionViews as v;
 ghost use Rattle.rp_tree.specs.StatementViews as w;
 ghost use Rattle.rp_expr.specs.Gives as exprs;
-ghost use Rattle.rp_expr.specs.Reading as read;
+ghost use Rattle.rp_grammar.specs.ExpressionReading as read;
 ghost use Rattle.rp_parse.specs.Gives.{Gives, ahead, context_of, deep, is_text_form};
 ghost use Rattle.rp_tree.specs.Statements as s;
-ghost use Rattle.rp_parse.specs.Reading as p;
-ghost use Rattle.rp_parse.specs.Statements as g;
+ghost use Rattle.rp_grammar.specs.StatementReading as p;
+ghost use Rattle.rp_grammar.specs.Statements as g;
 
 use crate::context::Setting;
 use crate::fault::Stop;
@@ -69,7 +69,7 @@ pub fn low_target(alloc: Global, tokens: &[Token], most: u8) -> Found<'_, Target
 }
 
 /// Parameters whose names differ.
-#[tactic(auto, unfolding(crate::specs::Reading::parameters))]
+#[tactic(auto, unfolding(rp_grammar::specs::StatementReading::parameters))]
 fn parameters(alloc: Global, tokens: &[Token]) -> Read<'_, Params>
     ensures { exprs.Gives (λ x. (v.view_params x.0, x.1.now)) result (p.parameters deep tokens.now) }
 {
@@ -114,7 +114,7 @@ fn is_member_form(form: &StmtForm) -> bool
     ensures { (line : _) → result ≡ g.is_member (s.a_stmt line (w.view_stmt_form form.now)) }
 {
     match form {
-        StmtForm::Def(_, _, _) | StmtForm::Pass => true,
+        StmtForm::Def(..) | StmtForm::Pass => true,
         StmtForm::Expr(expr) => is_text(&expr.form),
         _ => false,
     }
@@ -128,7 +128,7 @@ fn is_member(stmt: &Stmt) -> bool
 }
 
 /// A simple statement; in the block of a class, a member.
-#[tactic(auto, unfolding(crate::specs::Reading::simple_at))]
+#[tactic(auto, unfolding(rp_grammar::specs::StatementReading::simple_at))]
 fn simple_at<'a>(alloc: Global, tokens: &'a [Token], setting: Setting<'_>) -> Found<'a, Stmt>
     ensures { Gives (λ x. (w.view_stmt x.0, x.1.now)) result (p.simple_at deep setting.entry.height (context_of setting.entry.context) setting.entry.members tokens.now) }
 {
@@ -140,7 +140,7 @@ fn simple_at<'a>(alloc: Global, tokens: &'a [Token], setting: Setting<'_>) -> Fo
 }
 
 /// A simple statement, and whether another follows on its line.
-#[tactic(auto, unfolding(crate::specs::Reading::item_at))]
+#[tactic(auto, unfolding(rp_grammar::specs::StatementReading::item_at))]
 fn item<'a>(alloc: Global, tokens: &'a [Token], setting: Setting<'_>) -> Found<'a, (Stmt, bool)>
     ensures { Gives (λ x. ((w.view_stmt x.0.0, x.0.1), x.1.now)) result (p.item_at deep setting.entry.height (context_of setting.entry.context) setting.entry.members tokens.now) }
 {

@@ -1,9 +1,9 @@
 //! Tests of the token at the front that readers of statements need.
 
 ghost use Rattle.std.specs.Prelude.{◌≡◌};
-ghost use Rattle.rp_expr.specs.Kinds.{first};
+ghost use Rattle.rp_grammar.specs.Kinds.{first};
 ghost use Rattle.rp_parse.specs.Gives.{is_as};
-ghost use Rattle.rp_parse.specs.Reading as p;
+ghost use Rattle.rp_grammar.specs.StatementReading as p;
 
 use rp_expr::look::kind_at;
 use rp_token::{Token, TokenKind};

@@ -5,10 +5,10 @@ ghost use Rattle.rp_tree.specs.ExpressionViews as v;
 ghost use Rattle.rp_tree.specs.Statements as s;
 ghost use Rattle.rp_tree.specs.StatementViews as w;
 ghost use Rattle.rp_expr.specs.Gives.{Gives};
-ghost use Rattle.rp_expr.specs.Kinds.{augmented_of, first};
-ghost use Rattle.rp_expr.specs.Reading.{before};
+ghost use Rattle.rp_grammar.specs.Kinds.{augmented_of, first};
+ghost use Rattle.rp_grammar.specs.ExpressionReading.{before};
 ghost use Rattle.rp_parse.specs.Gives.{allowed, context_of, deep, deleted, other_names, other_places, with_places};
-ghost use Rattle.rp_parse.specs.Reading as p;
+ghost use Rattle.rp_grammar.specs.StatementReading as p;
 
 use crate::context::{Context, are_free};
 use rp_base::{BinOp, Line};
@@ -30,7 +30,7 @@ pub fn stmt(alloc: Global, line: Line, form: StmtForm) -> Result<Stmt, Fault>
 }
 
 /// A place.
-#[tactic(auto, unfolding(crate::specs::Reading::place))]
+#[tactic(auto, unfolding(rp_grammar::specs::StatementReading::place))]
 fn place(alloc: Global, tokens: &[Token]) -> Read<'_, Place>
     ensures { Gives (λ x. (v.view_place x.0, x.1.now)) result (p.place deep tokens.now) }
 {
@@ -42,7 +42,7 @@ fn place(alloc: Global, tokens: &[Token]) -> Read<'_, Place>
 fn other_places(alloc: Global, first: Place, tokens: &[Token]) -> Read<'_, Vec<Place>>
     ensures { Gives (λ x. (map v.view_place x.0.items, x.1.now)) result (other_places deep (v.view_place first) tokens.now) }
 {
-    let mut found = Vec::new(alloc);
+    let mut found = Vec::with_capacity(alloc, 1)?;
     found.push(first)?;
     let mut rest = tokens;
     'items: while starts(rest) {
@@ -57,7 +57,7 @@ fn other_places(alloc: Global, first: Place, tokens: &[Token]) -> Read<'_, Vec<P
 }
 
 /// Places with commas between them, and a comma behind the last or not.
-#[tactic(auto, unfolding(crate::specs::Reading::places))]
+#[tactic(auto, unfolding(rp_grammar::specs::StatementReading::places))]
 fn places(alloc: Global, tokens: &[Token]) -> Read<'_, Vec<Place>>
     ensures { Gives (λ x. (map v.view_place x.0.items, x.1.now)) result (p.places deep tokens.now) }
 {
@@ -65,7 +65,7 @@ fn places(alloc: Global, tokens: &[Token]) -> Read<'_, Vec<Place>>
     if is_comma(rest) {
         return other_places(alloc, first, skip(rest));
     }
-    let mut found = Vec::new(alloc);
+    let mut found = Vec::with_capacity(alloc, 1)?;
     found.push(first)?;
     Ok((found, rest))
 }
@@ -74,7 +74,7 @@ fn places(alloc: Global, tokens: &[Token]) -> Read<'_, Vec<Place>>
 fn other_names(alloc: Global, first: Named, tokens: &[Token]) -> Read<'_, Vec<Named>>
     ensures { Gives (λ x. (x.0.items, x.1.now)) result (other_names first tokens.now) }
 {
-    let mut found = Vec::new(alloc);
+    let mut found = Vec::with_capacity(alloc, 1)?;
     found.push(first)?;
     let mut rest = tokens;
     'items: while is_comma(rest) {
@@ -86,7 +86,7 @@ fn other_names(alloc: Global, first: Named, tokens: &[Token]) -> Read<'_, Vec<Na
 }
 
 /// Names with commas between them.
-#[tactic(auto, unfolding(crate::specs::Reading::names))]
+#[tactic(auto, unfolding(rp_grammar::specs::StatementReading::names))]
 fn names(alloc: Global, tokens: &[Token]) -> Read<'_, Vec<Named>>
     ensures { Gives (λ x. (x.0.items, x.1.now)) result (p.names tokens.now) }
 {
@@ -95,7 +95,7 @@ fn names(alloc: Global, tokens: &[Token]) -> Read<'_, Vec<Named>>
 }
 
 /// An expression list, where one begins.
-#[tactic(auto, unfolding(crate::specs::Reading::maybe_exprs))]
+#[tactic(auto, unfolding(rp_grammar::specs::StatementReading::maybe_exprs))]
 fn maybe_exprs(alloc: Global, tokens: &[Token]) -> Read<'_, Option<Expr>>
     ensures { Gives (λ x. (option_map v.view_expr x.0, x.1.now)) result (p.maybe_exprs deep tokens.now) }
 {
@@ -107,7 +107,7 @@ fn maybe_exprs(alloc: Global, tokens: &[Token]) -> Read<'_, Option<Expr>>
 }
 
 /// An expression, where one begins.
-#[tactic(auto, unfolding(crate::specs::Reading::maybe_expr))]
+#[tactic(auto, unfolding(rp_grammar::specs::StatementReading::maybe_expr))]
 fn maybe_expr(alloc: Global, tokens: &[Token]) -> Read<'_, Option<Expr>>
     ensures { Gives (λ x. (option_map v.view_expr x.0, x.1.now)) result (p.maybe_expr deep tokens.now) }
 {
@@ -136,7 +136,7 @@ fn return_statement<'a>(
 }
 
 /// Behind `raise`.
-#[tactic(auto, unfolding(crate::specs::Reading::raise), using(rp_tree::proofs::StatementEquations::variants))]
+#[tactic(auto, unfolding(rp_grammar::specs::StatementReading::raise), using(rp_tree::proofs::StatementEquations::variants))]
 fn raise_statement<'a>(
     alloc: Global,
     line: Line,
@@ -153,7 +153,7 @@ fn raise_statement<'a>(
 }
 
 /// Behind `assert`.
-#[tactic(auto, unfolding(crate::specs::Reading::assert), using(rp_tree::proofs::StatementEquations::variants))]
+#[tactic(auto, unfolding(rp_grammar::specs::StatementReading::assert), using(rp_tree::proofs::StatementEquations::variants))]
 fn assert_statement(alloc: Global, line: Line, tokens: &[Token]) -> Read<'_, Stmt>
     ensures { Gives (λ x. (w.view_stmt x.0, x.1.now)) result (p.assert deep line tokens.now) }
 {
@@ -167,7 +167,7 @@ fn assert_statement(alloc: Global, line: Line, tokens: &[Token]) -> Read<'_, Stm
 }
 
 /// Behind `global`.
-#[tactic(auto, unfolding(crate::specs::Reading::global), using(rp_tree::proofs::StatementEquations::variants))]
+#[tactic(auto, unfolding(rp_grammar::specs::StatementReading::global), using(rp_tree::proofs::StatementEquations::variants))]
 fn global_statement<'a>(
     alloc: Global,
     line: Line,
@@ -215,14 +215,14 @@ fn assigned(alloc: Global, places: Vec<Place>, tokens: &[Token]) -> Read<'_, (Ve
 }
 
 /// Behind an expression list and `=`.
-#[tactic(auto, unfolding(crate::specs::Reading::assignment), using(rp_tree::proofs::StatementEquations::variants))]
+#[tactic(auto, unfolding(rp_grammar::specs::StatementReading::assignment), using(rp_tree::proofs::StatementEquations::variants))]
 fn assignment(alloc: Global, left: Expr, tokens: &[Token]) -> Read<'_, Stmt>
     ensures { Gives (λ x. (w.view_stmt x.0, x.1.now)) result (p.assignment deep (v.view_expr left) tokens.now) }
 {
     let line = left.line;
     match target_of(alloc, left)? {
         Target::Place(place) => {
-            let mut places = Vec::new(alloc);
+            let mut places = Vec::with_capacity(alloc, 1)?;
             places.push(place)?;
             let ((places, value), rest) = assigned(alloc, places, tokens)?;
             Ok((stmt(alloc, line, StmtForm::Assign(places, value))?, rest))
@@ -238,7 +238,7 @@ fn assignment(alloc: Global, left: Expr, tokens: &[Token]) -> Read<'_, Stmt>
 }
 
 /// Behind an expression list, where a mark of augmented assignment comes.
-#[tactic(auto, unfolding(crate::specs::Reading::augmented), using(rp_tree::proofs::StatementEquations::variants))]
+#[tactic(auto, unfolding(rp_grammar::specs::StatementReading::augmented), using(rp_tree::proofs::StatementEquations::variants))]
 fn augmented(alloc: Global, op: BinOp, left: Expr, tokens: &[Token]) -> Read<'_, Stmt>
     ensures { Gives (λ x. (w.view_stmt x.0, x.1.now)) result (p.augmented deep op (v.view_expr left) tokens.now) }
 {
@@ -271,7 +271,7 @@ fn behind_exprs(alloc: Global, left: Expr, tokens: &[Token]) -> Read<'_, Stmt>
 }
 
 /// A statement that begins with an expression list.
-#[tactic(auto, unfolding(crate::specs::Reading::expression_statement))]
+#[tactic(auto, unfolding(rp_grammar::specs::StatementReading::expression_statement))]
 fn expression_statement(alloc: Global, tokens: &[Token]) -> Read<'_, Stmt>
     ensures { Gives (λ x. (w.view_stmt x.0, x.1.now)) result (p.expression_statement deep tokens.now) }
 {
@@ -280,7 +280,7 @@ fn expression_statement(alloc: Global, tokens: &[Token]) -> Read<'_, Stmt>
 }
 
 /// A simple statement.
-#[tactic(auto, unfolding(crate::specs::Reading::simple), using(rp_tree::proofs::StatementEquations::variants))]
+#[tactic(auto, unfolding(rp_grammar::specs::StatementReading::simple), using(rp_tree::proofs::StatementEquations::variants))]
 pub fn simple<'a>(alloc: Global, tokens: &'a [Token], context: Context<'_>) -> Read<'a, Stmt>
     ensures { Gives (λ x. (w.view_stmt x.0, x.1.now)) result (p.simple deep (context_of context.entry) tokens.now) }
 {

@@ -10,7 +10,7 @@ use Rattle.rp_base.specs.declared.value.Op.{Op}
 use Rattle.rp_base.specs.declared.value.Raised.{Raised}
 use Rattle.rp_checker.specs.Answers.{operation_view, tag_view}
 use Rattle.rp_decl.specs.View.{declarations_view, name_text}
-use Rattle.rp_interact.specs.Granted.{Interacting}
+use Rattle.rp_interact.specs.Interacting.{Interacting}
 use Rattle.rp_store.specs.Heap.{tag_at}
 use Rattle.rp_trail.specs.Entry.{Entry}
 use Rattle.rp_trail.specs.View.{class_text, entry_view, op_name, op_word, verdict_view}
@@ -18,7 +18,7 @@ use Rattle.rp_trail.specs.declared.entry.Entry.{Entry as Placed}
 use Rattle.rp_trail.specs.declared.entry.Verdict.{Verdict}
 use Rattle.rp_proxy.proofs.Verdicts.{name_same, word_same}
 use Rattle.rp_proxy.proofs.Worlds.{after}
-use Rattle.rp_proxy.specs.Decide.{Monitor, class_at, decide_entry, entry_of, go, logged, outcome, raised, refusal, verdict_of}
+use Rattle.rp_proxy.specs.Decide.{Monitor, class_at, decide_entry, entry_of, go, logged, outcome, refusal, refuses, verdict_of}
 use Rattle.rp_proxy.specs.View.{monitor_of}
 use Rattle.rp_proxy.specs.declared.world.World.{World}
 
@@ -26,8 +26,8 @@ use Rattle.rp_proxy.specs.declared.world.World.{World}
 pub monitor-keeping : (w : World) (i : Interacting) → i ≡ record w.running.interaction { kept = i.kept } → monitor_of (after w w.store.used w.trail i) ≡ monitor_of w
 monitor-keeping w i e = ap (λ (j : Interacting). monitor_of (after w w.store.used w.trail j)) e
 
-within_limit : (m : Monitor) (e : Entry) → m.used + 1 ≤ m.limit → decide_entry m e ≡ (outcome e.name e.verdict, logged m e)
-within_limit m e few = rw (le-ltb m.limit (m.used + 1) few) refl
+within_limit : (m : Monitor) (e : Entry) → m.store.used + 1 ≤ m.store.limit → decide_entry m e ≡ (outcome e.name e.verdict, logged m e)
+within_limit m e few = rw (le-ltb m.store.limit (m.store.used + 1) few) refl
 
 module _ (w : World) (op : Op) (class : ClassTag) (v : Verdict) (i : Interacting)
     (keeps : i ≡ record w.running.interaction { kept = i.kept })
@@ -57,9 +57,7 @@ module _ (w : World) (op : Op) (class : ClassTag) (v : Verdict) (i : Interacting
   logged_is = λ j. record {
     declarations = declarations_view w.names w.decl;
     names = w.names;
-    heap = w.store.heap;
-    used = w.store.used + 1;
-    limit = w.store.limit;
+    store = record w.store { used = w.store.used + 1 };
     log = sym (map-append (entry_view w.names w.decl.permissions) w.trail (placed ∷ [])) j;
     session = w.running.session;
     who = sym (ap (λ (k : Interacting). k.ids) keeps) j;
@@ -68,9 +66,9 @@ module _ (w : World) (op : Op) (class : ClassTag) (v : Verdict) (i : Interacting
   pub decided : (at : Oid) (r : Option Raised) → w.store.used + 1 ≤ w.store.limit → tag_at w.store.heap at ≡ Some class
       → r ≡ refusal (name_text w.names (op_name op)) (verdict_view w.decl.permissions v)
       → decide_entry (monitor_of w) (entry_of (monitor_of w) (operation_view w.names op) (class_at w.store.heap at))
-      ≡ (option_map_or raised r go, monitor_of (after w (w.store.used + 1) (w.trail ++ placed ∷ []) i))
+      ≡ (option_map_or refuses r go, monitor_of (after w (w.store.used + 1) (w.trail ++ placed ∷ []) i))
   decided at r few found refused =
       ap (λ (t : Option ClassTag). decide_entry (monitor_of w) (entry_of (monitor_of w) (operation_view w.names op) (unwrap_or t Other))) found
       ∙ ap (decide_entry (monitor_of w)) (sym entry_is)
       ∙ within_limit (monitor_of w) entry few
-      ∙ (λ j. (option_map_or raised (sym refused j) go, logged_is j))
+      ∙ (λ j. (option_map_or refuses (sym refused j) go, logged_is j))

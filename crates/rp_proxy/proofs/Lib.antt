@@ -1,4 +1,7 @@
 pub mod Decisions
+pub mod LaterNames
+pub mod LaterRecords
+pub mod LaterStores
 pub mod Named
 pub mod Pushed
 pub mod Verdicts

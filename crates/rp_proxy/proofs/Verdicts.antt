@@ -12,7 +12,7 @@ use Rattle.rp_decl.specs.declared.records.Perm.{Perm}
 use Rattle.rp_decl.specs.declared.row.Row.{Row}
 use Rattle.rp_decl.specs.declared.row.Row.TheVariants.{Public, Needs, Default, Forbidden}
 use Rattle.rp_interact.specs.Answers.{AnswersAs as AnswerGrants}
-use Rattle.rp_interact.specs.Granted.{Interacting, has_in}
+use Rattle.rp_interact.specs.Interacting.{Interacting, has_in}
 use Rattle.rp_trail.specs.Entry.{allowed, denied}
 use Rattle.rp_trail.specs.View.{IsClassHeld, IsVerdictDeclared, op_name, op_word, verdict_view}
 use Rattle.rp_trail.specs.declared.entry.Verdict.TheVariants as verdict

@@ -6,7 +6,7 @@ use Rattle.std.specs.Map.{lookup}
 use Rattle.rp_decl.specs.declared.records.Perm.{Perm}
 use Rattle.rp_decl.specs.declared.row.Row.{Row}
 use Rattle.rp_decl.specs.declared.row.Row.TheVariants.{Public, Needs, Default, Forbidden}
-use Rattle.rp_interact.specs.Granted.{Interacting}
+use Rattle.rp_interact.specs.Interacting.{Interacting}
 use Rattle.rp_interact.specs.Kept.{IsKeptOrNot, is_perm, keeping, most_kept, used}
 use Rattle.rp_trail.specs.View.{IsEntryHeld}
 use Rattle.rp_trail.specs.declared.entry.Entry.{Entry}
@@ -53,7 +53,7 @@ faithful_keeping w used trail kept f entries = record {
   ordered = f.ordered;
   rows = f.rows;
   rows_within = f.rows_within;
-  grants = record { has = f.grants.has; why = f.grants.why };
+  grants = λ later grows. record { has = (f.grants later grows).has; why = (f.grants later grows).why };
   classes = f.classes;
   entries = entries;
 }

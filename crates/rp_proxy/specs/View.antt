@@ -1,29 +1,32 @@
 -- The world as decisions see it, and what comes of one.
-use Rattle.std.specs.Prelude.{◌≡◌, ◌⊎◌, IsNone, IsSome, if◌then◌else◌, Result, Ok, Err}
+use Rattle.std.specs.Prelude.{◌≡◌, ◌⊎◌, IsNone, IsSome, if◌then◌else◌, List, [], ◌∷◌, ◌++◌, Result, Ok, Err}
 use Rattle.std.specs.Map.{lookup}
 use Rattle.rp_base.specs.declared.value.Value.{Value}
 use Rattle.rp_base.specs.declared.value.Value.TheVariants as value
+use Rattle.rp_base.specs.declared.value.Oid.{Oid}
+use Rattle.rp_base.specs.declared.value.Op.{Op}
 use Rattle.rp_base.specs.declared.value.OpEnd.{OpEnd}
 use Rattle.rp_base.specs.declared.value.OpEnd.TheVariants.{Raised, StopSteps, StopCells, Memory}
+use Rattle.rp_checker.specs.Tables.{row_in}
 use Rattle.rp_decl.specs.View.{declarations_view}
 use Rattle.rp_decl.specs.declared.row.Row.{Row}
 use Rattle.rp_decl.specs.declared.row.Row.TheVariants.{Public, Needs, Default, Forbidden}
 use Rattle.rp_decl.specs.declared.records.Perm.{Perm}
-use Rattle.rp_interact.specs.Granted.{Interacting, has_in}
+use Rattle.rp_interact.specs.Interacting.{Interacting, has_in}
 use Rattle.rp_interact.specs.Kept.{IsKeptOrNot, is_perm, used}
 use Rattle.rp_trail.specs.View.{trail_view}
+use Rattle.rp_trail.specs.declared.entry.Entry.{Entry}
 use Rattle.rp_trail.specs.declared.entry.Verdict.{Verdict}
 use Rattle.rp_trail.specs.declared.entry.Verdict.TheVariants as verdict
-use Rattle.rp_proxy.specs.Decide.{Monitor, Decision, go, raised, no_cell}
+use Rattle.rp_ops.specs.Outcome.{no_cell}
+use Rattle.rp_proxy.specs.Decide.{Monitor, Decision, class_at, go, refuses}
 use Rattle.rp_proxy.specs.declared.world.World.{World}
 
 abbrev pub monitor_of : World → Monitor
 monitor_of w = record {
   declarations = declarations_view w.names w.decl;
   names = w.names;
-  heap = w.store.heap;
-  used = w.store.used;
-  limit = w.store.limit;
+  store = w.store;
   log = trail_view w.names w.decl.permissions w.trail;
   session = w.running.session;
   who = w.running.interaction.ids;
@@ -32,9 +35,9 @@ monitor_of w = record {
 -- The answer is the one of the decision, with what it leaves; want of memory leaves all as it was.
 abbrev pub GivesDecision : {T : Type 0} → Result T OpEnd → Monitor → Monitor → Decision × Monitor → Type 0
 GivesDecision (Ok x) old new decided = decided ≡ (go, new)
-GivesDecision (Err (Raised r)) old new decided = decided ≡ (raised r, new)
+GivesDecision (Err (Raised r)) old new decided = decided ≡ (refuses r, new)
 GivesDecision (Err StopSteps) old new decided = ⊥
-GivesDecision (Err StopCells) old new decided = decided ≡ (no_cell, new)
+GivesDecision (Err StopCells) old new decided = decided ≡ (Err no_cell, new)
 GivesDecision (Err Memory) old new decided = new ≡ old
 
 -- only the cells used, the trail and the answers that are kept are other ones
@@ -58,6 +61,24 @@ verdict_in i Public = verdict.Allowed Public
 verdict_in i (Needs permission) = if has_in i permission then verdict.Allowed (Needs permission) else verdict.Denied permission
 verdict_in i Default = verdict.Allowed Default
 verdict_in i Forbidden = verdict.Forbidden
+
+-- the entry of an operation on the object at a place, as the program keeps it
+abbrev pub entry_in : World → Oid → Op → Entry
+entry_in w at op = record {
+  session = w.running.session;
+  op = op;
+  class = class_at w.store.heap at;
+  verdict = verdict_in w.running.interaction (row_in w.checkers (class_at w.store.heap at) op);
+}
+
+-- Each answer of a decision has its entry, the latest one of the trail. Where no cell is left, or memory was refused, there
+-- is none.
+abbrev pub IsLogged : {T : Type 0} → Result T OpEnd → Entry → List Entry → List Entry → Type 0
+IsLogged (Ok x) entry old new = new ≡ old ++ entry ∷ []
+IsLogged (Err (Raised r)) entry old new = new ≡ old ++ entry ∷ []
+IsLogged (Err StopSteps) entry old new = ⊥
+IsLogged (Err StopCells) entry old new = new ≡ old
+IsLogged (Err Memory) entry old new = new ≡ old
 
 -- an interaction after `decide` of a permission: a kept answer comes to the front, and another is kept if there is memory for it
 pub record IsDecided (permission : Perm) (old new : Interacting) : Type 0 where

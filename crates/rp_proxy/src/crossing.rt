@@ -10,7 +10,7 @@ ghost use Rattle.rp_trail.specs.View.{IsVerdictDeclared, op_name, verdict_view};
 ghost use Rattle.rp_proxy.specs.Decide.{class_at, decide, refusal};
 ghost use Rattle.rp_proxy.specs.Faithful.{IsFaithful};
 ghost use Rattle.rp_proxy.specs.Held.{IsValueHeld};
-ghost use Rattle.rp_proxy.specs.View.{GivesDecision, IsAsked, IsAskedBy, IsPlain, OnlyDecides, monitor_of, verdict_in};
+ghost use Rattle.rp_proxy.specs.View.{GivesDecision, IsAsked, IsAskedBy, IsLogged, IsPlain, OnlyDecides, entry_in, monitor_of, verdict_in};
 
 use crate::world::World;
 use rp_base::{Kind, Memory, Names, Oid, Op, OpEnd, Raised, Text, Value};
@@ -36,6 +36,7 @@ pub fn cross(alloc: Global, world: &mut World, value: &Value, op: Op) -> Result<
     ensures faithful { IsFaithful world.new }
     ensures decided { GivesDecision result (monitor_of world.old) (monitor_of world.new) (decide value.now (operation_view world.old.names op) (monitor_of world.old)) }
     ensures else_same { OnlyDecides world.old world.new }
+    ensures logged { (at : Oid) → value.now ≡ Value.Prox at → IsLogged result (entry_in world.old at op) world.old.trail world.new.trail }
     ensures plain { IsPlain value.now → (result ≡ Ok tt) × (world.new ≡ world.old) }
     ensures stopped { result ≡ Err OpEnd.StopCells → world.new ≡ world.old }
     ensures kept { (at : Oid) → value.now ≡ Value.Prox at → IsAskedBy result (row_in world.old.checkers (class_at world.old.store.heap at) op) world.old.running.interaction world.new.running.interaction }
@@ -53,6 +54,7 @@ fn cross_proxy(alloc: Global, world: &mut World, at: Oid, op: Op) -> Result<(), 
     ensures faithful { IsFaithful world.new }
     ensures decided { GivesDecision result (monitor_of world.old) (monitor_of world.new) (decide (Value.Prox at) (operation_view world.old.names op) (monitor_of world.old)) }
     ensures else_same { OnlyDecides world.old world.new }
+    ensures logged { IsLogged result (entry_in world.old at op) world.old.trail world.new.trail }
     ensures stopped { result ≡ Err OpEnd.StopCells → world.new ≡ world.old }
     ensures kept { IsAskedBy result (row_in world.old.checkers (class_at world.old.store.heap at) op) world.old.running.interaction world.new.running.interaction }
 {

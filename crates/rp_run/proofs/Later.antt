@@ -6,7 +6,7 @@ use Rattle.rp_decl.specs.Consistency.{IsConsistent}
 use Rattle.rp_decl.specs.InOrder.{AreInOrder}
 use Rattle.rp_decl.specs.Places.{GrowsTo}
 use Rattle.rp_decl.specs.View.{Placed}
-use Rattle.rp_load.proofs.Later.{declarations-later, held-later}
+use Rattle.rp_proxy.proofs.LaterRecords.{declarations-later, held-later}
 use Rattle.rp_run.specs.View.{IsReadInto}
 
 -- the records stay those that were read

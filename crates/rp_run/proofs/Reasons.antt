@@ -15,7 +15,7 @@ use Rattle.rp_decl.specs.View.{Placed, declarations_view, perm_text, text_at}
 use Rattle.rp_decl.specs.Word.{is_among}
 use Rattle.rp_decl.specs.declared.records.Perm.{Perm}
 use Rattle.rp_interact.specs.Answers.{AnswersAs, reason_view, why_at}
-use Rattle.rp_interact.specs.Granted.{Interacting, has_in, is_yes as is_yes_placed}
+use Rattle.rp_interact.specs.Interacting.{Interacting, has_in, is_yes as is_yes_placed}
 use Rattle.rp_interact.specs.Why.{has_all, is_yes, why_of}
 use Rattle.rp_interact.specs.declared.reason.Reason.{Reason}
 use Rattle.rp_interact.specs.declared.reason.Reason.TheVariants.{Public, Own, Role, Group, GroupRole, Nothing}

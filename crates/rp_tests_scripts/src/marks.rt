@@ -32,12 +32,12 @@ fn mark_first_place(places: &mut [Place]) {
 
 fn mark_expr(expr: &mut Expr) {
     match &mut *expr.form {
-        ExprForm::ListOf(_, clauses) => {
+        ExprForm::ListOf(_, _, clauses) => {
             if let Some(clause) = clauses.first_mut() {
                 clause.walk.guard = Some(Guard::GetIter);
             }
         }
-        ExprForm::DictOf(_, _, clauses) => {
+        ExprForm::DictOf(_, _, _, clauses) => {
             if let Some(clause) = clauses.first_mut() {
                 clause.walk.guard = Some(Guard::GetIter);
             }
@@ -55,7 +55,7 @@ fn mark_trailer(trailer: &mut Trailer) {
     match trailer {
         Trailer::Attr(_, guard) => *guard = Some(Guard::GetAttr),
         Trailer::Item(_, guard) => *guard = Some(Guard::GetItem),
-        Trailer::Slice { guard, .. } => *guard = Some(Guard::GetItem),
+        Trailer::Slice(_, guard) => *guard = Some(Guard::GetItem),
         Trailer::Call(_, guard) => *guard = Some(Guard::Apply),
     }
 }

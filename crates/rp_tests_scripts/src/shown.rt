@@ -114,19 +114,19 @@ fn show_form(out: &mut String, names: &Names, form: &ExprForm) -> Result<(), All
 fn show_other(out: &mut String, names: &Names, form: &ExprForm) -> Result<(), AllocError> {
     match form {
         ExprForm::Dict(pairs) => show_pairs(out, names, pairs),
-        ExprForm::ListOf(element, clauses) => {
+        ExprForm::ListOf(_, element, clauses) => {
             out.push_str("list of ")?;
             show_expr(out, names, element)?;
             show_clauses(out, names, clauses)
         }
-        ExprForm::DictOf(key, value, clauses) => {
+        ExprForm::DictOf(_, key, value, clauses) => {
             out.push_str("dict of ")?;
             show_expr(out, names, key)?;
             out.push(' ')?;
             show_expr(out, names, value)?;
             show_clauses(out, names, clauses)
         }
-        ExprForm::Lambda(params, body) => {
+        ExprForm::Lambda(_, params, body) => {
             out.push_str("lambda ")?;
             show_params(out, names, params)?;
             out.push(' ')?;
@@ -276,13 +276,13 @@ fn show_trailer(out: &mut String, names: &Names, trailer: &Trailer) -> Result<()
             show_expr(out, names, item)?;
             out.push(']')
         }
-        Trailer::Slice { from, to, step, .. } => {
+        Trailer::Slice(slice, _) => {
             out.push('[')?;
-            show_maybe(out, names, from)?;
+            show_maybe(out, names, &slice.from)?;
             out.push(':')?;
-            show_maybe(out, names, to)?;
+            show_maybe(out, names, &slice.to)?;
             out.push(':')?;
-            show_maybe(out, names, step)?;
+            show_maybe(out, names, &slice.step)?;
             out.push(']')
         }
         Trailer::Call(args, _) => {

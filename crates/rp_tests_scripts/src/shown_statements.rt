@@ -161,7 +161,7 @@ fn show_form(out: &mut String, names: &Names, form: &StmtForm) -> Result<(), All
             }
             Ok(())
         }
-        StmtForm::Def(name, params, body) => {
+        StmtForm::Def(_, name, params, body) => {
             out.push_str("def")?;
             add_name(out, names, name.name)?;
             out.push(' ')?;

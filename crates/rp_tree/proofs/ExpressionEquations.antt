@@ -3,13 +3,14 @@ use Rattle.std.proofs.Common.{◌≡◌, ℕ, ℤ, List, map, Option, option_map
 use Rattle.rp_base.specs.declared.value.Name.{Name}
 use Rattle.rp_base.specs.declared.operator.BinOp.{BinOp}
 use Rattle.rp_base.specs.declared.operator.UnOp.{UnOp}
-use Rattle.rp_tree.specs.declared.parts.Named.{Named}
+use Rattle.rp_tree.specs.declared.parts.Block.{Block}
 use Rattle.rp_tree.specs.declared.parts.Guard.{Guard}
 use Rattle.rp_tree.specs.declared.parts.Const.{Const}
 use Rattle.rp_tree.specs.declared.parts.Test.{Test}
 use Rattle.rp_tree.specs.declared.expr.Expr.{Expr, out-Expr}
 use Rattle.rp_tree.specs.declared.expr.Clause.{Clause}
 use Rattle.rp_tree.specs.declared.expr.Params.{Params}
+use Rattle.rp_tree.specs.declared.expr.Slice.{Slice}
 use Rattle.rp_tree.specs.declared.expr.Walk.{Walk}
 use Rattle.rp_tree.specs.declared.expr.ExprForm.{ExprForm}
 use Rattle.rp_tree.specs.declared.expr.Place.{Place}
@@ -23,9 +24,10 @@ use Rattle.rp_tree.specs.declared.expr.Trailer.TheVariants as trailer
 use Rattle.rp_tree.specs.declared.expr.Arg.TheVariants as arg
 use Rattle.rp_tree.specs.declared.expr.Arg.TheFolds.{the_lemmas}
 use Rattle.rp_tree.specs.declared.expr.Arg.TheOpen as o
-use Rattle.rp_tree.specs.declared.expr.Arg.TheViews.{roll-Params, out-Params, roll-Expr, roll-Clause, out-Clause, roll-Walk, out-Walk}
+use Rattle.rp_tree.specs.declared.expr.Arg.TheViews.{roll-Params, out-Params, roll-Expr, roll-Clause, out-Clause, roll-Walk, out-Walk, roll-Slice, out-Slice}
 use Rattle.rp_tree.specs.Expressions as t
-use Rattle.rp_tree.specs.ExpressionViews.{view_expr, view_form, view_arg, view_place, view_target, view_trailer, view_clause, view_params, view_walk, view_pair, view_test, view_op, view_plain, exprs_of, maybe_of, pairs_of, tests_of, ops_of, clauses_of, targets_of, plain_of, trailers_of, args_of}
+use Rattle.rp_tree.specs.Expressions.{Named}
+use Rattle.rp_tree.specs.ExpressionViews.{view_expr, view_form, view_arg, view_place, view_target, view_trailer, view_clause, view_params, view_slice, view_walk, view_pair, view_test, view_op, view_plain, exprs_of, maybe_of, pairs_of, tests_of, ops_of, clauses_of, targets_of, plain_of, trailers_of, args_of}
 
 pub form_name : (n : Name) → view_form (form.Name n) ≡ t.name n
 form_name n = search (rules, the_lemmas)
@@ -48,14 +50,14 @@ form_list v = search (rules, the_lemmas)
 pub form_dict : (v : Vec (Expr × Expr) Global) → view_form (form.Dict v) ≡ t.dict (pairs_of (map view_pair v.items))
 form_dict v = search (rules, the_lemmas)
 
-pub form_list_of : (e : Expr) (v : Vec Clause Global) → view_form (form.ListOf e v) ≡ t.list_of (view_expr e) (clauses_of (map view_clause v.items))
-form_list_of e v = search (rules, the_lemmas)
+pub form_list_of : (b : Block) (e : Expr) (v : Vec Clause Global) → view_form (form.ListOf b e v) ≡ t.list_of b.0 (view_expr e) (clauses_of (map view_clause v.items))
+form_list_of b e v = search (rules, the_lemmas)
 
-pub form_dict_of : (k e : Expr) (v : Vec Clause Global) → view_form (form.DictOf k e v) ≡ t.dict_of (view_expr k) (view_expr e) (clauses_of (map view_clause v.items))
-form_dict_of k e v = search (rules, the_lemmas)
+pub form_dict_of : (b : Block) (k e : Expr) (v : Vec Clause Global) → view_form (form.DictOf b k e v) ≡ t.dict_of b.0 (view_expr k) (view_expr e) (clauses_of (map view_clause v.items))
+form_dict_of b k e v = search (rules, the_lemmas)
 
-pub form_lambda : (p : Box Params Global) (e : Expr) → view_form (form.Lambda p e) ≡ t.lambda (view_params p.value) (view_expr e)
-form_lambda p e = search (rules, the_lemmas)
+pub form_lambda : (b : Block) (p : Box Params Global) (e : Expr) → view_form (form.Lambda b p e) ≡ t.lambda b.0 (view_params p.value) (view_expr e)
+form_lambda b p e = search (rules, the_lemmas)
 
 pub form_cond : (a b c : Expr) → view_form (form.Cond a b c) ≡ t.cond (view_expr a) (view_expr b) (view_expr c)
 form_cond a b c = search (rules, the_lemmas)
@@ -105,8 +107,8 @@ trailer_attr n g = search (rules, the_lemmas)
 pub trailer_item : (e : Expr) (g : Option Guard) → view_trailer (trailer.Item e g) ≡ t.item (view_expr e) g
 trailer_item e g = search (rules, the_lemmas)
 
-pub trailer_slice : (a b c : Option Expr) (g : Option Guard) → view_trailer (trailer.Slice a b c g) ≡ t.slice (maybe_of (option_map view_expr a)) (maybe_of (option_map view_expr b)) (maybe_of (option_map view_expr c)) g
-trailer_slice a b c g = search (rules, the_lemmas)
+pub trailer_slice : (s : Box Slice Global) (g : Option Guard) → view_trailer (trailer.Slice s g) ≡ t.slice (view_slice s.value).0 (view_slice s.value).1 (view_slice s.value).2 g
+trailer_slice s g = search (rules, the_lemmas)
 
 pub trailer_call : (v : Vec Arg Global) (g : Option Guard) → view_trailer (trailer.Call v g) ≡ t.call (args_of (map view_arg v.items)) g
 trailer_call v g = search (rules, the_lemmas)
@@ -135,17 +137,23 @@ walk_out x = search (rules, the_lemmas)
 pub params_out : (x : Params) → view_params x ≡ t.params (plain_of (map view_plain (out-Params x).plain.items)) (out-Params x).list (out-Params x).dict
 params_out x = search (rules, the_lemmas)
 
-pub expr_roll : (x : o.Expr-F Arg ExprForm Place Target Trailer Clause Expr Params Walk) → view_expr (roll-Expr x) ≡ t.node x.line (view_form x.form.value)
+pub slice_out : (x : Slice) → view_slice x ≡ (maybe_of (option_map view_expr (out-Slice x).from), maybe_of (option_map view_expr (out-Slice x).to), maybe_of (option_map view_expr (out-Slice x).step))
+slice_out x = search (rules, the_lemmas)
+
+pub expr_roll : (x : o.Expr-F Arg ExprForm Place Target Trailer Clause Expr Params Slice Walk) → view_expr (roll-Expr x) ≡ t.node x.line (view_form x.form.value)
 expr_roll x = search (rules, the_lemmas)
 
-pub clause_roll : (x : o.Clause-F Arg ExprForm Place Target Trailer Clause Expr Params Walk) → view_clause (roll-Clause x) ≡ t.a_clause (view_walk x.walk) (exprs_of (map view_expr x.tests.items))
+pub clause_roll : (x : o.Clause-F Arg ExprForm Place Target Trailer Clause Expr Params Slice Walk) → view_clause (roll-Clause x) ≡ t.a_clause (view_walk x.walk) (exprs_of (map view_expr x.tests.items))
 clause_roll x = search (rules, the_lemmas)
 
-pub walk_roll : (x : o.Walk-F Arg ExprForm Place Target Trailer Clause Expr Params Walk) → view_walk (roll-Walk x) ≡ t.a_walk (view_target x.target) (view_expr x.of) x.guard
+pub walk_roll : (x : o.Walk-F Arg ExprForm Place Target Trailer Clause Expr Params Slice Walk) → view_walk (roll-Walk x) ≡ t.a_walk (view_target x.target) (view_expr x.of) x.guard
 walk_roll x = search (rules, the_lemmas)
 
-pub params_roll : (x : o.Params-F Arg ExprForm Place Target Trailer Clause Expr Params Walk) → view_params (roll-Params x) ≡ t.params (plain_of (map view_plain x.plain.items)) x.list x.dict
+pub params_roll : (x : o.Params-F Arg ExprForm Place Target Trailer Clause Expr Params Slice Walk) → view_params (roll-Params x) ≡ t.params (plain_of (map view_plain x.plain.items)) x.list x.dict
 params_roll x = search (rules, the_lemmas)
+
+pub slice_roll : (x : o.Slice-F Arg ExprForm Place Target Trailer Clause Expr Params Slice Walk) → view_slice (roll-Slice x) ≡ (maybe_of (option_map view_expr x.from), maybe_of (option_map view_expr x.to), maybe_of (option_map view_expr x.step))
+slice_roll x = search (rules, the_lemmas)
 
 -- the variants of the enums
 pub ruleset variants = (

@@ -1,2 +1,4 @@
 pub mod ExpressionEquations
+pub mod MapLaws
+pub mod MarkLaws
 pub mod StatementEquations

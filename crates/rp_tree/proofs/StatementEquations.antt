@@ -2,7 +2,7 @@
 use Rattle.std.proofs.Common.{◌≡◌, map, Option, option_map, Vec, Global, rules}
 use Rattle.rp_base.specs.declared.value.Line.{Line}
 use Rattle.rp_base.specs.declared.operator.BinOp.{BinOp}
-use Rattle.rp_tree.specs.declared.parts.Named.{Named}
+use Rattle.rp_tree.specs.declared.parts.Block.{Block}
 use Rattle.rp_tree.specs.declared.parts.Guard.{Guard}
 use Rattle.rp_tree.specs.declared.expr.Expr.{Expr}
 use Rattle.rp_tree.specs.declared.expr.Params.{Params}
@@ -18,6 +18,7 @@ use Rattle.rp_tree.specs.declared.stmt.StmtForm.TheFolds.{the_lemmas}
 use Rattle.rp_tree.specs.declared.stmt.StmtForm.TheOpen as o
 use Rattle.rp_tree.specs.declared.stmt.StmtForm.TheViews.{out-Stmt, out-Branch, out-Except, roll-Stmt, roll-Branch, roll-Except}
 use Rattle.rp_tree.specs.Statements as s
+use Rattle.rp_tree.specs.Expressions.{Named}
 use Rattle.rp_tree.specs.ExpressionViews.{view_expr, view_place, view_target, view_walk, view_params}
 use Rattle.rp_tree.specs.StatementViews.{view_stmt, view_stmt_form, view_except, view_branch, view_stmts, view_maybe_stmts, branches_of, excepts_of}
 
@@ -69,8 +70,8 @@ stmt_for w v = search (rules, the_lemmas)
 pub stmt_try : (b : Vec Stmt Global) (hs : Vec Except Global) (m l : Option (Vec Stmt Global)) → view_stmt_form (form.Try b hs m l) ≡ s.try (view_stmts b.items) (excepts_of (map view_except hs.items)) (view_maybe_stmts m) (view_maybe_stmts l)
 stmt_try b hs m l = search (rules, the_lemmas)
 
-pub stmt_def : (n : Named) (p : Params) (v : Vec Stmt Global) → view_stmt_form (form.Def n p v) ≡ s.define n (view_params p) (view_stmts v.items)
-stmt_def n p v = search (rules, the_lemmas)
+pub stmt_def : (k : Block) (n : Named) (p : Params) (v : Vec Stmt Global) → view_stmt_form (form.Def k n p v) ≡ s.define k.0 n (view_params p) (view_stmts v.items)
+stmt_def k n p v = search (rules, the_lemmas)
 
 pub stmt_class : (n : Named) (v : Vec Stmt Global) → view_stmt_form (form.Class n v) ≡ s.class n (view_stmts v.items)
 stmt_class n v = search (rules, the_lemmas)

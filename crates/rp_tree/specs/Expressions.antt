@@ -1,120 +1,64 @@
--- Expressions as values, without where they lie in memory (Python Language Reference, Expressions). Names are places among
--- the names, texts are lists of characters. Each kind of list that is a part of an expression has a type of its own.
-use Rattle.std.specs.Prelude.{ℕ, ℤ, List, Option}
+-- Expressions whose names are places among the names of a text.
 use Rattle.rp_base.specs.declared.value.Name.{Name}
-use Rattle.rp_base.specs.declared.value.Line.{Line}
-use Rattle.rp_base.specs.declared.operator.BinOp.{BinOp}
-use Rattle.rp_base.specs.declared.operator.UnOp.{UnOp}
-use Rattle.rp_tree.specs.declared.parts.Named.{Named}
-use Rattle.rp_tree.specs.declared.parts.Guard.{Guard}
-use Rattle.rp_tree.specs.declared.parts.Const.{Const}
-use Rattle.rp_tree.specs.declared.parts.Test.{Test}
+use Rattle.rp_tree.specs.ExpressionTrees as trees
+pub use Rattle.rp_tree.specs.ExpressionTrees.{node, name, int, text, const, tuple, list, dict, list_of, dict_of, lambda, cond, or, and, not, compare, chain, unary, power, primary, no_exprs, expr, none, some, no_pairs, pair, no_tests, test, no_ops, op, a_clause, no_clauses, clause, a_walk, to_place, group, no_targets, target, to_name, to_attr, to_item, params, no_plain, plain, attr, item, slice, call, no_trailers, trailer, value, star, key, stars, no_args, arg}
 
-mutual
-  -- an expression, with the line of its first token
-  pub data Expr : Type 0 where
-    node : Line → Form → Expr
+abbrev pub Named : Type 0
+Named = trees.Named Name
 
-  pub data Form : Type 0 where
-    name : Name → Form
-    int : ℤ → Form
-    text : List ℕ → Form
-    const : Const → Form
-    tuple : Exprs → Form
-    list : Exprs → Form
-    dict : Pairs → Form
-    -- a comprehension: what it lists, and its clauses
-    list_of : Expr → Clauses → Form
-    dict_of : Expr → Expr → Clauses → Form
-    lambda : Params → Expr → Form
-    -- test, value where true, value where false
-    cond : Expr → Expr → Expr → Form
-    or : Exprs → Form
-    and : Exprs → Form
-    not : Expr → Form
-    -- the first operand, then each operator with its right operand
-    compare : Expr → Tests → Form
-    chain : Expr → Ops → Form
-    unary : UnOp → Expr → Form
-    power : Expr → Expr → Form
-    primary : Expr → Trailers → Form
+abbrev pub Expr : Type 0
+Expr = trees.Expr Name
 
-  pub data Exprs : Type 0 where
-    no_exprs : Exprs
-    expr : Expr → Exprs → Exprs
+abbrev pub Form : Type 0
+Form = trees.Form Name
 
-  -- an expression that may be missing
-  pub data Maybe : Type 0 where
-    none : Maybe
-    some : Expr → Maybe
+abbrev pub Exprs : Type 0
+Exprs = trees.Exprs Name
 
-  -- keys with their values
-  pub data Pairs : Type 0 where
-    no_pairs : Pairs
-    pair : Expr → Expr → Pairs → Pairs
+abbrev pub Maybe : Type 0
+Maybe = trees.Maybe Name
 
-  -- comparison operators with their right operands
-  pub data Tests : Type 0 where
-    no_tests : Tests
-    test : Test → Expr → Tests → Tests
+abbrev pub Pairs : Type 0
+Pairs = trees.Pairs Name
 
-  -- binary operators with their right operands
-  pub data Ops : Type 0 where
-    no_ops : Ops
-    op : BinOp → Expr → Ops → Ops
+abbrev pub Tests : Type 0
+Tests = trees.Tests Name
 
-  -- what is walked, and the tests behind it
-  pub data Clause : Type 0 where
-    a_clause : Walk → Exprs → Clause
+abbrev pub Ops : Type 0
+Ops = trees.Ops Name
 
-  pub data Clauses : Type 0 where
-    no_clauses : Clauses
-    clause : Clause → Clauses → Clauses
+abbrev pub Clause : Type 0
+Clause = trees.Clause Name
 
-  -- target, iterable, mark
-  pub data Walk : Type 0 where
-    a_walk : Target → Expr → Option Guard → Walk
+abbrev pub Clauses : Type 0
+Clauses = trees.Clauses Name
 
-  pub data Target : Type 0 where
-    to_place : Place → Target
-    group : Targets → Target
+abbrev pub Walk : Type 0
+Walk = trees.Walk Name
 
-  pub data Targets : Type 0 where
-    no_targets : Targets
-    target : Target → Targets → Targets
+abbrev pub Target : Type 0
+Target = trees.Target Name
 
-  -- a name, an attribute of an object, an item of a container at a key
-  pub data Place : Type 0 where
-    to_name : Named → Place
-    to_attr : Expr → Named → Option Guard → Place
-    to_item : Expr → Expr → Option Guard → Place
+abbrev pub Targets : Type 0
+Targets = trees.Targets Name
 
-  -- the parameters without a star, then '*NAME', then '**NAME'
-  pub data Params : Type 0 where
-    params : Plain → Option Named → Option Named → Params
+abbrev pub Place : Type 0
+Place = trees.Place Name
 
-  -- parameters without a star, with their defaults
-  pub data Plain : Type 0 where
-    no_plain : Plain
-    plain : Named → Maybe → Plain → Plain
+abbrev pub Params : Type 0
+Params = trees.Params Name
 
-  pub data Trailer : Type 0 where
-    attr : Named → Option Guard → Trailer
-    item : Expr → Option Guard → Trailer
-    slice : Maybe → Maybe → Maybe → Option Guard → Trailer
-    call : Args → Option Guard → Trailer
+abbrev pub Plain : Type 0
+Plain = trees.Plain Name
 
-  pub data Trailers : Type 0 where
-    no_trailers : Trailers
-    trailer : Trailer → Trailers → Trailers
+abbrev pub Trailer : Type 0
+Trailer = trees.Trailer Name
 
-  -- 'e', '*e', 'NAME=e', '**e'
-  pub data Arg : Type 0 where
-    value : Expr → Arg
-    star : Expr → Arg
-    key : Name → Expr → Arg
-    stars : Expr → Arg
+abbrev pub Trailers : Type 0
+Trailers = trees.Trailers Name
 
-  pub data Args : Type 0 where
-    no_args : Args
-    arg : Arg → Args → Args
+abbrev pub Arg : Type 0
+Arg = trees.Arg Name
+
+abbrev pub Args : Type 0
+Args = trees.Args Name

@@ -1,17 +1,17 @@
 -- Heights of trees. The nodes are the statements, the expressions, the places and the groups of targets. A node without parts
 -- has height 1, another 1 more than the greatest height of its parts. All else is no node: its parts belong to the node around it.
 use Rattle.std.specs.Prelude.{ℕ, suc, List, [], ◌∷◌, Option, Some, None, max, min, ◌^◌, ◌-◌}
-use Rattle.rp_tree.specs.Expressions as t
-use Rattle.rp_tree.specs.Expressions.{Expr, Form, Exprs, Maybe, Pairs, Tests, Ops, Clause, Clauses, Walk, Target, Targets, Place, Params, Plain, Trailer, Trailers, Arg, Args}
-use Rattle.rp_tree.specs.Statements as s
-use Rattle.rp_tree.specs.Statements.{Stmt, StmtForm, Stmts, MaybeStmts, Branches, Except, Excepts}
+use Rattle.rp_tree.specs.ExpressionTrees as t
+use Rattle.rp_tree.specs.ExpressionTrees.{Expr, Form, Exprs, Maybe, Pairs, Tests, Ops, Clause, Clauses, Walk, Target, Targets, Place, Params, Plain, Trailer, Trailers, Arg, Args}
+use Rattle.rp_tree.specs.StatementTrees as s
+use Rattle.rp_tree.specs.StatementTrees.{Stmt, StmtForm, Stmts, MaybeStmts, Branches, Except, Excepts}
 
 -- at what is a node, its height; at what is none, the greatest height of the nodes in it, 0 where there is none
 abbrev mutual
-  pub expr_height : Expr → ℕ
+  pub expr_height : {A : Type 0} → Expr A → ℕ
   expr_height (t.node line f) = suc (form_height f)
 
-  pub form_height : Form → ℕ
+  pub form_height : {A : Type 0} → Form A → ℕ
   form_height (t.name n) = 0
   form_height (t.int n) = 0
   form_height (t.text s) = 0
@@ -19,9 +19,9 @@ abbrev mutual
   form_height (t.tuple es) = exprs_height es
   form_height (t.list es) = exprs_height es
   form_height (t.dict ps) = pairs_height ps
-  form_height (t.list_of e cs) = max (expr_height e) (clauses_height cs)
-  form_height (t.dict_of k e cs) = max (expr_height k) (max (expr_height e) (clauses_height cs))
-  form_height (t.lambda p e) = max (params_height p) (expr_height e)
+  form_height (t.list_of b e cs) = max (expr_height e) (clauses_height cs)
+  form_height (t.dict_of b k e cs) = max (expr_height k) (max (expr_height e) (clauses_height cs))
+  form_height (t.lambda b p e) = max (params_height p) (expr_height e)
   form_height (t.cond a b c) = max (expr_height a) (max (expr_height b) (expr_height c))
   form_height (t.or es) = exprs_height es
   form_height (t.and es) = exprs_height es
@@ -32,89 +32,89 @@ abbrev mutual
   form_height (t.power a b) = max (expr_height a) (expr_height b)
   form_height (t.primary e xs) = max (expr_height e) (trailers_height xs)
 
-  pub exprs_height : Exprs → ℕ
+  pub exprs_height : {A : Type 0} → Exprs A → ℕ
   exprs_height t.no_exprs = 0
   exprs_height (t.expr e es) = max (expr_height e) (exprs_height es)
 
-  pub maybe_height : Maybe → ℕ
+  pub maybe_height : {A : Type 0} → Maybe A → ℕ
   maybe_height t.none = 0
   maybe_height (t.some e) = expr_height e
 
-  pub pairs_height : Pairs → ℕ
+  pub pairs_height : {A : Type 0} → Pairs A → ℕ
   pairs_height t.no_pairs = 0
   pairs_height (t.pair k e ps) = max (max (expr_height k) (expr_height e)) (pairs_height ps)
 
-  pub tests_height : Tests → ℕ
+  pub tests_height : {A : Type 0} → Tests A → ℕ
   tests_height t.no_tests = 0
   tests_height (t.test o e os) = max (expr_height e) (tests_height os)
 
-  pub ops_height : Ops → ℕ
+  pub ops_height : {A : Type 0} → Ops A → ℕ
   ops_height t.no_ops = 0
   ops_height (t.op o e os) = max (expr_height e) (ops_height os)
 
-  pub clause_height : Clause → ℕ
+  pub clause_height : {A : Type 0} → Clause A → ℕ
   clause_height (t.a_clause w es) = max (walk_height w) (exprs_height es)
 
-  pub clauses_height : Clauses → ℕ
+  pub clauses_height : {A : Type 0} → Clauses A → ℕ
   clauses_height t.no_clauses = 0
   clauses_height (t.clause c cs) = max (clause_height c) (clauses_height cs)
 
-  pub walk_height : Walk → ℕ
+  pub walk_height : {A : Type 0} → Walk A → ℕ
   walk_height (t.a_walk p e g) = max (target_height p) (expr_height e)
 
-  pub target_height : Target → ℕ
+  pub target_height : {A : Type 0} → Target A → ℕ
   target_height (t.to_place p) = place_height p
   target_height (t.group ps) = suc (targets_height ps)
 
-  pub targets_height : Targets → ℕ
+  pub targets_height : {A : Type 0} → Targets A → ℕ
   targets_height t.no_targets = 0
   targets_height (t.target p ps) = max (target_height p) (targets_height ps)
 
-  pub place_height : Place → ℕ
+  pub place_height : {A : Type 0} → Place A → ℕ
   place_height (t.to_name n) = 1
   place_height (t.to_attr e n g) = suc (expr_height e)
   place_height (t.to_item e i g) = suc (max (expr_height e) (expr_height i))
 
-  pub params_height : Params → ℕ
+  pub params_height : {A : Type 0} → Params A → ℕ
   params_height (t.params ps l d) = plain_height ps
 
-  pub plain_height : Plain → ℕ
+  pub plain_height : {A : Type 0} → Plain A → ℕ
   plain_height t.no_plain = 0
   plain_height (t.plain n e ps) = max (maybe_height e) (plain_height ps)
 
-  pub trailer_height : Trailer → ℕ
+  pub trailer_height : {A : Type 0} → Trailer A → ℕ
   trailer_height (t.attr n g) = 0
   trailer_height (t.item e g) = expr_height e
   trailer_height (t.slice a b c g) = max (maybe_height a) (max (maybe_height b) (maybe_height c))
   trailer_height (t.call xs g) = args_height xs
 
-  pub trailers_height : Trailers → ℕ
+  pub trailers_height : {A : Type 0} → Trailers A → ℕ
   trailers_height t.no_trailers = 0
   trailers_height (t.trailer x xs) = max (trailer_height x) (trailers_height xs)
 
-  pub arg_height : Arg → ℕ
+  pub arg_height : {A : Type 0} → Arg A → ℕ
   arg_height (t.value e) = expr_height e
   arg_height (t.star e) = expr_height e
   arg_height (t.key n e) = expr_height e
   arg_height (t.stars e) = expr_height e
 
-  pub args_height : Args → ℕ
+  pub args_height : {A : Type 0} → Args A → ℕ
   args_height t.no_args = 0
   args_height (t.arg x xs) = max (arg_height x) (args_height xs)
 
-abbrev pub option_height : Option Expr → ℕ
+abbrev pub option_height : {A : Type 0} → Option (Expr A) → ℕ
 option_height None = 0
 option_height (Some e) = expr_height e
 
-abbrev pub places_height : List Place → ℕ
+abbrev pub places_height : {A : Type 0} → List (Place A) → ℕ
 places_height [] = 0
 places_height (p ∷ ps) = max (place_height p) (places_height ps)
 
 abbrev mutual
-  pub stmt_height : Stmt → ℕ
+  pub stmt_height : {A : Type 0} → Stmt A → ℕ
   stmt_height (s.a_stmt line x) = suc (stmt_form_height x)
 
-  pub stmt_form_height : StmtForm → ℕ
+  pub stmt_form_height : {A : Type 0} → StmtForm A → ℕ
   stmt_form_height (s.evaluate e) = expr_height e
   stmt_form_height (s.assign ps e) = max (places_height ps) (expr_height e)
   stmt_form_height (s.unpack p e g) = max (target_height p) (expr_height e)
@@ -131,26 +131,26 @@ abbrev mutual
   stmt_form_height (s.while e b) = max (expr_height e) (stmts_height b)
   stmt_form_height (s.for w b) = max (walk_height w) (stmts_height b)
   stmt_form_height (s.try b hs o l) = max (stmts_height b) (max (excepts_height hs) (max (maybe_stmts_height o) (maybe_stmts_height l)))
-  stmt_form_height (s.define n ps b) = max (params_height ps) (stmts_height b)
+  stmt_form_height (s.define k n ps b) = max (params_height ps) (stmts_height b)
   stmt_form_height (s.class n b) = stmts_height b
 
   -- of a whole tree
-  pub stmts_height : Stmts → ℕ
+  pub stmts_height : {A : Type 0} → Stmts A → ℕ
   stmts_height s.no_stmts = 0
   stmts_height (s.stmt x xs) = max (stmt_height x) (stmts_height xs)
 
-  pub maybe_stmts_height : MaybeStmts → ℕ
+  pub maybe_stmts_height : {A : Type 0} → MaybeStmts A → ℕ
   maybe_stmts_height s.none = 0
   maybe_stmts_height (s.some b) = stmts_height b
 
-  pub branches_height : Branches → ℕ
+  pub branches_height : {A : Type 0} → Branches A → ℕ
   branches_height s.no_branches = 0
   branches_height (s.branch e b bs) = max (max (expr_height e) (stmts_height b)) (branches_height bs)
 
-  pub except_height : Except → ℕ
+  pub except_height : {A : Type 0} → Except A → ℕ
   except_height (s.an_except k n b) = max (option_height k) (stmts_height b)
 
-  pub excepts_height : Excepts → ℕ
+  pub excepts_height : {A : Type 0} → Excepts A → ℕ
   excepts_height s.no_excepts = 0
   excepts_height (s.except x xs) = max (except_height x) (excepts_height xs)
 

@@ -1,6 +1,10 @@
 pub mod Expressions
+pub mod ExpressionTrees
 pub mod ExpressionViews
+pub mod Guarded
 pub mod Heights
 pub mod Maps
+pub mod Marks
 pub mod Statements
+pub mod StatementTrees
 pub mod StatementViews

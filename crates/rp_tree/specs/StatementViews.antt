@@ -50,7 +50,7 @@ form_step (o.If bs x) = s.choose (branches_of bs.items) (maybe_stmts_of x)
 form_step (o.While e b) = s.while (view_expr e) (stmts_of b.items)
 form_step (o.For w b) = s.for (view_walk w) (stmts_of b.items)
 form_step (o.Try b hs x l) = s.try (stmts_of b.items) (excepts_of hs.items) (maybe_stmts_of x) (maybe_stmts_of l)
-form_step (o.Def n p b) = s.define n (view_params p) (stmts_of b.items)
+form_step (o.Def k n p b) = s.define k.0 n (view_params p) (stmts_of b.items)
 form_step (o.Class n b) = s.class n (stmts_of b.items)
 
 abbrev pub branch_step : o.Branch-F s.StmtForm (t.Expr × s.Stmts) s.Except s.Stmt → t.Expr × s.Stmts

@@ -1,72 +1,25 @@
--- Statements as values, without where they lie in memory (Python Language Reference, Simple statements and Compound
--- statements). The value of a whole tree is the list of its statements.
-use Rattle.std.specs.Prelude.{List, Option, ⊤}
-use Rattle.rp_base.specs.declared.value.Line.{Line}
-use Rattle.rp_base.specs.declared.operator.BinOp.{BinOp}
-use Rattle.rp_tree.specs.declared.parts.Named.{Named}
-use Rattle.rp_tree.specs.declared.parts.Guard.{Guard}
-use Rattle.rp_tree.specs.Expressions.{Expr, Place, Target, Walk, Params}
+-- Statements whose names are places among the names of a text. The value of a whole tree is the list of its statements.
+use Rattle.rp_base.specs.declared.value.Name.{Name}
+use Rattle.rp_tree.specs.StatementTrees as trees
+pub use Rattle.rp_tree.specs.StatementTrees.{a_stmt, evaluate, assign, unpack, aug, del, pass, break, continue, give_back, raise, assert, global, choose, while, for, try, define, class, no_stmts, stmt, none, some, no_branches, branch, an_except, no_excepts, except, IsTry, IsSimple}
 
-mutual
-  -- a statement, with the line of its first token
-  pub data Stmt : Type 0 where
-    a_stmt : Line → StmtForm → Stmt
+abbrev pub Stmt : Type 0
+Stmt = trees.Stmt Name
 
-  pub data StmtForm : Type 0 where
-    evaluate : Expr → StmtForm
-    assign : List Place → Expr → StmtForm
-    unpack : Target → Expr → Option Guard → StmtForm
-    -- place, operator and its line, right operand, mark
-    aug : Place → BinOp → Line → Expr → Option Guard → StmtForm
-    del : List Place → StmtForm
-    pass : StmtForm
-    break : StmtForm
-    continue : StmtForm
-    give_back : Option Expr → StmtForm
-    raise : Option Expr → StmtForm
-    assert : Expr → Option Expr → StmtForm
-    global : List Named → StmtForm
-    -- 'if' and each 'elif', then the block of 'else'
-    choose : Branches → MaybeStmts → StmtForm
-    while : Expr → Stmts → StmtForm
-    for : Walk → Stmts → StmtForm
-    -- block, handlers, block of 'else', block of 'finally'
-    try : Stmts → Excepts → MaybeStmts → MaybeStmts → StmtForm
-    define : Named → Params → Stmts → StmtForm
-    class : Named → Stmts → StmtForm
+abbrev pub StmtForm : Type 0
+StmtForm = trees.StmtForm Name
 
-  pub data Stmts : Type 0 where
-    no_stmts : Stmts
-    stmt : Stmt → Stmts → Stmts
+abbrev pub Stmts : Type 0
+Stmts = trees.Stmts Name
 
-  -- a block that may be missing
-  pub data MaybeStmts : Type 0 where
-    none : MaybeStmts
-    some : Stmts → MaybeStmts
+abbrev pub MaybeStmts : Type 0
+MaybeStmts = trees.MaybeStmts Name
 
-  -- tests with their blocks
-  pub data Branches : Type 0 where
-    no_branches : Branches
-    branch : Expr → Stmts → Branches → Branches
+abbrev pub Branches : Type 0
+Branches = trees.Branches Name
 
-  -- the exceptions that are handled, the name they are bound to, the block
-  pub data Except : Type 0 where
-    an_except : Option Expr → Option Named → Stmts → Except
+abbrev pub Except : Type 0
+Except = trees.Except Name
 
-  pub data Excepts : Type 0 where
-    no_excepts : Excepts
-    except : Except → Excepts → Excepts
-
-abbrev pub IsTry : StmtForm → Type 0
-IsTry (try b hs o l) = ⊤
-IsTry _ = ⊥
-
--- the simple statements (Python Language Reference, Simple statements)
-abbrev pub IsSimple : StmtForm → Type 0
-IsSimple (choose bs o) = ⊥
-IsSimple (while e b) = ⊥
-IsSimple (for w b) = ⊥
-IsSimple (try b hs o l) = ⊥
-IsSimple (define n ps b) = ⊥
-IsSimple (class n b) = ⊥
-IsSimple _ = ⊤
+abbrev pub Excepts : Type 0
+Excepts = trees.Excepts Name

@@ -1,6 +1,6 @@
 //! Expressions and their parts.
 
-use crate::parts::{Const, Guard, Named, Test};
+use crate::parts::{Block, Const, Guard, Named, Test};
 use rp_base::{BinOp, Line, Name, Text, UnOp};
 
 /// An expression (Python Language Reference, Expressions). Parentheses around one make no node.
@@ -31,12 +31,12 @@ pub enum ExprForm {
     List(Vec<Expr>),
     /// A dictionary display of keys and values.
     Dict(Vec<(Expr, Expr)>),
-    /// A list comprehension: the element, and at least one clause.
-    ListOf(Expr, Vec<Clause>),
-    /// A dictionary comprehension: key, value, and at least one clause.
-    DictOf(Expr, Expr, Vec<Clause>),
-    /// A lambda: its parameters and what it gives.
-    Lambda(Box<Params>, Expr),
+    /// A list comprehension: its code block, the element, and at least one clause.
+    ListOf(Block, Expr, Vec<Clause>),
+    /// A dictionary comprehension: its code block, key, value, and at least one clause.
+    DictOf(Block, Expr, Expr, Vec<Clause>),
+    /// A lambda: its code block, its parameters and what it gives.
+    Lambda(Block, Box<Params>, Expr),
     /// A conditional expression, `yes if test else no`.
     Cond {
         /// What is asked.
@@ -128,19 +128,22 @@ pub enum Trailer {
     Attr(Named, Option<Guard>),
     /// A subscription.
     Item(Expr, Option<Guard>),
-    /// A slicing, `[from:to:step]`.
-    Slice {
-        /// The lower bound.
-        from: Option<Expr>,
-        /// The upper bound.
-        to: Option<Expr>,
-        /// The stride.
-        step: Option<Expr>,
-        /// The mark of reading.
-        guard: Option<Guard>,
-    },
+    /// A slicing.
+    Slice(Box<Slice>, Option<Guard>),
     /// A call.
     Call(Vec<Arg>, Option<Guard>),
+}
+
+/// A slice, `from:to:step` (Python Language Reference, Slicings).
+#[derive(Drop)]
+#[cycle(expr)]
+pub struct Slice {
+    /// The lower bound.
+    pub from: Option<Expr>,
+    /// The upper bound.
+    pub to: Option<Expr>,
+    /// The stride.
+    pub step: Option<Expr>,
 }
 
 /// An argument of a call (Python Language Reference, Calls).

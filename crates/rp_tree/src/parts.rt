@@ -4,12 +4,16 @@ use rp_base::{CmpOp, Line, Name};
 
 /// A name (Python Language Reference, Identifiers) and the line that it stands on.
 #[derive(Clone, Copy, Debug)]
-pub struct Named {
-    /// The place of the name's text among the names.
-    pub name: Name,
+pub struct Named<N = Name> {
+    /// The name: in a tree that a parser made, the place of its text among the names.
+    pub name: N,
     /// The line of the name's token, from 1.
     pub line: Line,
 }
+
+/// The number of a code block, 0 until names are resolved.
+#[derive(Clone, Copy, Debug, PartialEq, Eq)]
+pub struct Block(pub usize);
 
 /// The function of RestrictedPython that a form is handed to. A form without a mark is not guarded.
 #[derive(Clone, Copy, Debug, PartialEq, Eq)]

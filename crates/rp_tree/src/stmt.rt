@@ -4,7 +4,7 @@ ghost use Rattle.std.specs.Prelude.{◌≡◌};
 ghost use Rattle.rp_tree.specs.StatementViews.{block_items};
 
 use crate::expr::{Expr, Params, Place, Target, Walk};
-use crate::parts::{Guard, Named};
+use crate::parts::{Block, Guard, Named};
 use rp_base::{BinOp, Line};
 
 /// A whole script (Python Language Reference, File input).
@@ -80,8 +80,8 @@ pub enum StmtForm {
         /// The block of `finally`.
         last: Option<Vec<Stmt>>,
     },
-    /// A function definition.
-    Def(Named, Params, Vec<Stmt>),
+    /// A function definition: its code block, its name, its parameters and its body.
+    Def(Block, Named, Params, Vec<Stmt>),
     /// A class definition.
     Class(Named, Vec<Stmt>),
 }

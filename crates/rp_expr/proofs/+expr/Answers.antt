@@ -2,15 +2,16 @@ use Rattle.std.proofs.Common.{◌≡◌, ℕ, suc, map, true, false, Some, None,
 use Rattle.std.proofs.lemmas.Result.{err_from_is_err_and}
 use Rattle.rp_tree.specs.Expressions as tree
 use Rattle.rp_tree.specs.ExpressionViews as v
-use Rattle.rp_expr.specs.Front as f
+use Rattle.rp_grammar.specs.Front as f
 use Rattle.rp_expr.specs.Gives.{Fails}
-use Rattle.rp_expr.specs.Kinds.{Tokens, first}
-use Rattle.rp_expr.specs.Reading as r
-use Rattle.rp_expr.specs.Reading.{Read, all_many, all_listed, before}
-use Rattle.rp_expr.proofs.Loops.{front_exprs, front_targets, front_pairs, front_clauses, front_trailers, front_args, front_ops, front_tests, begin_one, begin_none, answered, many_keeps, many_ends, many_fails, listed_keeps, listed_shuts, listed_ends, listed_fails}
-use Rattle.rp_expr.proofs.Turns.{ifs_short, clauses_short, trailers_short, operations_short, tests_short, ands_short, ors_short, exprs_short, pairs_short, parts_short, args_short, plains_short, alike_reads, alike_fails, operation_begins, operation_reads, operation_fails, expr_at, or_at, not_at, unary_at, primary_at, none_at, chain_step, chain_fails, chain_unread, chain_begins, chain_alone}
-use Rattle.rp_expr.proofs.Takes.{skip_within}
+use Rattle.rp_grammar.specs.Kinds.{Tokens, first}
+use Rattle.rp_grammar.specs.ExpressionReading as r
+use Rattle.rp_grammar.specs.ExpressionReading.{Read, all_many, all_listed, before}
+use Rattle.rp_grammar.proofs.Loops.{front_exprs, front_targets, front_pairs, front_clauses, front_trailers, front_args, front_ops, front_tests, begin_one, begin_none, answered, many_keeps, many_ends, listed_keeps, listed_shuts, listed_ends}
+use Rattle.rp_grammar.proofs.Turns.{ifs_short, clauses_short, trailers_short, operations_short, tests_short, ands_short, ors_short, exprs_short, pairs_short, parts_short, args_short, plains_short, alike_reads, operation_begins, operation_reads, expr_at, or_at, not_at, unary_at, primary_at, none_at, chain_step, chain_begins, chain_alone}
+use Rattle.rp_grammar.proofs.ExpressionTakes.{skip_within}
 use Rattle.rp_expr.proofs.Views.{plain_view, plains_found}
+use Rattle.rp_expr.proofs.Faults.{many_fails, listed_fails, alike_fails, operation_fails, chain_fails, chain_unread}
 use Rattle.rp_expr.proofs.+expr.Goals as goal
 
 -- ---- the readers within
@@ -173,7 +174,7 @@ operators::tests-returns-in_err-item t c =
 
 pub operators::ands-items-init : goal.operators::ands-items-init
 unfolding r.ands
-operators::ands-items-init t c = begin_one v.view_expr tree.expr _ _ _ c.args.first c.in_ok-push.ensures.items c.new-found.ensures.items
+operators::ands-items-init t c = begin_one v.view_expr tree.expr _ _ _ c.args.first c.in_ok-push.ensures.items c.in_ok-found.ensures.items
 
 pub operators::ands-items-preserved : goal.operators::ands-items-preserved
 operators::ands-items-preserved t c =
@@ -204,7 +205,7 @@ operators::ands-returns-in_err-item t c =
 
 pub operators::ors-items-init : goal.operators::ors-items-init
 unfolding r.ors
-operators::ors-items-init t c = begin_one v.view_expr tree.expr _ _ _ c.args.first c.in_ok-push.ensures.items c.new-found.ensures.items
+operators::ors-items-init t c = begin_one v.view_expr tree.expr _ _ _ c.args.first c.in_ok-push.ensures.items c.in_ok-found.ensures.items
 
 pub operators::ors-items-preserved : goal.operators::ors-items-preserved
 operators::ors-items-preserved t c =
@@ -270,7 +271,7 @@ operators::operations-returns-in_err-operand t c =
 
 pub lists::exprs-items-init : goal.lists::exprs-items-init
 unfolding r.exprs
-lists::exprs-items-init t c = begin_one v.view_expr tree.expr _ _ _ c.args.first c.in_ok-push.ensures.items c.new-found.ensures.items
+lists::exprs-items-init t c = begin_one v.view_expr tree.expr _ _ _ c.args.first c.in_ok-push.ensures.items c.in_ok-found.ensures.items
 
 pub lists::exprs-items-preserved : goal.lists::exprs-items-preserved
 lists::exprs-items-preserved t c =
@@ -309,7 +310,7 @@ lists::exprs-returns-in_err-item t c =
 
 pub lists::pairs-items-init : goal.lists::pairs-items-init
 unfolding r.pairs
-lists::pairs-items-init t c = begin_one v.view_pair r.with_pair _ _ _ c.args.first c.in_ok-push.ensures.items c.new-found.ensures.items
+lists::pairs-items-init t c = begin_one v.view_pair r.with_pair _ _ _ c.args.first c.in_ok-push.ensures.items c.in_ok-found.ensures.items
 
 pub lists::pairs-items-preserved : goal.lists::pairs-items-preserved
 lists::pairs-items-preserved t c =
@@ -348,7 +349,7 @@ lists::pairs-returns-in_err-item t c =
 
 pub clauses::parts-items-init : goal.clauses::parts-items-init
 unfolding r.parts
-clauses::parts-items-init t c = begin_one v.view_target tree.target _ _ _ c.args.first c.in_ok-push.ensures.items c.new-found.ensures.items
+clauses::parts-items-init t c = begin_one v.view_target tree.target _ _ _ c.args.first c.in_ok-push.ensures.items c.in_ok-found.ensures.items
 
 pub clauses::parts-items-preserved : goal.clauses::parts-items-preserved
 clauses::parts-items-preserved t c =

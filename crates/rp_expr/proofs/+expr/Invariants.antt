@@ -1,10 +1,10 @@
 use Rattle.std.proofs.Common.{◌≡◌, suc, ◌+◌, ◌*◌, ◌≤◌, ◌-◌, length, map, true, false, Some}
 use Rattle.rp_tree.specs.Expressions as t
 use Rattle.rp_tree.specs.ExpressionViews as v
-use Rattle.rp_expr.specs.Front as f
-use Rattle.rp_expr.specs.Reading as r
-use Rattle.rp_expr.specs.Reading.{all_many, all_listed, before}
-use Rattle.rp_expr.proofs.Loops.{front}
+use Rattle.rp_grammar.specs.Front as f
+use Rattle.rp_grammar.specs.ExpressionReading as r
+use Rattle.rp_grammar.specs.ExpressionReading.{all_many, all_listed, before}
+use Rattle.rp_grammar.proofs.Loops.{front}
 use Rattle.rp_expr.proofs.Views.{plain_view}
 use Rattle.rp_expr.proofs.+expr.Given as goal
 

@@ -1,10 +1,10 @@
 use Rattle.std.proofs.Common.{◌≡◌, ℕ, ◌-◌, ◌<◌, Bool, true, false, not, ◌&&◌, List, [], ◌∷◌, ◌++◌, map, sym, ap, subst, ◌∙◌, arith}
 use Rattle.rp_tree.specs.Statements.{Stmts}
 use Rattle.rp_tree.specs.StatementViews as w
-use Rattle.rp_expr.specs.Kinds.{Tokens, first}
+use Rattle.rp_grammar.specs.Kinds.{Tokens, first}
 use Rattle.rp_parse.specs.Gives.{Fails, block_of, context_of, deep}
-use Rattle.rp_parse.specs.Reading as p
-use Rattle.rp_parse.specs.Reading.{block_at}
+use Rattle.rp_grammar.specs.StatementReading as p
+use Rattle.rp_grammar.specs.StatementReading.{block_at}
 use Rattle.rp_parse.proofs.Turns.{def_at}
 use Rattle.rp_parse.proofs.Rounds.{block_none, block_read, block_unread, block_ends, block_keeps, block_fails, block_over, elifs_begin, elifs_end, elifs_keep, elifs_fail, elifs_over, handlers_begin, handlers_end, handlers_keep, handlers_fail, handlers_over, all_handled, none_comes, one_comes}
 use Rattle.rp_parse.proofs.+statements.Goals as goal

@@ -1,11 +1,11 @@
 use Rattle.std.proofs.Common.{◌≡◌, ◌+◌, ◌*◌, map}
 use Rattle.rp_tree.specs.Statements as s
 use Rattle.rp_tree.specs.StatementViews as w
-use Rattle.rp_expr.proofs.Loops.{front}
-use Rattle.rp_parse.specs.Statements.{joined}
+use Rattle.rp_grammar.proofs.Loops.{front}
+use Rattle.rp_grammar.specs.Statements.{joined}
 use Rattle.rp_parse.specs.Gives.{ahead, block_of, context_of, deep, with_branch}
-use Rattle.rp_parse.specs.Reading as p
-use Rattle.rp_parse.specs.Reading.{block_at}
+use Rattle.rp_grammar.specs.StatementReading as p
+use Rattle.rp_grammar.specs.StatementReading.{block_at}
 use Rattle.rp_parse.proofs.+statements.Given as goal
 
 -- ---- each call goes down in height, or in rank at the same height

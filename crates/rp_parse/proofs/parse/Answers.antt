@@ -1,15 +1,16 @@
 use Rattle.std.proofs.Common.{◌≡◌, ℕ, ◌+◌, ◌≤◌, Option, None, Some, ap, ◌∙◌, arith}
 use Rattle.rp_tree.specs.StatementViews.{view_stmts}
-use Rattle.rp_expr.specs.Kinds.{Tokens, line_at}
-use Rattle.rp_expr.proofs.Basics.{some_is}
+use Rattle.rp_grammar.specs.Kinds.{Tokens, line_at}
+use Rattle.rp_grammar.proofs.Basics.{some_is}
 use Rattle.rp_parse.specs.declared.fault.ParseFault.TheVariants as fault
 use Rattle.rp_parse.specs.declared.fault.Stop.TheVariants as stop
 use Rattle.rp_parse.specs.Gives.{told}
 use Rattle.rp_parse.proofs.Stops.{told_is}
-use Rattle.rp_parse.proofs.Complete.{none_spelled, one_tree}
-use Rattle.rp_parse.proofs.Longest.{place_told, syntax_place}
-use Rattle.rp_parse.proofs.Low.{within_shallow}
-use Rattle.rp_parse.proofs.Sound.{program_spells}
+use Rattle.rp_grammar.proofs.StatementComplete.{none_spelled, one_tree}
+use Rattle.rp_grammar.proofs.Longest.{place_told, syntax_place}
+use Rattle.rp_grammar.proofs.Low.{within_shallow}
+use Rattle.rp_grammar.proofs.StatementSound.{program_spells}
+use Rattle.rp_grammar.proofs.Unmarked.{leaves_spelled, no_guards_spelled}
 use Rattle.rp_parse.proofs.parse.Goals as goal
 
 enough : 450 + 200 ≤ 650
@@ -23,6 +24,12 @@ returns-in-Ok-clause-only c = λ tree spelled. one_tree (program_spells 650 c.ar
 
 pub returns-in-Ok-clause-one : goal.returns-in-Ok-clause-one
 returns-in-Ok-clause-one c = λ a b p q. one_tree p q
+
+pub returns-in-Ok-clause-plain : goal.returns-in-Ok-clause-plain
+returns-in-Ok-clause-plain c = no_guards_spelled (view_stmts c.in-Ok.body.items) c.args.tokens.now (program_spells 650 c.args.tokens.now (view_stmts c.in-Ok.body.items, c.in-Ok.field-0-1.now) c.in-Ok.ensures)
+
+pub returns-in-Ok-clause-leaves : goal.returns-in-Ok-clause-leaves
+returns-in-Ok-clause-leaves c = leaves_spelled (view_stmts c.in-Ok.body.items) c.args.tokens.now (program_spells 650 c.args.tokens.now (view_stmts c.in-Ok.body.items, c.in-Ok.field-0-1.now) c.in-Ok.ensures)
 
 pub returns-in-Err-Memory-clause-one : goal.returns-in-Err-Memory-clause-one
 returns-in-Err-Memory-clause-one c = λ a b p q. one_tree p q

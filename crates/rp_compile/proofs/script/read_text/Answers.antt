@@ -1,7 +1,7 @@
 use Rattle.std.proofs.Common.{map, arith, subst}
 use Rattle.std.proofs.lemmas.Result.{err_from_is_err_and}
-use Rattle.rp_parse.specs.Program.{Spells}
-use Rattle.rp_parse.proofs.Low.{within_shallow, within_weaker}
+use Rattle.rp_grammar.specs.Program.{Spells}
+use Rattle.rp_grammar.proofs.Low.{within_shallow, within_weaker}
 use Rattle.rp_tree.specs.StatementViews.{view_stmt, view_tree}
 use Rattle.rp_compile.specs.View.{statement_view}
 use Rattle.rp_compile.proofs.Forms.{one_source}

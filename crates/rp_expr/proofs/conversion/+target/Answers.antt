@@ -7,9 +7,10 @@ use Rattle.std.proofs.lemmas.Result.{err_from_is_err_and}
 use Rattle.rp_tree.specs.declared.expr.Expr.{Expr}
 use Rattle.rp_tree.specs.Expressions as tree
 use Rattle.rp_tree.specs.ExpressionViews as v
-use Rattle.rp_expr.specs.Conversion.{one_more, as_target}
-use Rattle.rp_expr.proofs.Loops.{front_targets, fails}
+use Rattle.rp_grammar.specs.Conversion.{one_more, as_target}
+use Rattle.rp_grammar.proofs.Loops.{front_targets}
 use Rattle.rp_expr.proofs.Views.{group_made, targets_in, joined, joined_more, to_some}
+use Rattle.rp_expr.proofs.Faults.{fails}
 use Rattle.rp_expr.proofs.conversion.+target.Goals as goal
 
 pub group_of-returns : goal.group_of-returns

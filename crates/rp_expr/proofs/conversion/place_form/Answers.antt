@@ -2,7 +2,7 @@ use Rattle.std.proofs.Common.{Option, subst, sym, ap, ◌∙◌}
 use Rattle.rp_tree.specs.Expressions as t
 use Rattle.rp_tree.specs.ExpressionViews as v
 use Rattle.rp_tree.proofs.ExpressionEquations.{form_primary}
-use Rattle.rp_expr.specs.Conversion.{place_form}
+use Rattle.rp_grammar.specs.Conversion.{place_form}
 use Rattle.rp_expr.specs.Gives.{Gives}
 use Rattle.rp_expr.proofs.conversion.place_form.Goals as goal
 

@@ -1,9 +1,9 @@
 use Rattle.std.proofs.Common.{Option, subst, sym, ap, ◌∙◌}
 use Rattle.rp_tree.specs.Expressions as t
 use Rattle.rp_tree.specs.ExpressionViews as v
-use Rattle.rp_expr.specs.Conversion.{trailed_place}
+use Rattle.rp_grammar.specs.Conversion.{trailed_place}
 use Rattle.rp_expr.specs.Gives.{Gives}
-use Rattle.rp_expr.proofs.Basics.{some_is}
+use Rattle.rp_grammar.proofs.Basics.{some_is}
 use Rattle.rp_expr.proofs.Views.{last_place}
 use Rattle.rp_expr.proofs.conversion.primary_place.Goals as goal
 

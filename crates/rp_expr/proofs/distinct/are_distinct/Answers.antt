@@ -1,5 +1,5 @@
 use Rattle.std.proofs.Common.{Bool, ap}
-use Rattle.rp_expr.proofs.Repeats.{sorted_rise}
+use Rattle.rp_grammar.proofs.Repeats.{sorted_rise}
 use Rattle.rp_expr.proofs.Views.{to_some}
 use Rattle.rp_expr.proofs.distinct.are_distinct.Goals as goal
 

@@ -1,13 +1,13 @@
 use Rattle.std.proofs.Common.{◌≡◌, ◌++◌, List, Option, map, sym, ap, subst, ◌∙◌}
 use Rattle.rp_base.specs.declared.value.Name.{Name}
-use Rattle.rp_tree.specs.declared.parts.Named.{Named}
+use Rattle.rp_tree.specs.Expressions.{Named}
 use Rattle.rp_tree.specs.declared.expr.Expr.{Expr}
 use Rattle.rp_tree.specs.declared.expr.Arg.TheViews.{out-Params}
 use Rattle.rp_tree.specs.ExpressionViews as v
 use Rattle.rp_tree.proofs.ExpressionEquations.{params_out}
-use Rattle.rp_expr.specs.Expressions.{parameter_names, plain_names, named_names}
+use Rattle.rp_grammar.specs.Expressions.{parameter_names, plain_names, named_names}
 use Rattle.rp_expr.specs.Gives.{Gives}
-use Rattle.rp_expr.proofs.Basics.{some_is}
+use Rattle.rp_grammar.proofs.Basics.{some_is}
 use Rattle.rp_expr.proofs.Views.{to_some}
 use Rattle.rp_expr.proofs.distinct.parameter_names.Goals as goal
 

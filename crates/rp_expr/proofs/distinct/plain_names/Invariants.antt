@@ -1,6 +1,6 @@
 use Rattle.std.proofs.Common.{◌≡◌, ◌++◌, map, drop}
 use Rattle.rp_tree.specs.ExpressionViews as v
-use Rattle.rp_expr.specs.Expressions.{plain_names}
+use Rattle.rp_grammar.specs.Expressions.{plain_names}
 use Rattle.rp_expr.proofs.distinct.plain_names.Given as goal
 
 abbrev pub invariant-plain : goal.invariant-plain

@@ -1,8 +1,9 @@
 use Rattle.rp_tree.specs.Expressions.{Expr}
 use Rattle.rp_tree.specs.ExpressionViews as v
-use Rattle.rp_expr.specs.Kinds.{Tokens}
-use Rattle.rp_expr.specs.Expressions.{IsExpr}
-use Rattle.rp_expr.proofs.Laws.{answers_sound, answers_read, expr_spelled, expr_read}
+use Rattle.rp_grammar.specs.Kinds.{Tokens}
+use Rattle.rp_grammar.specs.Expressions.{IsExpr}
+use Rattle.rp_grammar.proofs.ExpressionLaws.{expr_spelled, expr_read}
+use Rattle.rp_expr.proofs.Faults.{answers_sound, answers_read}
 use Rattle.rp_expr.proofs.readers.expr.Goals as goal
 
 pub returns : goal.returns

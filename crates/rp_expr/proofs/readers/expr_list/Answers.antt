@@ -1,8 +1,9 @@
 use Rattle.rp_tree.specs.Expressions.{Expr}
 use Rattle.rp_tree.specs.ExpressionViews as v
-use Rattle.rp_expr.specs.Kinds.{Tokens}
-use Rattle.rp_expr.specs.Expressions.{IsExprs}
-use Rattle.rp_expr.proofs.Laws.{answers_sound, answers_read, list_spelled, list_read}
+use Rattle.rp_grammar.specs.Kinds.{Tokens}
+use Rattle.rp_grammar.specs.Expressions.{IsExprs}
+use Rattle.rp_grammar.proofs.ExpressionLaws.{list_spelled, list_read}
+use Rattle.rp_expr.proofs.Faults.{answers_sound, answers_read}
 use Rattle.rp_expr.proofs.readers.expr_list.Goals as goal
 
 pub returns : goal.returns

@@ -1,8 +1,9 @@
 use Rattle.rp_tree.specs.Expressions.{Params}
 use Rattle.rp_tree.specs.ExpressionViews as v
-use Rattle.rp_expr.specs.Kinds.{Tokens}
-use Rattle.rp_expr.specs.Expressions.{IsParams, any}
-use Rattle.rp_expr.proofs.Laws.{answers_sound, answers_read, params_spelled, params_read}
+use Rattle.rp_grammar.specs.Kinds.{Tokens}
+use Rattle.rp_grammar.specs.Expressions.{IsParams, any}
+use Rattle.rp_grammar.proofs.ExpressionLaws.{params_spelled, params_read}
+use Rattle.rp_expr.proofs.Faults.{answers_sound, answers_read}
 use Rattle.rp_expr.proofs.readers.params.Goals as goal
 
 pub returns : goal.returns

@@ -1,9 +1,10 @@
 use Rattle.rp_tree.specs.Expressions.{Target}
 use Rattle.rp_tree.specs.ExpressionViews as v
-use Rattle.rp_expr.specs.Kinds.{Tokens}
+use Rattle.rp_grammar.specs.Kinds.{Tokens}
 use Rattle.rp_base.specs.declared.value.Line.{Line}
-use Rattle.rp_expr.specs.Expressions.{IsTarget}
-use Rattle.rp_expr.proofs.Laws.{answers_sound, answers_read, target_spelled, target_read}
+use Rattle.rp_grammar.specs.Expressions.{IsTarget}
+use Rattle.rp_grammar.proofs.ExpressionLaws.{target_spelled, target_read}
+use Rattle.rp_expr.proofs.Faults.{answers_sound, answers_read}
 use Rattle.rp_expr.proofs.readers.target.Goals as goal
 
 pub returns : goal.returns

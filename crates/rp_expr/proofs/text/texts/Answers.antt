@@ -1,9 +1,9 @@
 use Rattle.std.proofs.Common.{◌≡◌, ◌++◌, ℕ, List, None, sym, ap, ◌∙◌, option_map}
 use Rattle.std.specs.Str.{chars}
-use Rattle.rp_expr.specs.Front.{text_of}
-use Rattle.rp_expr.specs.Kinds.{Tokens, first}
-use Rattle.rp_expr.specs.Reading.{Read, before}
-use Rattle.rp_expr.proofs.Texts.{all_texts, texts_alone, texts_begin, texts_keep, texts_end, answered}
+use Rattle.rp_grammar.specs.Front.{text_of}
+use Rattle.rp_grammar.specs.Kinds.{Tokens, first}
+use Rattle.rp_grammar.specs.ExpressionReading.{Read, before}
+use Rattle.rp_grammar.proofs.Texts.{all_texts, texts_alone, texts_begin, texts_keep, texts_end, answered}
 use Rattle.rp_expr.proofs.text.texts.Goals as goal
 
 abbrev before_joined : List ℕ → Read (List ℕ) → Read (List ℕ)

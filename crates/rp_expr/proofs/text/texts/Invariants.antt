@@ -1,6 +1,6 @@
 use Rattle.std.proofs.Common.{◌≡◌, ◌++◌, length}
-use Rattle.rp_expr.specs.Reading as r
-use Rattle.rp_expr.proofs.Texts.{all_texts}
+use Rattle.rp_grammar.specs.ExpressionReading as r
+use Rattle.rp_grammar.proofs.Texts.{all_texts}
 use Rattle.rp_expr.proofs.text.texts.Given as goal
 
 abbrev pub invariant-texts : goal.invariant-texts

@@ -1,6 +1,6 @@
 use Rattle.std.proofs.Common.{◌≡◌, length}
 use Rattle.std.specs.List.{list_all}
-use Rattle.rp_parse.specs.Statements.{is_free}
+use Rattle.rp_grammar.specs.Statements.{is_free}
 use Rattle.rp_parse.specs.Gives.{context_of}
 use Rattle.rp_parse.proofs.context.are_free.Given as goal
 

@@ -1,8 +1,8 @@
 use Rattle.std.proofs.Common.{◌≡◌}
 use Rattle.rp_tree.specs.StatementViews as w
-use Rattle.rp_parse.specs.Statements.{joined}
+use Rattle.rp_grammar.specs.Statements.{joined}
 use Rattle.rp_parse.specs.Gives.{ahead, context_of, deep}
-use Rattle.rp_parse.specs.Reading as p
+use Rattle.rp_grammar.specs.StatementReading as p
 use Rattle.rp_parse.proofs.lines.line.Given as goal
 
 abbrev pub invariant-items : goal.invariant-items

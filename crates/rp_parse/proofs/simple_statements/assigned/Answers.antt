@@ -2,8 +2,8 @@ use Rattle.std.proofs.Common.{◌≡◌, ℕ, ◌-◌, ◌<◌, map, Option, Non
 use Rattle.std.proofs.lemmas.List.{map_push}
 use Rattle.std.proofs.lemmas.Result.{err_from_is_err_and}
 use Rattle.rp_tree.specs.ExpressionViews as v
-use Rattle.rp_expr.specs.Front.{is_equal}
-use Rattle.rp_expr.specs.Kinds.{first}
+use Rattle.rp_grammar.specs.Front.{is_equal}
+use Rattle.rp_grammar.specs.Kinds.{first}
 use Rattle.rp_parse.proofs.Turns.{assigned_ends, assigned_keeps, assigned_unread, assigned_unplaced, assigned_over}
 use Rattle.rp_parse.proofs.simple_statements.assigned.Goals as goal
 

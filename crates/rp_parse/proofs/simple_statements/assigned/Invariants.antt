@@ -1,8 +1,8 @@
 use Rattle.std.proofs.Common.{◌≡◌, map}
 use Rattle.rp_tree.specs.ExpressionViews as v
-use Rattle.rp_expr.specs.Reading.{before}
+use Rattle.rp_grammar.specs.ExpressionReading.{before}
 use Rattle.rp_parse.specs.Gives.{deep, with_places}
-use Rattle.rp_parse.specs.Reading as p
+use Rattle.rp_grammar.specs.StatementReading as p
 use Rattle.rp_parse.proofs.simple_statements.assigned.Given as goal
 
 abbrev pub invariant-values : goal.invariant-values

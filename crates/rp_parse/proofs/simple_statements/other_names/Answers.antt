@@ -1,13 +1,14 @@
 use Rattle.std.proofs.Common.{◌≡◌, ◌<◌, ℕ, List, [], ◌∷◌, length, map, Bool, true, false, Option, Some, sym, ap, subst, ◌∙◌, arith}
 use Rattle.std.proofs.lemmas.Result.{err_from_is_err_and}
-use Rattle.rp_tree.specs.declared.parts.Named.{Named}
-use Rattle.rp_expr.specs.Front as f
+use Rattle.rp_tree.specs.Expressions.{Named}
+use Rattle.rp_grammar.specs.Front as f
 use Rattle.rp_expr.specs.Gives.{Fails}
-use Rattle.rp_expr.specs.Kinds.{Tokens, first, skip}
-use Rattle.rp_expr.specs.Reading as r
-use Rattle.rp_expr.specs.Reading.{Read}
-use Rattle.rp_expr.proofs.Loops.{begin_one, answered, many_keeps, many_ends, many_fails}
+use Rattle.rp_grammar.specs.Kinds.{Tokens, first, skip}
+use Rattle.rp_grammar.specs.ExpressionReading as r
+use Rattle.rp_grammar.specs.ExpressionReading.{Read}
+use Rattle.rp_grammar.proofs.Loops.{begin_one, answered, many_keeps, many_ends}
 use Rattle.rp_parse.proofs.Turns.{front_list, map_same, names_short}
+use Rattle.rp_expr.proofs.Faults.{many_fails}
 use Rattle.rp_parse.proofs.simple_statements.other_names.Goals as goal
 
 abbrev cons : Named → List Named → List Named
@@ -20,7 +21,7 @@ abbrev next_name : Tokens → Read Named
 next_name us = r.name_by (first (skip us)) (skip us)
 
 pub items-init : goal.items-init
-items-init c = begin_one same cons _ _ _ c.args.first c.in_ok-push.ensures.items c.new-found.ensures.items
+items-init c = begin_one same cons _ _ _ c.args.first c.in_ok-push.ensures.items c.in_ok-found.ensures.items
 
 pub items-preserved : goal.items-preserved
 items-preserved c =

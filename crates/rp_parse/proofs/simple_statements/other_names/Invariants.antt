@@ -1,8 +1,8 @@
 use Rattle.std.proofs.Common.{◌≡◌, List, [], ◌∷◌, length, map}
-use Rattle.rp_expr.specs.Front as f
-use Rattle.rp_expr.specs.Kinds.{first, skip}
-use Rattle.rp_expr.specs.Reading as r
-use Rattle.rp_expr.proofs.Loops.{front}
+use Rattle.rp_grammar.specs.Front as f
+use Rattle.rp_grammar.specs.Kinds.{first, skip}
+use Rattle.rp_grammar.specs.ExpressionReading as r
+use Rattle.rp_grammar.proofs.Loops.{front}
 use Rattle.rp_parse.specs.Gives.{other_names}
 use Rattle.rp_parse.proofs.simple_statements.other_names.Given as goal
 

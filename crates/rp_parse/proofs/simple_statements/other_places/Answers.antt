@@ -2,22 +2,23 @@ use Rattle.std.proofs.Common.{◌≡◌, ◌<◌, ℕ, List, [], ◌∷◌, leng
 use Rattle.std.proofs.lemmas.Result.{err_from_is_err_and}
 use Rattle.rp_tree.specs.Expressions.{Place}
 use Rattle.rp_tree.specs.ExpressionViews as v
-use Rattle.rp_expr.specs.Front as f
-use Rattle.rp_expr.specs.Kinds.{Tokens, first}
-use Rattle.rp_expr.specs.Reading as r
-use Rattle.rp_expr.proofs.Loops.{begin_one, answered, listed_keeps, listed_shuts, listed_ends, listed_fails}
-use Rattle.rp_expr.proofs.Takes.{skip_within}
-use Rattle.rp_expr.proofs.Turns.{alike_reads, alike_fails}
+use Rattle.rp_grammar.specs.Front as f
+use Rattle.rp_grammar.specs.Kinds.{Tokens, first}
+use Rattle.rp_grammar.specs.ExpressionReading as r
+use Rattle.rp_grammar.proofs.Loops.{begin_one, answered, listed_keeps, listed_shuts, listed_ends}
+use Rattle.rp_grammar.proofs.ExpressionTakes.{skip_within}
+use Rattle.rp_grammar.proofs.Turns.{alike_reads}
 use Rattle.rp_parse.specs.Gives.{deep}
-use Rattle.rp_parse.specs.Reading.{place}
+use Rattle.rp_grammar.specs.StatementReading.{place}
 use Rattle.rp_parse.proofs.Turns.{front_list, places_short}
+use Rattle.rp_expr.proofs.Faults.{listed_fails, alike_fails}
 use Rattle.rp_parse.proofs.simple_statements.other_places.Goals as goal
 
 abbrev cons : Place → List Place → List Place
 cons p ps = p ∷ ps
 
 pub items-init : goal.items-init
-items-init c = begin_one v.view_place cons _ _ _ c.args.first c.in_ok-push.ensures.items c.new-found.ensures.items
+items-init c = begin_one v.view_place cons _ _ _ c.args.first c.in_ok-push.ensures.items c.in_ok-found.ensures.items
 
 pub items-preserved : goal.items-preserved
 items-preserved c =

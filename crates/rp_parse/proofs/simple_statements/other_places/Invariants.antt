@@ -1,10 +1,10 @@
 use Rattle.std.proofs.Common.{◌≡◌, List, [], ◌∷◌, length, map}
 use Rattle.rp_tree.specs.ExpressionViews as v
-use Rattle.rp_expr.specs.Front as f
-use Rattle.rp_expr.specs.Reading as r
-use Rattle.rp_expr.proofs.Loops.{front}
+use Rattle.rp_grammar.specs.Front as f
+use Rattle.rp_grammar.specs.ExpressionReading as r
+use Rattle.rp_grammar.proofs.Loops.{front}
 use Rattle.rp_parse.specs.Gives.{deep, other_places}
-use Rattle.rp_parse.specs.Reading.{place}
+use Rattle.rp_grammar.specs.StatementReading.{place}
 use Rattle.rp_parse.proofs.simple_statements.other_places.Given as goal
 
 abbrev pub invariant-items : goal.invariant-items

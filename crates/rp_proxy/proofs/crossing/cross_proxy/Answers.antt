@@ -3,7 +3,7 @@ use Rattle.rp_base.specs.declared.value.OpEnd.TheVariants.{Memory}
 use Rattle.rp_decl.specs.View.{name_text}
 use Rattle.rp_trail.specs.View.{op_name, verdict_view}
 use Rattle.rp_proxy.proofs.Decisions.{monitor-keeping}
-use Rattle.rp_proxy.proofs.Pushed.{pushed-IsFaithful, pushed-OnlyDecides, pushed-decided}
+use Rattle.rp_proxy.proofs.Pushed.{pushed-IsFaithful, pushed-OnlyDecides, pushed-decided, pushed-entry}
 use Rattle.rp_proxy.specs.Decide.{refusal}
 use Rattle.rp_proxy.proofs.Worlds.{asked_keeps, after-IsFaithful, after-OnlyDecides}
 use Rattle.rp_proxy.proofs.crossing.cross_proxy.Goals as goal
@@ -86,3 +86,15 @@ returns-in-Some-clause-decided c =
     let refused : (Some c.in-Some.raised) ≡ refusal (name_text w.names (op_name c.args.op)) (verdict_view w.decl.permissions c.verdict_of-verdict.result) = rw (← c.in-Some.is) c.in_ok-refusal.ensures in
     rw (c.in-Ok.ensures.charged, c.in-Ok.ensures.pushed)
     (pushed-decided w c.args.at c.args.op c.tag-class.result c.row-row.result c.verdict_of-verdict.result c.verdict_of-verdict.new.interaction c.requires.faithful c.tag-class.ensures c.row-row.ensures c.verdict_of-verdict.ensures.verdict c.verdict_of-verdict.ensures.asked c.requires.named (Some c.in-Some.raised) few refused)
+
+pub returns-in-None-clause-logged : goal.returns-in-None-clause-logged
+returns-in-None-clause-logged c =
+    let w = c.args.world.now in
+    rw c.in-Ok.ensures.pushed
+    (pushed-entry w c.args.at c.args.op c.tag-class.result c.row-row.result c.verdict_of-verdict.result c.verdict_of-verdict.new.interaction c.requires.faithful c.tag-class.ensures c.row-row.ensures c.verdict_of-verdict.ensures.verdict c.verdict_of-verdict.ensures.asked c.requires.named)
+
+pub returns-in-Some-clause-logged : goal.returns-in-Some-clause-logged
+returns-in-Some-clause-logged c =
+    let w = c.args.world.now in
+    rw c.in-Ok.ensures.pushed
+    (pushed-entry w c.args.at c.args.op c.tag-class.result c.row-row.result c.verdict_of-verdict.result c.verdict_of-verdict.new.interaction c.requires.faithful c.tag-class.ensures c.row-row.ensures c.verdict_of-verdict.ensures.verdict c.verdict_of-verdict.ensures.asked c.requires.named)

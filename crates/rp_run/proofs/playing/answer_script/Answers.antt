@@ -2,7 +2,7 @@ use Rattle.std.proofs.Common.{◌≡◌, ◌∙◌, codes, refl, sym, subst, Non
 use Rattle.rp_decl.specs.Records.{Declarations}
 use Rattle.rp_decl.specs.View.{declarations_view}
 use Rattle.rp_load.specs.Load.{fault_of}
-use Rattle.rp_load.proofs.Later.{declarations-later}
+use Rattle.rp_proxy.proofs.LaterRecords.{declarations-later}
 use Rattle.rp_run.proofs.Ascii.{chars-ascii}
 use Rattle.rp_run.proofs.Later.{IsReadInto-later}
 use Rattle.rp_run.proofs.Sayings.{long_read, whole_read, tells_long_script, tells_refused, tells_session}

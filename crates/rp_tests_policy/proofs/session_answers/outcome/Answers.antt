@@ -4,7 +4,7 @@ use Rattle.rp_decl.specs.Consistency.{IsConsistent}
 use Rattle.rp_decl.specs.InOrder.{AreInOrder}
 use Rattle.rp_decl.specs.Places.{GrowsTo}
 use Rattle.rp_decl.proofs.Growth.{GrowsTo-trans}
-use Rattle.rp_load.proofs.Later.{declarations-later, held-later}
+use Rattle.rp_proxy.proofs.LaterRecords.{declarations-later, held-later}
 use Rattle.rp_tests_policy.proofs.session_answers.outcome.Goals as goal
 
 pub outcome_over-requires-clause-first : goal.outcome_over-requires-clause-first

@@ -1,5 +1,5 @@
 use Rattle.std.proofs.Common.{arith}
-use Rattle.rp_parse.proofs.Low.{within_weaker}
+use Rattle.rp_grammar.proofs.Low.{within_weaker}
 use Rattle.rp_tests_scripts.proofs.answers.parsed.Goals as goal
 
 pub parse-requires : goal.parse-requires

@@ -1,0 +1,10 @@
+pub mod Kinds
+pub mod Expressions
+pub mod Front
+pub mod Conversion
+pub mod ExpressionReading
+pub mod Brackets
+pub mod Statements
+pub mod StatementReading
+pub mod Program
+pub mod Leaves

@@ -1,6 +1,0 @@
-use Rattle.std.proofs.Common.{◌≡◌, take}
-use Rattle.rp_interact.specs.Granted.{least_allowing}
-use Rattle.rp_interact.proofs.grants.least_allowing.Given as goal
-
-abbrev pub invariant-loop-group : goal.invariant-loop-group
-invariant-loop-group l = l.least ≡ least_allowing (take l.group-index l.groups) l.permission

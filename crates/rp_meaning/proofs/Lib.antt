@@ -1,0 +1,2 @@
+pub mod BindingLaws
+pub mod Laws

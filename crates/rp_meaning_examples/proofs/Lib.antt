@@ -1,0 +1,13 @@
+mod Words
+mod Building
+mod Playing
+mod Shop
+mod WithoutMonitor
+mod Values
+mod Control
+mod Functions
+mod Limits
+mod Lent
+mod Refused
+mod Trusted
+mod Handed

@@ -1,0 +1,10 @@
+use Rattle.rp_ops.specs.Outcome.{gives, state_of}
+use Rattle.rp_methods.specs.Lists.{counted, number}
+use Rattle.rp_methods.proofs.Ends.{passes-on}
+use Rattle.rp_methods.proofs.sequences.count_in.Goals as goal
+
+pub returns-in_err-count-clause-plain : goal.returns-in_err-count-clause-plain
+returns-in_err-count-clause-plain c =
+    passes-on c.from_residual.result c.in_err-count.field-0.0 (state_of c.args.store.now c.count_of.new.meter.left)
+    (counted 0 c.args.x.now c.args.elements.now (state_of c.args.store.now c.args.meter.now.left)) (λ n s. gives (number n) s)
+    c.from_residual.ensures.1 c.in_err-count.ensures.plain

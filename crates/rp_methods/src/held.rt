@@ -1,0 +1,45 @@
+//! What lists and dicts hold.
+ghost use Rattle.std.specs.Prelude.{◌≡◌, length, IfOk};
+ghost use Rattle.rp_store.specs.Heap.{IsHeld, Names, elements_at};
+ghost use Rattle.rp_store.specs.Kept.{AreSound};
+ghost use Rattle.rp_store.specs.Parts.{IsList};
+
+use rp_base::{Memory, Oid, Value};
+use rp_store::{Object, Store};
+use std::alloc::Global;
+
+/// The elements of a list.
+pub(crate) fn list_at(store: &Store, at: Oid) -> &[Value]
+    requires held { IsHeld store.now.heap at }
+    requires list { Names store.now.heap IsList at }
+    ensures value { result.now ≡ elements_at store.now.heap at }
+    ensures sound { AreSound store.now.heap result.now }
+{
+    match store.object(at) {
+        Object::List(elements) => elements,
+        _ => &[],
+    }
+}
+
+/// The number of elements of a list.
+pub(crate) fn list_length(store: &Store, at: Oid) -> usize
+    requires held { IsHeld store.now.heap at }
+    requires list { Names store.now.heap IsList at }
+    ensures { result ≡ length (elements_at store.now.heap at) }
+{
+    list_at(store, at).len()
+}
+
+/// Copies of values.
+///
+/// # Errors
+/// `Memory` where a growth was refused, or the count of a text's owners is full.
+pub(crate) fn copies(alloc: Global, values: &[Value]) -> Result<Vec<Value>, Memory>
+    ensures { IfOk result (λ all. all.items ≡ values.now) }
+{
+    let mut all = Vec::with_capacity(alloc, values.len())?;
+    for value in values {
+        all.push(value.copy()?)?;
+    }
+    Ok(all)
+}

@@ -1,0 +1,158 @@
+//! Calls of built-in methods.
+#![tactic(auto, using(rp_store::proofs::Shapes::goes_on))]
+
+ghost use Rattle.std.specs.Prelude.{◌≡◌, ◌≤◌, ℕ, IfOk, IsTrue};
+ghost use Rattle.rp_store.specs.Heap.{IsHeld, Names};
+ghost use Rattle.rp_store.specs.Kept.{AreSound, IsSound};
+ghost use Rattle.rp_store.specs.Parts.{IsList};
+ghost use Rattle.rp_store.specs.Shape.{KeepsShape};
+ghost use Rattle.rp_ops.specs.Outcome.{Meets, state_of};
+ghost use Rattle.rp_methods.specs.Counts.{is_done_here, receiver_of};
+ghost use Rattle.rp_methods.specs.Lists.{list_method, tuple_method};
+ghost use Rattle.rp_methods.specs.Methods.{method, method_of, object_method};
+
+use crate::counts::{counts_of, receiver_of};
+use crate::fault::Fault;
+use crate::list_changes::{append, extend, insert, reverse};
+use crate::list_takes::pop;
+use crate::sequences::{count, index, remove};
+use rp_base::{Meter, NativeId, Oid, OpEnd, Side, Value};
+use rp_store::{Object, Store};
+use std::alloc::Global;
+
+/// `a.m(..)` of a built-in method of lists and tuples, on values whose access decisions have been made (Python
+/// Standard Library, Built-in Types). An argument may be lent, and what is walked out of it is stored lent. What a method
+/// makes belongs to the owner of the receiver. Steps that were taken are not given back. The methods of dicts and texts are
+/// not built yet (`is_done_here`).
+///
+/// # Errors
+/// - `Raised` with `TypeError`, whose text is `call` where the receiver has no such method, whatever the arguments,
+///   `arguments` where the method takes another number of them, or `argument` where one is of another kind; with
+///   `ValueError` and the text `value`, where no element is equal to what is searched for; with `IndexError` and the text
+///   `index`, where an index is outside; or what walking or comparing an argument raises.
+/// - `StopSteps` where no step is left, `StopCells` where the cells are over the limit.
+/// - `Memory` where a growth was refused, there is none for the text of an exception, or the count of a text's owners is
+///   full.
+pub fn call_method(
+    alloc: Global,
+    store: &mut Store,
+    meter: &mut Meter,
+    _names: &rp_base::Names,
+    side: Side,
+    receiver: &Value,
+    id: NativeId,
+    args: &[Value],
+) -> Result<Value, OpEnd>
+    requires receiver { IsSound store.old.heap receiver.now }
+    requires done_here { IsTrue (is_done_here (receiver_of store.old.heap receiver.now)) }
+    requires args { AreSound store.old.heap args.now }
+    ensures plain { Meets result (state_of store.new meter.new.left) (method side receiver.now id args.now (state_of store.old meter.old.left)) }
+    ensures sound { IfOk result (λ v. IsSound store.new.heap v) }
+    ensures shape { KeepsShape store.old.heap store.new.heap }
+    ensures fewer { meter.new.left ≤ meter.old.left }
+{
+    match counts_of(receiver_of(store, receiver), id) {
+        Some(counts) => {
+            if !counts.take(args.len()) {
+                return Err(Fault::Arguments.end(alloc));
+            }
+            method_of(alloc, store, meter, side, receiver, id, args)
+        }
+        None => Err(Fault::Call.end(alloc)),
+    }
+}
+
+/// The method, whatever the number of its arguments.
+fn method_of(
+    alloc: Global,
+    store: &mut Store,
+    meter: &mut Meter,
+    side: Side,
+    receiver: &Value,
+    id: NativeId,
+    args: &[Value],
+) -> Result<Value, OpEnd>
+    requires receiver { IsSound store.old.heap receiver.now }
+    requires args { AreSound store.old.heap args.now }
+    ensures plain { Meets result (state_of store.new meter.new.left) (method_of side receiver.now id args.now (state_of store.old meter.old.left)) }
+    ensures sound { IfOk result (λ v. IsSound store.new.heap v) }
+    ensures shape { KeepsShape store.old.heap store.new.heap }
+    ensures fewer { meter.new.left ≤ meter.old.left }
+{
+    match receiver {
+        Value::Rock(_) => Err(Fault::Call.end(alloc)),
+        Value::Ref(at) => object_method(alloc, store, meter, *at, id, args),
+        Value::Prox(at) => object_method(alloc, store, meter, *at, id, args),
+    }
+}
+
+fn object_method(
+    alloc: Global,
+    store: &mut Store,
+    meter: &mut Meter,
+    at: Oid,
+    id: NativeId,
+    args: &[Value],
+) -> Result<Value, OpEnd>
+    requires held { IsHeld store.old.heap at }
+    requires args { AreSound store.old.heap args.now }
+    ensures plain { Meets result (state_of store.new meter.new.left) (object_method at id args.now (state_of store.old meter.old.left)) }
+    ensures sound { IfOk result (λ v. IsSound store.new.heap v) }
+    ensures shape { KeepsShape store.old.heap store.new.heap }
+    ensures fewer { meter.new.left ≤ meter.old.left }
+{
+    match store.object(at) {
+        Object::List(_) => list_method(alloc, store, meter, at, id, args),
+        Object::Tuple(_) => tuple_method(alloc, store, meter, at, id, args),
+        _ => Err(Fault::Call.end(alloc)),
+    }
+}
+
+fn list_method(
+    alloc: Global,
+    store: &mut Store,
+    meter: &mut Meter,
+    at: Oid,
+    id: NativeId,
+    args: &[Value],
+) -> Result<Value, OpEnd>
+    requires held { IsHeld store.old.heap at }
+    requires list { Names store.old.heap IsList at }
+    requires args { AreSound store.old.heap args.now }
+    ensures plain { Meets result (state_of store.new meter.new.left) (list_method at id args.now (state_of store.old meter.old.left)) }
+    ensures sound { IfOk result (λ v. IsSound store.new.heap v) }
+    ensures shape { KeepsShape store.old.heap store.new.heap }
+    ensures fewer { meter.new.left ≤ meter.old.left }
+{
+    match id {
+        NativeId::Append => append(alloc, store, at, args),
+        NativeId::Extend => extend(alloc, store, meter, at, args),
+        NativeId::Insert => insert(alloc, store, at, args),
+        NativeId::Pop => pop(alloc, store, at, args),
+        NativeId::Remove => remove(alloc, store, meter, at, args),
+        NativeId::Index => index(alloc, store, meter, at, args),
+        NativeId::Count => count(alloc, store, meter, at, args),
+        NativeId::Reverse => reverse(alloc, store, at, args),
+        _ => Err(Fault::Call.end(alloc)),
+    }
+}
+
+fn tuple_method(
+    alloc: Global,
+    store: &Store,
+    meter: &mut Meter,
+    at: Oid,
+    id: NativeId,
+    args: &[Value],
+) -> Result<Value, OpEnd>
+    requires { IsHeld store.now.heap at }
+    ensures plain { Meets result (state_of store.now meter.new.left) (tuple_method at id args.now (state_of store.now meter.old.left)) }
+    ensures sound { IfOk result (λ v. IsSound store.now.heap v) }
+    ensures fewer { meter.new.left ≤ meter.old.left }
+{
+    match id {
+        NativeId::Index => index(alloc, store, meter, at, args),
+        NativeId::Count => count(alloc, store, meter, at, args),
+        _ => Err(Fault::Call.end(alloc)),
+    }
+}

@@ -1,0 +1,7 @@
+use Rattle.rp_native.specs.Objects.{IsContainerOf}
+use Rattle.rp_native.proofs.Growths.{KeepsShape-Gains}
+use Rattle.rp_native.proofs.calls.call_native.Goals as goal
+
+pub returns-then-is_empty-clause-shape : goal.returns-then-is_empty-clause-shape
+returns-then-is_empty-clause-shape c =
+    KeepsShape-Gains (IsContainerOf c.args.side) c.args.store.now.heap c.one_given.new.store.heap c.one_given.ensures.grown

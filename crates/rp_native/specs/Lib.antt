@@ -1,0 +1,11 @@
+pub mod Copies
+pub mod Counts
+pub mod Extremes
+pub mod Faults
+pub mod Functions
+pub mod Needs
+pub mod Numbers
+pub mod Objects
+pub mod Print
+pub mod Saturated
+pub mod Walked

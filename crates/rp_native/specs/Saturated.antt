@@ -1,0 +1,5 @@
+-- Numbers held at the greatest one of 64 bits.
+use Rattle.std.specs.Prelude.{ℕ, ◌-◌, ◌^◌, min}
+
+abbrev pub saturated : ℕ → ℕ
+saturated n = min n (2 ^ 64 - 1)

@@ -1,0 +1,74 @@
+//! How many arguments the built-in functions take.
+ghost use Rattle.std.specs.Prelude.{◌≡◌};
+ghost use Rattle.rp_native.specs.Counts.{function_takes, is_done_here, is_function};
+
+use rp_base::NativeId;
+
+/// Whether it is a function, and no method.
+pub(crate) fn is_function(id: NativeId) -> bool
+    ensures { result ≡ is_function id }
+{
+    match id {
+        NativeId::Len
+        | NativeId::Bool
+        | NativeId::Str
+        | NativeId::Int
+        | NativeId::Abs
+        | NativeId::Sum
+        | NativeId::Min
+        | NativeId::Max
+        | NativeId::Sorted
+        | NativeId::List
+        | NativeId::Tuple
+        | NativeId::Dict
+        | NativeId::Range
+        | NativeId::Enumerate
+        | NativeId::Zip
+        | NativeId::GetAttr
+        | NativeId::SetAttr
+        | NativeId::Print
+        | NativeId::RemoveSecurityProxy => true,
+        _ => false,
+    }
+}
+
+/// Whether `call_native` may be called with it. Not with what its caller does, `getattr`, `setattr` and `print`, nor with what
+/// is not built yet: `range`, `sorted`, `enumerate` and `zip`.
+pub fn is_done_here(id: NativeId) -> bool
+    ensures { result ≡ is_done_here id }
+{
+    match id {
+        NativeId::GetAttr
+        | NativeId::SetAttr
+        | NativeId::Print
+        | NativeId::Range
+        | NativeId::Sorted
+        | NativeId::Enumerate
+        | NativeId::Zip => false,
+        _ => true,
+    }
+}
+
+/// Whether a function takes so many arguments (Python Standard Library, Built-in Functions). A method is no function.
+pub fn function_takes(id: NativeId, count: usize) -> bool
+    ensures { result ≡ function_takes id count }
+{
+    match id {
+        NativeId::Len
+        | NativeId::Bool
+        | NativeId::Str
+        | NativeId::Int
+        | NativeId::Abs
+        | NativeId::Sum
+        | NativeId::Sorted
+        | NativeId::Enumerate
+        | NativeId::RemoveSecurityProxy => count == 1,
+        NativeId::Min | NativeId::Max => count >= 1,
+        NativeId::List | NativeId::Tuple | NativeId::Dict => count <= 1,
+        NativeId::Range => count >= 1 && count <= 3,
+        NativeId::GetAttr => count == 2 || count == 3,
+        NativeId::SetAttr => count == 3,
+        NativeId::Zip | NativeId::Print => true,
+        _ => false,
+    }
+}
