@@ -30,9 +30,8 @@ receiver_of heap (value.Rock r) = rock_receiver r
 receiver_of heap (value.Ref at) = option_map_or content_receiver (content_at heap at) receiver.Other
 receiver_of heap (value.Prox at) = option_map_or content_receiver (content_at heap at) receiver.Other
 
--- whose methods are built: not yet those of dicts and texts
+-- whose methods are built: not yet those of texts
 abbrev pub is_done_here : Receiver → Bool
-is_done_here receiver.Dict = false
 is_done_here receiver.Text = false
 is_done_here _ = true
 
@@ -59,11 +58,22 @@ tuple_counts native.Index = just 1
 tuple_counts native.Count = just 1
 tuple_counts _ = None
 
+abbrev pub dict_counts : NativeId → Option Counts
+dict_counts native.Get = between 1 2
+dict_counts native.Keys = just 0
+dict_counts native.Values = just 0
+dict_counts native.Items = just 0
+dict_counts native.Pop = between 1 2
+dict_counts native.SetDefault = between 1 2
+dict_counts native.Update = just 1
+dict_counts native.Copy = just 0
+dict_counts _ = None
+
 -- the counts that a method takes; none where such a receiver does not have it
 abbrev pub counts_of : Receiver → NativeId → Option Counts
 counts_of receiver.List id = list_counts id
 counts_of receiver.Tuple id = tuple_counts id
-counts_of receiver.Dict id = None
+counts_of receiver.Dict id = dict_counts id
 counts_of receiver.Text id = None
 counts_of receiver.Other id = None
 

@@ -1,4 +1,5 @@
 pub mod Faults
 pub mod Counts
 pub mod Lists
+pub mod Dicts
 pub mod Methods

@@ -11,6 +11,7 @@ use Rattle.rp_store.specs.Object as object
 use Rattle.rp_store.specs.Object.{Content}
 use Rattle.rp_ops.specs.Outcome.{State, Outcome}
 use Rattle.rp_methods.specs.Counts.{counts_of, receiver_of, takes}
+use Rattle.rp_methods.specs.Dicts.{dict_method}
 use Rattle.rp_methods.specs.Faults.{no_method, wrong_arguments}
 use Rattle.rp_methods.specs.Lists.{list_method, tuple_method}
 use Rattle.rp_methods.specs.declared.counts.Counts.{Counts}
@@ -18,6 +19,7 @@ use Rattle.rp_methods.specs.declared.counts.Counts.{Counts}
 abbrev pub content_method : Oid → Content → NativeId → List Value → State → Outcome Value
 content_method at (object.list xs) id args s = list_method at id args s
 content_method at (object.tuple xs) id args s = tuple_method at id args s
+content_method at (object.dict es) id args s = dict_method at id args s
 content_method at c id args s = no_method s
 
 abbrev pub object_method : Oid → NativeId → List Value → State → Outcome Value

@@ -3,7 +3,7 @@ ghost use Rattle.std.specs.Prelude.{◌≡◌, IsTrue};
 ghost use Rattle.std.specs.Option.{option_map_or};
 ghost use Rattle.rp_store.specs.Heap.{IsHeld, content_at};
 ghost use Rattle.rp_store.specs.Kept.{IsSound};
-ghost use Rattle.rp_methods.specs.Counts.{between, content_receiver, counts_of, is_done_here, just, list_counts, method_takes, receiver_of, rock_receiver, takes, tuple_counts};
+ghost use Rattle.rp_methods.specs.Counts.{between, content_receiver, counts_of, dict_counts, is_done_here, just, list_counts, method_takes, receiver_of, rock_receiver, takes, tuple_counts};
 
 use rp_base::{NativeId, Oid, Rock, Value};
 use rp_store::{Object, Store};
@@ -35,14 +35,14 @@ impl Counts {
     }
 }
 
-/// Whether the methods of a value are built: not yet those of dicts and texts.
+/// Whether the methods of a value are built: not yet those of texts.
 pub fn is_done_here(store: &Store, receiver: &Value) -> bool
     requires { IsSound store.now.heap receiver.now }
     ensures { result ≡ is_done_here (receiver_of store.now.heap receiver.now) }
 {
     match receiver_of(store, receiver) {
-        Receiver::Dict | Receiver::Text => false,
-        Receiver::List | Receiver::Tuple | Receiver::Other => true,
+        Receiver::Text => false,
+        Receiver::List | Receiver::Tuple | Receiver::Dict | Receiver::Other => true,
     }
 }
 
@@ -98,7 +98,7 @@ pub(crate) fn counts_of(receiver: Receiver, id: NativeId) -> Option<Counts>
     match receiver {
         Receiver::List => list_counts(id),
         Receiver::Tuple => tuple_counts(id),
-        Receiver::Dict => None,
+        Receiver::Dict => dict_counts(id),
         Receiver::Text => None,
         Receiver::Other => None,
     }
@@ -138,6 +138,22 @@ fn tuple_counts(id: NativeId) -> Option<Counts>
     match id {
         NativeId::Index => just(1),
         NativeId::Count => just(1),
+        _ => None,
+    }
+}
+
+fn dict_counts(id: NativeId) -> Option<Counts>
+    ensures { result ≡ dict_counts id }
+{
+    match id {
+        NativeId::Get => between(1, 2),
+        NativeId::Keys => just(0),
+        NativeId::Values => just(0),
+        NativeId::Items => just(0),
+        NativeId::Pop => between(1, 2),
+        NativeId::SetDefault => between(1, 2),
+        NativeId::Update => just(1),
+        NativeId::Copy => just(0),
         _ => None,
     }
 }

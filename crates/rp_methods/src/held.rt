@@ -1,11 +1,14 @@
 //! What lists and dicts hold.
 ghost use Rattle.std.specs.Prelude.{◌≡◌, length, IfOk};
+ghost use Rattle.std.specs.List.{All};
 ghost use Rattle.rp_store.specs.Heap.{IsHeld, Names, elements_at};
-ghost use Rattle.rp_store.specs.Kept.{AreSound};
-ghost use Rattle.rp_store.specs.Parts.{IsList};
+ghost use Rattle.rp_store.specs.Kept.{AreSound, IsEntry};
+ghost use Rattle.rp_store.specs.Parts.{IsDict, IsList};
+ghost use Rattle.rp_methods.specs.Dicts.{entries_of};
 
-use rp_base::{Memory, Oid, Value};
-use rp_store::{Object, Store};
+use rp_base::{Memory, Oid, Rock, Value};
+use rp_dict::Dict;
+use rp_store::{Key, Object, Store};
 use std::alloc::Global;
 
 /// The elements of a list.
@@ -28,6 +31,19 @@ pub(crate) fn list_length(store: &Store, at: Oid) -> usize
     ensures { result ≡ length (elements_at store.now.heap at) }
 {
     list_at(store, at).len()
+}
+
+/// The entries of a dict.
+pub(crate) fn dict_at(store: &Store, at: Oid) -> &Dict<Key, (Rock, Value)>
+    requires held { IsHeld store.now.heap at }
+    requires dict { Names store.now.heap IsDict at }
+    ensures value { result.now ≡ entries_of store.now.heap at }
+    ensures sound { All (IsEntry store.now.heap) result.now }
+{
+    match store.object(at) {
+        Object::Dict(entries) => entries,
+        _ => unreachable!(),
+    }
 }
 
 /// Copies of values.

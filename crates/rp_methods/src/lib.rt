@@ -1,12 +1,16 @@
-//! The built-in methods of lists and tuples, on values whose access decisions have been made.
+//! The built-in methods of lists, tuples and dicts, on values whose access decisions have been made.
 #![tactic(auto)]
 
 mod counts;
+mod dict_keys;
+mod dict_pairs;
+mod dict_views;
 mod fault;
 mod held;
 mod list_changes;
 mod list_takes;
 mod methods;
+mod missing;
 mod places;
 mod search;
 mod sequences;

@@ -4,14 +4,19 @@
 ghost use Rattle.std.specs.Prelude.{◌≡◌, ◌≤◌, ℕ, IfOk, IsTrue};
 ghost use Rattle.rp_store.specs.Heap.{IsHeld, Names};
 ghost use Rattle.rp_store.specs.Kept.{AreSound, IsSound};
-ghost use Rattle.rp_store.specs.Parts.{IsList};
+ghost use Rattle.rp_store.specs.Parts.{IsDict, IsList};
 ghost use Rattle.rp_store.specs.Shape.{KeepsShape};
 ghost use Rattle.rp_ops.specs.Outcome.{Meets, state_of};
 ghost use Rattle.rp_methods.specs.Counts.{is_done_here, receiver_of};
+ghost use Rattle.rp_methods.specs.Dicts.{dict_method};
 ghost use Rattle.rp_methods.specs.Lists.{list_method, tuple_method};
 ghost use Rattle.rp_methods.specs.Methods.{method, method_of, object_method};
 
 use crate::counts::{counts_of, receiver_of};
+use crate::dict_keys;
+use crate::dict_keys::{get, setdefault};
+use crate::dict_pairs::{items, update};
+use crate::dict_views::{copy, keys, values};
 use crate::fault::Fault;
 use crate::list_changes::{append, extend, insert, reverse};
 use crate::list_takes::pop;
@@ -20,16 +25,18 @@ use rp_base::{Meter, NativeId, Oid, OpEnd, Side, Value};
 use rp_store::{Object, Store};
 use std::alloc::Global;
 
-/// `a.m(..)` of a built-in method of lists and tuples, on values whose access decisions have been made (Python
+/// `a.m(..)` of a built-in method of lists, tuples and dicts, on values whose access decisions have been made (Python
 /// Standard Library, Built-in Types). An argument may be lent, and what is walked out of it is stored lent. What a method
-/// makes belongs to the owner of the receiver. Steps that were taken are not given back. The methods of dicts and texts are
-/// not built yet (`is_done_here`).
+/// makes belongs to the owner of the receiver. Steps that were taken are not given back. The methods of texts are not
+/// built yet (`is_done_here`).
 ///
 /// # Errors
 /// - `Raised` with `TypeError`, whose text is `call` where the receiver has no such method, whatever the arguments,
 ///   `arguments` where the method takes another number of them, or `argument` where one is of another kind; with
 ///   `ValueError` and the text `value`, where no element is equal to what is searched for; with `IndexError` and the text
-///   `index`, where an index is outside; or what walking or comparing an argument raises.
+///   `index`, where an index is outside; with `TypeError` and the text `key`, where an argument can be no key; with
+///   `KeyError` and the key as it is shown inside a container, where `pop` finds neither the key nor a default; or what
+///   walking or comparing an argument raises.
 /// - `StopSteps` where no step is left, `StopCells` where the cells are over the limit.
 /// - `Memory` where a growth was refused, there is none for the text of an exception, or the count of a text's owners is
 ///   full.
@@ -104,6 +111,7 @@ fn object_method(
     match store.object(at) {
         Object::List(_) => list_method(alloc, store, meter, at, id, args),
         Object::Tuple(_) => tuple_method(alloc, store, meter, at, id, args),
+        Object::Dict(_) => dict_method(alloc, store, at, id, args),
         _ => Err(Fault::Call.end(alloc)),
     }
 }
@@ -153,6 +161,33 @@ fn tuple_method(
     match id {
         NativeId::Index => index(alloc, store, meter, at, args),
         NativeId::Count => count(alloc, store, meter, at, args),
+        _ => Err(Fault::Call.end(alloc)),
+    }
+}
+
+fn dict_method(
+    alloc: Global,
+    store: &mut Store,
+    at: Oid,
+    id: NativeId,
+    args: &[Value],
+) -> Result<Value, OpEnd>
+    requires held { IsHeld store.old.heap at }
+    requires dict { Names store.old.heap IsDict at }
+    requires args { AreSound store.old.heap args.now }
+    ensures plain { (steps : ℕ) → Meets result (state_of store.new steps) (dict_method at id args.now (state_of store.old steps)) }
+    ensures sound { IfOk result (λ v. IsSound store.new.heap v) }
+    ensures shape { KeepsShape store.old.heap store.new.heap }
+{
+    match id {
+        NativeId::Get => get(alloc, store, at, args),
+        NativeId::Keys => keys(alloc, store, at, args),
+        NativeId::Values => values(alloc, store, at, args),
+        NativeId::Items => items(alloc, store, at, args),
+        NativeId::Pop => dict_keys::pop(alloc, store, at, args),
+        NativeId::SetDefault => setdefault(alloc, store, at, args),
+        NativeId::Update => update(alloc, store, at, args),
+        NativeId::Copy => copy(alloc, store, at, args),
         _ => Err(Fault::Call.end(alloc)),
     }
 }

@@ -4,3 +4,7 @@ pub mod Growths
 pub mod Lines
 pub mod Orders
 pub mod Outcomes
+pub mod RangeNumbers
+pub mod StableOrders
+pub mod TableRows
+pub mod ValueOrders

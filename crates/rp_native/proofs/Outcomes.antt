@@ -5,7 +5,7 @@ use Rattle.rp_base.specs.declared.value.OpEnd.TheVariants as end
 use Rattle.rp_ops.specs.Outcome.{Meets, Outcome, State, gives, on_value}
 
 -- another end than a value passes through
-meets-passes : {A B : Type 0} (e : OpEnd) (s : State) (o : Outcome A) (go : A → State → Outcome B) → Meets {A = A} (Err e) s o → Meets {A = B} (Err e) s (on_value o go)
+pub meets-passes : {A B : Type 0} (e : OpEnd) (s : State) (o : Outcome A) (go : A → State → Outcome B) → Meets {A = A} (Err e) s o → Meets {A = B} (Err e) s (on_value o go)
 meets-passes (end.Raised r) s o go h = ap (λ o. on_value o go) h
 meets-passes end.StopSteps s o go h = ap (λ o. on_value o go) h
 meets-passes end.StopCells s o go h = ap (λ o. on_value o go) h

@@ -31,9 +31,6 @@ abbrev pub is_done_here : NativeId → Bool
 is_done_here GetAttr = false
 is_done_here SetAttr = false
 is_done_here Print = false
-is_done_here Range = false
-is_done_here Sorted = false
-is_done_here Enumerate = false
 is_done_here Zip = false
 is_done_here _ = true
 

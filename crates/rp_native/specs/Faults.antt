@@ -15,6 +15,7 @@ raised_by fault.Argument = record { kind = TypeError; text = codes "argument" }
 raised_by fault.Length = record { kind = TypeError; text = codes "len" }
 raised_by fault.Digits = record { kind = ValueError; text = codes "int" }
 raised_by fault.Empty = record { kind = ValueError; text = codes "empty" }
+raised_by fault.Step = record { kind = ValueError; text = codes "range" }
 
 abbrev pub fails : {A : Type 0} → Fault → State → Outcome A
 fails fault s = ends (raised (raised_by fault)) s

@@ -1,6 +1,6 @@
 -- Calls of the built-in functions on values whose access decisions have been made (Python Standard Library, Built-in Functions): first what is
--- called, then the count of the arguments, then the function. `getattr`, `setattr` and `print` are done by the caller, and are not called here; `range`,
--- `sorted`, `enumerate` and `zip` are not defined yet.
+-- called, then the count of the arguments, then the function. `getattr`, `setattr` and `print` are done by the caller, and are not called here; `zip` is not
+-- defined yet.
 use Rattle.std.specs.Prelude.{ℕ, not, List, [], ◌∷◌, length, if◌then◌else◌}
 use Rattle.rp_base.specs.declared.native.NativeId.{NativeId}
 use Rattle.rp_base.specs.declared.native.NativeId.TheVariants as native
@@ -19,6 +19,9 @@ use Rattle.rp_native.specs.Counts.{is_function, function_takes}
 use Rattle.rp_native.specs.Extremes.{chosen, extreme}
 use Rattle.rp_native.specs.Faults.{fails}
 use Rattle.rp_native.specs.Numbers.{abs, int, len}
+use Rattle.rp_native.specs.Ranges.{range}
+use Rattle.rp_native.specs.Sorted.{sorted}
+use Rattle.rp_native.specs.Tables.{enumerate}
 use Rattle.rp_native.specs.Walked.{sum}
 use Rattle.rp_native.specs.declared.extremes.Extreme.TheVariants as extremes
 use Rattle.rp_native.specs.declared.fault.Fault.TheVariants as fault
@@ -56,20 +59,24 @@ one_given names side native.Max v s = extreme extremes.Greatest v s
 one_given names side native.List v s = sequence_copy side sequence.List v s
 one_given names side native.Tuple v s = sequence_copy side sequence.Tuple v s
 one_given names side native.Dict v s = dict_copy side v s
+one_given names side native.Sorted v s = sorted side v s
+one_given names side native.Range v s = range side (v ∷ []) s
+one_given names side native.Enumerate v s = enumerate side v s
 one_given names side native.RemoveSecurityProxy v s = gives (plain_value v) s
 one_given names side id v s = fails fault.Call s
 
 -- of two arguments or more
-abbrev pub more_given : NativeId → List Value → State → Outcome Value
-more_given native.Min vs s = chosen extremes.Least vs s
-more_given native.Max vs s = chosen extremes.Greatest vs s
-more_given id vs s = fails fault.Call s
+abbrev pub more_given : Side → NativeId → List Value → State → Outcome Value
+more_given side native.Min vs s = chosen extremes.Least vs s
+more_given side native.Max vs s = chosen extremes.Greatest vs s
+more_given side native.Range vs s = range side vs s
+more_given side id vs s = fails fault.Call s
 
 -- a function that takes so many
 abbrev pub counted : List (List ℕ) → Side → NativeId → List Value → State → Outcome Value
 counted names side id [] s = none_given side id s
 counted names side id (v ∷ []) s = one_given names side id v s
-counted names side id (v ∷ w ∷ more) s = more_given id (v ∷ w ∷ more) s
+counted names side id (v ∷ w ∷ more) s = more_given side id (v ∷ w ∷ more) s
 
 -- a call of a built-in function with these arguments
 abbrev pub function : List (List ℕ) → Side → NativeId → List Value → State → Outcome Value

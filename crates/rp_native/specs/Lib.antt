@@ -6,6 +6,12 @@ pub mod Functions
 pub mod Needs
 pub mod Numbers
 pub mod Objects
+pub mod OrderSteps
 pub mod Print
+pub mod RangeView
+pub mod Ranges
 pub mod Saturated
+pub mod Sorted
+pub mod TableView
+pub mod Tables
 pub mod Walked

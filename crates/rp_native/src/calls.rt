@@ -15,8 +15,11 @@ use crate::extremes::{Extreme, chosen, extreme_of};
 use crate::fault::Fault;
 use crate::numbers::{abs, len};
 use crate::objects::new_container;
+use crate::ranges::{range, range_to};
+use crate::sorts::sorted;
 use crate::spelling::int;
 use crate::sums::sum;
+use crate::tables::enumerate;
 use rp_base::{Meter, Names, NativeId, OpEnd, Rock, Side, Value};
 use rp_dict::Dict;
 use rp_ops::{Sequence, truth};
@@ -28,14 +31,14 @@ use std::alloc::Global;
 /// Library, Built-in Functions). What is walked out of a proxy is lent. What is made is the side's. Each element that
 /// is walked takes a step; a list, a tuple or a dict costs a cell and one for each element or entry, a new text its
 /// bytes. `getattr`, `setattr` and `print`, and `len` of an instance whose class has `__len__`, are for the caller to
-/// do. `range`, `sorted`, `enumerate` and `zip` are not built yet (`is_done_here`).
+/// do. `zip` is not built yet (`is_done_here`).
 ///
 /// # Errors
 /// - `Raised` with `TypeError`, whose text is `call`, where a method or a function that the caller does is called,
 ///   `arguments`, where so many arguments are not taken, `argument`, where one of them is of a kind that is not taken,
 ///   `len`, where it has no length, or `iterate`, where it cannot be walked.
-/// - `Raised` with `ValueError`, whose text is `int`, where a text spells no number, or `empty`, where there is no
-///   least or greatest.
+/// - `Raised` with `ValueError`, whose text is `int`, where a text spells no number, `empty`, where there is no
+///   least or greatest, or `range`, where a range goes by a step of 0.
 /// - `Raised` with `OverflowError` and the text `int`, where a number is outside 64 bits, and with what showing raises.
 /// - `StopSteps` where no step is left, `StopCells` where the cells are over the limit.
 /// - `Memory` where a growth was refused, there is none for the text of the exception, or the count of a text's owners
@@ -69,7 +72,7 @@ pub fn call_native(
     if rest.is_empty() {
         return one_given(alloc, store, meter, names, side, id, first);
     }
-    more_given(alloc, store, id, args)
+    more_given(alloc, store, side, id, args)
 }
 
 /// A function of no argument.
@@ -118,20 +121,32 @@ fn one_given(
         NativeId::List => sequence_copy(alloc, store, meter, side, Sequence::List, value),
         NativeId::Tuple => sequence_copy(alloc, store, meter, side, Sequence::Tuple, value),
         NativeId::Dict => dict_copy(alloc, store, side, value),
+        NativeId::Sorted => sorted(alloc, store, meter, side, value),
+        NativeId::Range => range_to(alloc, store, side, value),
+        NativeId::Enumerate => enumerate(alloc, store, meter, side, value),
         NativeId::RemoveSecurityProxy => plain_value(value),
         _ => Err(Fault::Call.end(alloc)),
     }
 }
 
 /// A function of two arguments or more.
-fn more_given(alloc: Global, store: &Store, id: NativeId, args: &[Value]) -> Result<Value, OpEnd>
-    requires sound { AreSound store.now.heap args.now }
-    ensures plain { (s : State) → Meets result s (more_given id args.now s) }
-    ensures sound { IfOk result (λ v. IsSound store.now.heap v) }
+#[tactic(auto, using(crate::proofs::Growths::growths))]
+fn more_given(
+    alloc: Global,
+    store: &mut Store,
+    side: Side,
+    id: NativeId,
+    args: &[Value],
+) -> Result<Value, OpEnd>
+    requires sound { AreSound store.old.heap args.now }
+    ensures plain { (steps : ℕ) → Meets result (state_of store.new steps) (more_given side id args.now (state_of store.old steps)) }
+    ensures sound { IfOk result (λ v. IsSound store.new.heap v) }
+    ensures grown { Gains (IsContainerOf side) store.old.heap store.new.heap }
 {
     match id {
         NativeId::Min => chosen(alloc, Extreme::Least, args),
         NativeId::Max => chosen(alloc, Extreme::Greatest, args),
+        NativeId::Range => range(alloc, store, side, args),
         _ => Err(Fault::Call.end(alloc)),
     }
 }

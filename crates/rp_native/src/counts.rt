@@ -32,19 +32,13 @@ pub(crate) fn is_function(id: NativeId) -> bool
     }
 }
 
-/// Whether `call_native` may be called with it. Not with what its caller does, `getattr`, `setattr` and `print`, nor with what
-/// is not built yet: `range`, `sorted`, `enumerate` and `zip`.
+/// Whether `call_native` may be called with it. Not with what its caller does, `getattr`, `setattr` and `print`, nor
+/// with `zip`, which is not built yet.
 pub fn is_done_here(id: NativeId) -> bool
     ensures { result ≡ is_done_here id }
 {
     match id {
-        NativeId::GetAttr
-        | NativeId::SetAttr
-        | NativeId::Print
-        | NativeId::Range
-        | NativeId::Sorted
-        | NativeId::Enumerate
-        | NativeId::Zip => false,
+        NativeId::GetAttr | NativeId::SetAttr | NativeId::Print | NativeId::Zip => false,
         _ => true,
     }
 }

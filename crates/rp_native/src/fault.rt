@@ -22,6 +22,8 @@ pub enum Fault {
     Digits,
     /// There is no least and no greatest of nothing.
     Empty,
+    /// A range goes by a step of 0.
+    Step,
 }
 
 impl Fault {
@@ -30,7 +32,7 @@ impl Fault {
     {
         match self {
             Fault::Call | Fault::Count | Fault::Argument | Fault::Length => Kind::TypeError,
-            Fault::Digits | Fault::Empty => Kind::ValueError,
+            Fault::Digits | Fault::Empty | Fault::Step => Kind::ValueError,
         }
     }
 
@@ -44,6 +46,7 @@ impl Fault {
             Fault::Length => "len",
             Fault::Digits => "int",
             Fault::Empty => "empty",
+            Fault::Step => "range",
         }
     }
 

@@ -10,8 +10,11 @@ mod need;
 mod numbers;
 mod objects;
 mod print;
+mod ranges;
+mod sorts;
 mod spelling;
 mod sums;
+mod tables;
 
 pub use calls::call_native;
 pub use counts::{function_takes, is_done_here};
@@ -22,3 +25,5 @@ pub use extremes::Extreme;
 pub use fault::Fault;
 pub use need::{Need, needs};
 pub use print::print_line;
+#[doc(hidden)]
+pub use ranges::Bounds;

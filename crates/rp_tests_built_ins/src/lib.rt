@@ -6,6 +6,8 @@ mod answers;
 #[cfg(test)]
 mod calls;
 #[cfg(test)]
+mod dict_tests;
+#[cfg(test)]
 mod displays;
 #[cfg(test)]
 mod expressions;
@@ -17,6 +19,8 @@ mod list_tests;
 mod need_tests;
 #[cfg(test)]
 mod soundness;
+#[cfg(test)]
+mod walk_tests;
 #[cfg(test)]
 mod words;
 #[cfg(test)]

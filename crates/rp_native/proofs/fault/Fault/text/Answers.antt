@@ -25,3 +25,7 @@ returns-in-Digits c = rw c.in-Digits.is refl
 pub returns-in-Empty : goal.returns-in-Empty
 unfolding chars
 returns-in-Empty c = rw c.in-Empty.is refl
+
+pub returns-in-Step : goal.returns-in-Step
+unfolding chars
+returns-in-Step c = rw c.in-Step.is refl

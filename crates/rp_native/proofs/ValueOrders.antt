@@ -1,0 +1,55 @@
+-- Values that are all numbers or all texts are ordered by their keys.
+use Rattle.std.proofs.Common.{◌≡◌, ℤ, int_lt, pos, Bool, true, false, cond, ◌||◌, List, encode_utf8_all, refl, sym, ap, ◌∙◌}
+use Rattle.std.specs.Cmp.{IsStrictWeakOrder}
+use Rattle.std.specs.Cmp.Lexicographic.{slice_cmp}
+use Rattle.std.specs.List.{list_all}
+use Rattle.std.specs.Option.{option_map_or}
+use Rattle.std.specs.Ordering.{int_cmp, is_lt, nat_cmp, ordering_then}
+use Rattle.std.specs.declared.cmp.Ordering.TheVariants.{Less, Equal, Greater}
+use Rattle.std.proofs.lemmas.Cmp.{int_cmp_total, nat_list_cmp_total, on_total, then_total}
+use Rattle.std.proofs.lemmas.List.MinMax.{ranks_by}
+use Rattle.rp_base.specs.declared.value.Rock.TheVariants as rock
+use Rattle.rp_base.specs.declared.value.Value.{Value}
+use Rattle.rp_base.specs.declared.value.Value.TheVariants as value
+use Rattle.rp_ops.specs.Keys.{index_number}
+use Rattle.rp_compare.specs.Order.{less, numbers_less}
+use Rattle.rp_native.specs.Extremes.{have_order, is_less, is_text}
+use Rattle.rp_native.specs.OrderSteps.{goes_first, number_key, text_key}
+use Rattle.rp_native.specs.Sorted.{in_order}
+use Rattle.rp_native.specs.Walked.{are_numbers, is_number}
+use Rattle.rp_native.proofs.Orders.{list_less-cmp}
+use Rattle.rp_native.proofs.StableOrders.{in_order-same}
+
+pub goes_first-order : IsStrictWeakOrder goes_first
+goes_first-order = ranks_by (then_total (on_total number_key int_cmp_total) (on_total text_key nat_list_cmp_total)) (λ (v : Value). v)
+
+numbers-tested : (x y : ℤ) → is_lt (ordering_then (int_cmp x y) Equal) ≡ int_lt x y
+numbers-tested x y = by (int_lt x y) (int_lt y x) where
+  by : (a b : Bool) → is_lt (ordering_then (cond a Less (cond b Greater Equal)) Equal) ≡ a
+  by true b = refl
+  by false true = refl
+  by false false = refl
+
+numbers-agree : (v w : Value) → is_number v ≡ true → is_number w ≡ true → goes_first v w ≡ is_less v w
+numbers-agree (value.Rock (rock.Int m)) (value.Rock (rock.Int n)) h g = numbers-tested m n
+numbers-agree (value.Rock (rock.Int m)) (value.Rock (rock.Truth true)) h g = numbers-tested m (pos 1)
+numbers-agree (value.Rock (rock.Int m)) (value.Rock (rock.Truth false)) h g = numbers-tested m (pos 0)
+numbers-agree (value.Rock (rock.Truth true)) (value.Rock (rock.Int n)) h g = numbers-tested (pos 1) n
+numbers-agree (value.Rock (rock.Truth false)) (value.Rock (rock.Int n)) h g = numbers-tested (pos 0) n
+numbers-agree (value.Rock (rock.Truth true)) (value.Rock (rock.Truth true)) h g = refl
+numbers-agree (value.Rock (rock.Truth true)) (value.Rock (rock.Truth false)) h g = refl
+numbers-agree (value.Rock (rock.Truth false)) (value.Rock (rock.Truth true)) h g = refl
+numbers-agree (value.Rock (rock.Truth false)) (value.Rock (rock.Truth false)) h g = refl
+numbers-agree v w h g = absurd (cc)
+
+texts-agree : (v w : Value) → is_text v ≡ true → is_text w ≡ true → goes_first v w ≡ is_less v w
+texts-agree (value.Rock (rock.Text t)) (value.Rock (rock.Text u)) h g = list_less-cmp (encode_utf8_all t) (encode_utf8_all u)
+texts-agree v w h g = absurd (cc)
+
+-- values that have an order
+pub values-same : (vs : List Value) → have_order vs ≡ true → in_order goes_first vs ≡ in_order is_less vs
+values-same vs h = by (are_numbers vs) refl (list_all is_text vs) refl h where
+  by : (a : Bool) → are_numbers vs ≡ a → (b : Bool) → list_all is_text vs ≡ b → a || b ≡ true → in_order goes_first vs ≡ in_order is_less vs
+  by true numbers b texts h = in_order-same goes_first is_less is_number numbers-agree vs numbers
+  by false numbers true texts h = in_order-same goes_first is_less is_text texts-agree vs texts
+  by false numbers false texts h = absurd (cc)
