@@ -510,7 +510,7 @@ table(
         ("zip('abc', [1])", "[('a', 1)] | 1 steps | 6 cells", "costs"),
         ("zip([1], 'abc')", "[(1, 'a')] | 1 steps | 6 cells", "costs"),
         ("zip('é', 'ab', '')", "[] | 0 steps | 1 cells", "costs"),
-        ("zip('éa', 'b')", "[('é', 'b')] | 1 steps | 7 cells", "costs"),
+        ("zip('éa', 'b')", "[('é', 'b')] | 1 steps | 8 cells", "costs"),
         ("zip([1], 5)", "TypeError: iterate | 0 steps | 0 cells", "costs"),
         ("zip('ab', 5)", "TypeError: iterate | 0 steps | 0 cells", "costs"),
         ("a = zip(lent([[1]]), [[2]]); a.pop()", "([1], [2]) | ours | 1 lent elements", "costs"),

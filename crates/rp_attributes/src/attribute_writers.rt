@@ -3,7 +3,7 @@
 ghost use Rattle.std.specs.Prelude.{◌≡◌, ◌↔◌, ℕ, IsTrue, OnErr};
 ghost use Rattle.rp_attributes.specs.Attributes.{del_at, del_attribute, set_at, set_attribute};
 ghost use Rattle.rp_ops.specs.Outcome.{Meets, state_of};
-ghost use Rattle.rp_ops.specs.Words.{word_of};
+ghost use Rattle.rp_base.specs.Names.{word_of};
 ghost use Rattle.rp_store.specs.Heap.{IsHeld, Names as IsAt};
 ghost use Rattle.rp_store.specs.Kept.{IsSound};
 ghost use Rattle.rp_store.specs.Parts.{IsInstance};

@@ -4,7 +4,7 @@ ghost use Rattle.std.specs.Prelude.{◌≡◌, ℕ, IfOk, IfSome, OnErr};
 ghost use Rattle.rp_attributes.specs.Attributes.{attribute, attribute_at, bound, rock_attribute};
 ghost use Rattle.rp_ops.specs.Operand.{lent};
 ghost use Rattle.rp_ops.specs.Outcome.{Meets, state_of};
-ghost use Rattle.rp_ops.specs.Words.{word_of};
+ghost use Rattle.rp_base.specs.Names.{word_of};
 ghost use Rattle.rp_store.specs.Kept.{IsCallee, IsReceiver, IsSound};
 ghost use Rattle.rp_store.specs.Shape.{KeepsShape};
 

@@ -6,7 +6,7 @@ ghost use Rattle.rp_base.specs.Native.{native_name};
 ghost use Rattle.rp_base.specs.Same.{same_text};
 ghost use Rattle.rp_attributes.specs.Attributes.{dict_methods, list_methods, method_named, method_of, text_methods, tuple_methods};
 ghost use Rattle.rp_ops.specs.Outcome.{state_of};
-ghost use Rattle.rp_ops.specs.Words.{word_of};
+ghost use Rattle.rp_base.specs.Names.{word_of};
 ghost use Rattle.rp_store.specs.Heap.{IsHeld, content_at, method_at};
 ghost use Rattle.rp_store.specs.Kept.{IsCallee};
 

@@ -2,7 +2,7 @@
 
 ghost use Rattle.rp_base.specs.declared.kind.Kind.TheVariants.{AttributeError};
 ghost use Rattle.rp_ops.specs.Outcome.{Raises};
-ghost use Rattle.rp_ops.specs.Words.{word_of};
+ghost use Rattle.rp_base.specs.Names.{word_of};
 
 use rp_base::{Kind, Name, Names, OpEnd};
 use rp_ops::{raised, word_of};

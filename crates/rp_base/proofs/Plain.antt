@@ -1,5 +1,5 @@
 -- A text of as many characters as bytes is ASCII.
-use Rattle.std.proofs.Common.{◌≡◌, ℕ, zero, suc, ◌<◌, ◌+◌, Bool, true, false, cond, nat_lt, List, [], ◌∷◌, length, refl, sym, ap, ◌∙◌, chars, arith, encode_utf8_all, subst, lit<}
+use Rattle.std.proofs.Common.{◌≡◌, ℕ, zero, suc, ◌<◌, ◌+◌, Bool, true, false, cond, nat_lt, List, [], ◌∷◌, length, refl, sym, ap, ◌∙◌, chars, arith, encode_utf8_all, subst, lit<, Option, Some, None, MatchOption}
 use Rattle.std.specs.Char.{encode_utf8, len_utf8}
 use Rattle.std.specs.Str.{IsAscii, IsUtf8}
 use Rattle.std.proofs.lemmas.List.{length-append}
@@ -29,14 +29,21 @@ each_below [] e (suc i) = lit< tt
 each_below (c ∷ cs) e zero = one_byte c (parts c cs e).0
 each_below (c ∷ cs) e (suc i) = each_below cs (parts c cs e).1 i
 
--- its characters are its bytes
-pub plain : (bs : List ℕ) → IsUtf8 bs → length bs ≡ length (chars bs) → (bs ≡ chars bs) × IsAscii bs
-plain bs text e =
-    let whole : encode_utf8_all (chars bs) ≡ bs = encodes-chars bs text in
-    let ascii = each_below (chars bs) (sym e ∙ ap length (sym whole)) in
-    let same : chars bs ≡ bs = sym (encodes-IsAscii (chars bs) ascii) ∙ whole in
-    (sym same, subst IsAscii same ascii)
+-- a text of as many bytes as characters
+pub each_ascii : (bs : List ℕ) → IsUtf8 bs → length bs ≡ length (chars bs) → IsAscii (chars bs)
+each_ascii bs text e = each_below (chars bs) (sym e ∙ ap length (sym (encodes-chars bs text)))
 
 -- ASCII characters have one byte each
 pub one_each : (bs : List ℕ) → IsUtf8 bs → IsAscii (chars bs) → length bs ≡ length (chars bs)
 one_each bs text ascii = ap length (sym (encodes-chars bs text) ∙ encodes-IsAscii (chars bs) ascii)
+
+-- they are their bytes
+pub ascii_bytes : (bs : List ℕ) → IsUtf8 bs → IsAscii (chars bs) → (bs ≡ chars bs) × IsAscii bs
+ascii_bytes bs text ascii =
+    let same : bs ≡ chars bs = sym (encodes-chars bs text) ∙ encodes-IsAscii (chars bs) ascii in
+    (same, subst IsAscii (sym same) ascii)
+
+-- what holds where there is none
+pub none_is : {A : Type 0} (o : Option A) (P : Type 0) (Q : A → Type 0) → o ≡ None → MatchOption o P Q → P
+none_is None P Q e h = h
+none_is (Some x) P Q e h = absurd (cc)

@@ -1,3 +1,4 @@
+pub mod Characters
 pub mod FirstNames
 pub mod Identifier
 pub mod InMemory

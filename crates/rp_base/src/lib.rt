@@ -30,5 +30,5 @@ pub use rp_hash::Seed;
 pub use sink::Sink;
 #[doc(hidden)]
 pub use text::Letters;
-pub use text::{Printed, Text, ascii_at, ascii_slice};
+pub use text::{Characters, Printed, Text, ascii_at, ascii_slice};
 pub use value::{ClassTag, Line, Name, Oid, Op, OpEnd, Raised, Rock, Side, Status, Value};

@@ -1,7 +1,8 @@
 //! Shared texts, and the text that grows.
 
-ghost use Rattle.std.specs.Prelude.{◌≡◌, ◌≤◌, ◌↔◌, ◌++◌, [], chars, IfOk, IfSome, IsSome, IsTrue, OnOk, OnErr, length, slice_get, slice_range, string_bytes};
+ghost use Rattle.std.specs.Prelude.{◌≡◌, ◌≤◌, ◌↔◌, ◌++◌, [], chars, IfOk, IfSome, IsSome, IsTrue, MatchOption, OnOk, OnErr, length, slice_get, slice_range, string_bytes};
 ghost use Rattle.std.specs.Str.{IsAscii};
+ghost use Rattle.rp_base.specs.Characters.{AreThose};
 ghost use Rattle.rp_base.specs.Same.{same_text};
 
 use crate::memory::Memory;
@@ -11,28 +12,42 @@ use std::hash::{Hash, Hasher};
 use std::marker::Model;
 use std::rc::Rc;
 
-/// The characters of a text, and how many they are.
+/// The characters of a text, and how many they are. Where one is not ASCII, they stand by place too.
 #[derive(Drop)]
 pub struct Letters {
     text: String,
     count: usize,
+    wide: Option<Vec<char>>,
 }
 
-/// A shared text, seen as the list of its characters, which knows how many they are. Texts are compared by their UTF-8
-/// bytes, which is the order of their characters.
+/// The characters of a text, each at its place: an ASCII text has one byte for each, and another keeps four bytes for
+/// each beside its UTF-8.
+#[derive(Clone, Copy)]
+pub enum Characters<'a> {
+    /// All are ASCII.
+    Ascii(&'a str),
+    /// Not all are ASCII.
+    Wide(&'a [char]),
+}
+
+/// A shared text, seen as the list of its characters, which knows how many they are and finds one by its place in constant
+/// time. It takes its UTF-8 bytes, and four bytes more for each character where not all are ASCII. Texts are compared by
+/// their UTF-8 bytes, which is the order of their characters.
 #[derive(Drop)]
 pub struct Text {
     shared: Rc<Letters>,
 }
 
 impl Model for Text {
-    ghost use Rattle.std.specs.Prelude.{◌≡◌, ℕ, List, chars, length, string_bytes};
+    ghost use Rattle.std.specs.Prelude.{◌≡◌, ℕ, List, MatchOption, chars, length, string_bytes};
+    ghost use Rattle.std.specs.Str.{IsAscii};
 
     ghost Value = { List ℕ };
 
     ghost view = { λ t. chars (string_bytes t.shared.value.text) };
 
-    ghost invariant = { λ t. t.shared.value.count ≡ length (chars (string_bytes t.shared.value.text)) };
+    ghost invariant = { λ t. let kept = t.shared.value in let letters = chars (string_bytes kept.text) in
+        (kept.count ≡ length letters) × MatchOption kept.wide (IsAscii letters) (λ v. (v.items ≡ letters) × ¬ IsAscii letters) };
 }
 
 impl Text {
@@ -43,12 +58,13 @@ impl Text {
         Text::from_string(alloc, String::from_str(alloc, text)?)
     }
 
-    /// A text with the characters of a string, which are not copied. It is refused only for want of memory.
+    /// A text with the characters of a string, whose bytes are not copied. It is refused only for want of memory.
     pub fn from_string(alloc: Global, text: String) -> Result<Text, Memory>
         ensures { IfOk result (λ t. t ≡ chars (string_bytes text)) }
     {
         let count = count(text.as_str());
-        match Rc::new(alloc, Letters { text, count }) {
+        let wide = wide_letters(alloc, text.as_str(), count)?;
+        match Rc::new(alloc, Letters { text, count, wide }) {
             Ok(shared) => Ok(Text { shared }),
             Err(_) => Err(Memory),
         }
@@ -77,11 +93,21 @@ impl Text {
         ensures ascii { IfSome result (λ text. IsAscii text.now) }
         ensures each { IsAscii self.now → IsSome result }
     {
-        let text = self.shared.text.as_str();
-        if text.len() == self.shared.count {
-            return Some(text);
+        match self.characters() {
+            Characters::Ascii(text) => Some(text),
+            Characters::Wide(_) => None,
         }
-        None
+    }
+
+    /// The characters by place, in constant time.
+    #[inline(always)]
+    pub fn characters(&self) -> Characters<'_>
+        ensures { AreThose self.now result }
+    {
+        match &self.shared.wide {
+            Some(letters) => Characters::Wide(letters.as_slice()),
+            None => Characters::Ascii(self.shared.text.as_str()),
+        }
     }
 
     /// Whether these are its characters.
@@ -108,6 +134,28 @@ fn count(text: &str) -> usize
     ensures { result ≡ length (chars text.now) }
 {
     text.chars().count()
+}
+
+/// The characters by place of a text that has so many, where not all are ASCII.
+fn wide_letters(alloc: Global, text: &str, count: usize) -> Result<Option<Vec<char>>, Memory>
+    requires { count ≡ length (chars text.now) }
+    ensures { IfOk result (λ wide. MatchOption wide (IsAscii (chars text.now)) (λ v. (v.items ≡ chars text.now) × ¬ IsAscii (chars text.now))) }
+{
+    if text.len() == count {
+        return Ok(None);
+    }
+    Ok(Some(by_place(alloc, text, count)?))
+}
+
+/// The characters by place.
+fn by_place(alloc: Global, text: &str, count: usize) -> Result<Vec<char>, Memory>
+    ensures { IfOk result (λ v. v.items ≡ chars text.now) }
+{
+    let mut letters = Vec::with_capacity(alloc, count)?;
+    for letter in text.chars() {
+        letters.push(letter)?;
+    }
+    Ok(letters)
 }
 
 /// The character at a place of an ASCII text.

@@ -18,7 +18,7 @@ use Rattle.rp_store.specs.declared.key.Key.{Key}
 use Rattle.rp_store.specs.declared.key.Key.TheVariants as key
 use Rattle.rp_tree.specs.declared.expr.Expr.{Expr}
 use Rattle.rp_tree.specs.Expressions.{Named}
-use Rattle.rp_ops.specs.Words.{word_of}
+use Rattle.rp_base.specs.Names.{word_of}
 use Rattle.rp_calls.specs.Binding.{are_plain, default_of, defaults_after, entries_for, filled, given, is_plain, offered, other_entries, put, sole}
 use Rattle.rp_calls.specs.View.{AreSlotsSound}
 

@@ -22,7 +22,7 @@ use Rattle.rp_store.specs.Object as object
 use Rattle.rp_store.specs.Object.{Content}
 use Rattle.rp_ops.specs.Binary.{new_object}
 use Rattle.rp_ops.specs.Outcome.{State, Outcome, raised, ends, gives, on_value}
-use Rattle.rp_ops.specs.Words.{word_of}
+use Rattle.rp_base.specs.Names.{word_of}
 use Rattle.rp_tree.specs.declared.expr.Expr.{Expr}
 use Rattle.rp_tree.specs.declared.expr.Params.{Params, out-Params}
 use Rattle.rp_tree.specs.Expressions.{Named}

@@ -1,7 +1,7 @@
 //! The values of the parameters without a star.
 ghost use Rattle.std.specs.Prelude.{◌≡◌, ◌++◌, IfOk, Some, chars, map};
 ghost use Rattle.std.specs.Option.{option_copied, option_map, option_to_list};
-ghost use Rattle.rp_ops.specs.Words.{word_of};
+ghost use Rattle.rp_base.specs.Names.{word_of};
 ghost use Rattle.rp_calls.specs.Binding.{default_of, defaults_after, filled, given, is_plain, offered, parameter as parameter_of, sole, value_of};
 
 use crate::others::rest_of;

@@ -1,4 +1,3 @@
-mod Collected
 mod Found
 mod ItemExamples
 mod Runs

@@ -1,12 +1,13 @@
 -- What a slice costs, and what it holds.
 use Rattle.std.proofs.Common.{◌≡◌, ℕ, zero, suc, arith, false, ◌+◌, ◌<◌, List, [], ◌∷◌, ◌++◌, append-nil, encode_utf8, encode_utf8_all, get_or, length, map, Option, Some, slice_get, refl, sym, ap, subst, ◌∙◌}
-use Rattle.std.proofs.lemmas.Str.{encodes-append}
+use Rattle.std.proofs.lemmas.Str.{encodes-append, length-le-encodes}
 use Rattle.rp_base.specs.declared.value.Value.{Value}
 use Rattle.std.specs.Option.{option_map_or}
 use Rattle.rp_base.specs.declared.value.Oid.{Oid}
 use Rattle.rp_base.specs.declared.value.Side.{Side}
 use Rattle.rp_store.specs.Cost.{cost}
 use Rattle.rp_store.specs.Heap.{owner_at}
+use Rattle.rp_store.specs.Store.{Cells, IsOver}
 use Rattle.rp_ops.specs.Outcome.{State}
 use Rattle.rp_items.specs.Slices.{Span, owner_of, sliced}
 use Rattle.rp_items.specs.SliceView.{AreOf, AreWithin, place_at}
@@ -47,3 +48,10 @@ pub slice_get-or : (xs : List ℕ) (i d : ℕ) → i < length xs → slice_get x
 slice_get-or [] i d h = absurd (omega arith)
 slice_get-or (x ∷ xs) zero d h = refl
 slice_get-or (x ∷ xs) (suc i) d h = slice_get-or xs i d (omega arith)
+
+-- a text has no fewer bytes than characters
+pub slice-over : (s : Span) (p : Places) (cs : List ℕ) (n : ℕ) (store : Cells) → length cs ≡ n → AreOf n s p → AreWithin n p → IsOver store p.count
+    → IsOver store (length (encode_utf8_all (sliced s cs)))
+slice-over s p cs n store e of within over =
+    let same : length (sliced s cs) ≡ p.count = ap length (sym (taken-sliced n s p cs e of)) ∙ length-taken p cs (subst (λ (k : ℕ). AreWithin k p) (sym e) within) in
+    omega (arith, length-le-encodes (sliced s cs))

@@ -1,7 +1,7 @@
 -- Items of lists, tuples, texts and dicts: reading, storing and deleting (Python Language Reference, Subscriptions, Assignment
 -- statements, The del statement; Data model, sequences and mappings). Other way: an index below 0 is a whole number to which the
 -- length is added, and elements, characters and entries are looked up in lists. The code takes the number of places before the end off
--- the length, takes one byte of an ASCII text and walks another, and searches a dict that may be hashed.
+-- the length, takes one byte of an ASCII text and one of the characters that another keeps, and searches a dict that may be hashed.
 use Rattle.std.specs.Prelude.{ℕ, ℤ, pos, negsuc, ◌+ℤ◌, nat_lt, int_lt, List, [], ◌∷◌, length, codes, slice_get, Result, Ok, if◌then◌else◌}
 use Rattle.std.specs.Option.{option_map_or}
 use Rattle.rp_base.specs.declared.kind.Kind.TheVariants.{TypeError, IndexError, KeyError}

@@ -1,6 +1,6 @@
 -- The bounds and the places of a slice, as the code keeps them, for the clauses of its private functions. Other way: the places of Slices
 -- are whole numbers that go on by the step; the code's are a first place, the size of the step, its direction and how many there are.
-use Rattle.std.specs.Prelude.{◌≡◌, ℕ, ◌+◌, ◌-◌, ◌*◌, ◌<◌, ◌≤◌, true, false, length, List, slice_get, filter_map, unsigned_abs, Result, Ok, Err, if◌then◌else◌}
+use Rattle.std.specs.Prelude.{◌≡◌, ℕ, ◌+◌, ◌-◌, ◌*◌, ◌<◌, ◌≤◌, true, List, slice_get, filter_map, unsigned_abs, Result, Ok, Err, if◌then◌else◌}
 use Rattle.std.specs.List.{range_with_len}
 use Rattle.rp_base.specs.declared.value.Raised.{Raised}
 use Rattle.rp_items.specs.Slices.{Span, count, place, span_of}
@@ -30,23 +30,3 @@ AreOf n s p = (p.count ≡ count n s) × ((m : ℕ) → m < p.count → unsigned
 -- the elements at the places
 abbrev pub taken : {A : Type 0} → Places → List A → List A
 taken p xs = filter_map (λ m. slice_get xs (place_at p m)) (range_with_len 0 p.count)
-
--- the same places, each behind the last
-abbrev pub lowest : Places → ℕ
-lowest p = if p.backward then p.first - (p.count - 1) * p.step else p.first
-
-abbrev pub ascending : Places → Places
-ascending p = record { first = lowest p; step = p.step; backward = false; count = p.count }
-
--- where what is at the places stands among just those, each behind the last
-abbrev pub order_first : Places → ℕ
-order_first p = if p.backward then p.count - 1 else 0
-
-abbrev pub order : Places → Places
-order p = record { first = order_first p; step = 1; backward = p.backward; count = p.count }
-
--- so many characters were passed, and these are those at the places among them
-abbrev pub IsCollected : List ℕ → Places → ℕ → List ℕ → Type 0
-IsCollected cs p at items =
-    (items ≡ filter_map (λ m. slice_get cs (place_at p m)) (range_with_len 0 (length items))) × (length items ≤ p.count)
-    × (length items < p.count → at ≤ place_at p (length items))

@@ -1,7 +1,6 @@
 -- Slices of lists, tuples and texts (Python Language Reference, Slicings; Python Standard Library, Common sequence operations). Other
 -- way: bounds are whole numbers held between the least and the greatest, and each place i + mk is looked up in the list of what is
--- sliced. The code bounds by cases within 64 bits, cuts an ASCII text by bytes, and collects the characters of
--- another from the front, also for a step below 0.
+-- sliced. The code bounds by cases within 64 bits, cuts an ASCII text by bytes, and another by the characters that it keeps.
 use Rattle.std.specs.Prelude.{ℕ, ℤ, pos, negsuc, ◌+ℤ◌, ◌-ℤ◌, ◌*ℤ◌, unsigned_abs, int_lt, List, length, codes, filter_map, slice_get, Option, Some, None, Result, Ok, if◌then◌else◌}
 use Rattle.std.specs.Ordering.{int_eq}
 use Rattle.std.specs.Int.{div_ceil, int_min, int_max}

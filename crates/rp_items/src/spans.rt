@@ -3,7 +3,7 @@
 ghost use Rattle.std.specs.Prelude.{◌≡◌, ◌≢◌, ◌+◌, ◌-◌, ◌^◌, ◌<◌, ◌≤◌, ◌+ℤ◌, ◌-ℤ◌, ◌<ℤ◌, ℕ, Ok, negsuc, pos, IfOk};
 ghost use Rattle.rp_ops.specs.Refused.{described};
 ghost use Rattle.rp_items.specs.Slices.{bound, part_named, span_by, span_named};
-ghost use Rattle.rp_items.specs.SliceView.{AreOf, AreWithin, ascending, described_span, lowest, order, order_first, place_at, span_seen};
+ghost use Rattle.rp_items.specs.SliceView.{AreOf, AreWithin, described_span, place_at, span_seen};
 
 use crate::places::index_number;
 use rp_base::{Rock, Value};
@@ -45,52 +45,6 @@ impl Places {
             self.first - m * self.step
         } else {
             self.first + m * self.step
-        }
-    }
-
-    /// The same places, each behind the last.
-    pub(crate) fn ascending(&self) -> Places
-        requires { (n : ℕ) × ((n < 2 ^ 64) × AreWithin n self.now) }
-        ensures { result ≡ ascending self.now }
-    {
-        Places {
-            first: self.lowest(),
-            step: self.step,
-            backward: false,
-            count: self.count,
-        }
-    }
-
-    /// The first of the places, each behind the last.
-    fn lowest(&self) -> usize
-        requires { (n : ℕ) × ((n < 2 ^ 64) × AreWithin n self.now) }
-        ensures { result ≡ lowest self.now }
-    {
-        if self.backward && self.count > 0 {
-            return self.at(self.count - 1);
-        }
-        self.first
-    }
-
-    /// Where what is at the places stands among just those, each behind the last.
-    pub(crate) fn order(&self) -> Places
-        ensures { result ≡ order self.now }
-    {
-        Places {
-            first: self.order_first(),
-            step: 1,
-            backward: self.backward,
-            count: self.count,
-        }
-    }
-
-    fn order_first(&self) -> usize
-        ensures { result ≡ order_first self.now }
-    {
-        if self.backward {
-            self.count.saturating_sub(1)
-        } else {
-            0
         }
     }
 }
@@ -156,7 +110,6 @@ pub(crate) fn places_of(len: usize, span: Span) -> Places
     ensures within { AreWithin len result }
     ensures few { result.count ≤ len }
     ensures first { result.first ≤ len }
-    ensures step { 0 < result.step }
 {
     if span.step < 0 {
         backward(len, span)
@@ -171,7 +124,6 @@ fn forward(len: usize, span: Span) -> Places
     ensures within { AreWithin len result }
     ensures few { result.count ≤ len }
     ensures first { result.first ≤ len }
-    ensures step { 0 < result.step }
 {
     let first = forward_bound(len, 0, span.from);
     let last = forward_bound(len, len, span.to);
@@ -190,7 +142,6 @@ fn backward(len: usize, span: Span) -> Places
     ensures within { AreWithin len result }
     ensures few { result.count ≤ len }
     ensures first { result.first ≤ len }
-    ensures step { 0 < result.step }
 {
     let behind_first = backward_bound(len, len, span.from);
     let behind_last = backward_bound(len, 0, span.to);

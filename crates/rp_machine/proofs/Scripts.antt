@@ -7,10 +7,10 @@ use Rattle.std.specs.List.{list_all}
 use Rattle.rp_base.specs.declared.value.OpEnd.{OpEnd}
 use Rattle.rp_base.specs.declared.value.OpEnd.TheVariants as ended
 use Rattle.rp_base.specs.declared.value.Value.{Value}
-use Rattle.rp_compile.specs.Rewrites.{is_guarded}
-use Rattle.rp_compile.specs.Source.{Statement}
-use Rattle.rp_compile.specs.View.{statement_view}
-use Rattle.rp_compile.specs.declared.tree.Stmt.{Stmt}
+use Rattle.rp_first.specs.Rewrites.{is_guarded}
+use Rattle.rp_first.specs.Source.{Statement}
+use Rattle.rp_first.specs.View.{statement_view}
+use Rattle.rp_first.specs.declared.tree.Stmt.{Stmt}
 use Rattle.rp_decl.specs.Records.{Declarations}
 use Rattle.rp_machine.specs.Meaning.{End, State, Outcome, no_cell, none, on_value, raised, exec, run_script}
 use Rattle.rp_machine.specs.Store.{AreSafe}

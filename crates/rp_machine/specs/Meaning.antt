@@ -16,8 +16,8 @@ use Rattle.rp_base.specs.Kind.{kind_name}
 use Rattle.rp_base.specs.Native.{native_name}
 use Rattle.rp_base.specs.Same.{same_text}
 use Rattle.rp_checker.specs.RowOf as row_of
-use Rattle.rp_compile.specs.Source as source
-use Rattle.rp_compile.specs.Source.{Expression, attribute, number, Statement, assign, print}
+use Rattle.rp_first.specs.Source as source
+use Rattle.rp_first.specs.Source.{Expression, attribute, number, Statement, assign, print}
 use Rattle.rp_decl.specs.Records.{Declarations}
 use Rattle.rp_proxy.specs.Decide.{verdict_of, refusal}
 use Rattle.rp_trail.specs.Entry.{Verdict, Entry}

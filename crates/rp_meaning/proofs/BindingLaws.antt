@@ -10,7 +10,7 @@ use Rattle.rp_base.specs.declared.value.Value.{Value}
 use Rattle.rp_calls.specs.Binding as calls
 use Rattle.rp_dict.specs.Dict.{insert_entry}
 use Rattle.rp_ops.specs.Outcome.{State, Outcome}
-use Rattle.rp_ops.specs.Words.{word_of}
+use Rattle.rp_base.specs.Names.{word_of}
 use Rattle.rp_store.specs.Key.{same_key}
 use Rattle.rp_store.specs.declared.key.Key.{Key}
 use Rattle.rp_store.specs.declared.key.Key.TheVariants as key

@@ -10,7 +10,7 @@ use Rattle.rp_items.specs.Items as items
 use Rattle.rp_items.specs.Slices as slices
 use Rattle.rp_ops.specs.Operand.{truth_of}
 use Rattle.rp_ops.specs.Outcome.{gives, on_value}
-use Rattle.rp_ops.specs.Words.{word_of}
+use Rattle.rp_base.specs.Names.{word_of}
 use Rattle.rp_meaning.specs.State.{State, Outcome, Flow, plainly, plainly_done, done, heap_of}
 use Rattle.rp_meaning.specs.Binding.{only}
 use Rattle.rp_meaning.specs.Frame.{Frame, Meaning, Doing, asked_for, asked_to_set, got}

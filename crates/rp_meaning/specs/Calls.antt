@@ -19,7 +19,7 @@ use Rattle.rp_store.specs.Object as object
 use Rattle.rp_store.specs.Object.{Content}
 use Rattle.rp_ops.specs.Outcome.{gives, raises, on_value}
 use Rattle.rp_ops.specs.Walk.{elements}
-use Rattle.rp_ops.specs.Words.{word_of}
+use Rattle.rp_base.specs.Names.{word_of}
 use Rattle.rp_proxy.specs.Taken.{taken}
 use Rattle.rp_show.specs.Show.{show}
 use Rattle.rp_meaning.specs.State.{State, Outcome, plainly, makes, heap_of}

@@ -9,7 +9,7 @@ use Rattle.rp_base.specs.Same.{same_text}
 use Rattle.rp_decl.specs.Records.{Class}
 use Rattle.rp_dict.specs.Dict.{insert_entry}
 use Rattle.rp_ops.specs.Outcome.{gives, on_value}
-use Rattle.rp_ops.specs.Words.{word_of}
+use Rattle.rp_base.specs.Names.{word_of}
 use Rattle.rp_store.specs.Key.{same_name}
 use Rattle.rp_store.specs.Object as object
 use Rattle.rp_store.specs.Writers.{with_methods}

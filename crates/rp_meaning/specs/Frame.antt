@@ -12,7 +12,7 @@ use Rattle.rp_checker.specs.RowOf.{Operation, reading, setting}
 use Rattle.rp_ops.specs.Operand.{lent}
 use Rattle.rp_ops.specs.Outcome as plain
 use Rattle.rp_ops.specs.Outcome.{gives, ends, raises}
-use Rattle.rp_ops.specs.Words.{word_of}
+use Rattle.rp_base.specs.Names.{word_of}
 use Rattle.rp_proxy.specs.Decide.{Monitor, Decision}
 use Rattle.rp_proxy.specs.Taken.{taken}
 use Rattle.rp_store.specs.Heap.{Owned}

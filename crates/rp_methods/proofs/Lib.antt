@@ -1,7 +1,12 @@
+pub mod Blanks
 pub mod Copies
+pub mod Cuts
 pub mod Ends
 pub mod Listed
 pub mod Made
+pub mod Pieces
 pub mod Sound
 pub mod Taken
+pub mod Turns
 pub mod Walked
+pub mod Words

@@ -1,5 +1,5 @@
 -- How many arguments the built-in methods take (Python Standard Library, Built-in Types). A table of rules of our own.
-use Rattle.std.specs.Prelude.{ℕ, nat_le, Bool, true, false, ◌&&◌, List, Option, Some, None}
+use Rattle.std.specs.Prelude.{ℕ, nat_le, Bool, true, ◌&&◌, List, Option, Some, None}
 use Rattle.std.specs.Option.{option_map_or}
 use Rattle.rp_base.specs.declared.native.NativeId.{NativeId}
 use Rattle.rp_base.specs.declared.native.NativeId.TheVariants as native
@@ -29,11 +29,6 @@ abbrev pub receiver_of : List Owned → Value → Receiver
 receiver_of heap (value.Rock r) = rock_receiver r
 receiver_of heap (value.Ref at) = option_map_or content_receiver (content_at heap at) receiver.Other
 receiver_of heap (value.Prox at) = option_map_or content_receiver (content_at heap at) receiver.Other
-
--- whose methods are built: not yet those of texts
-abbrev pub is_done_here : Receiver → Bool
-is_done_here receiver.Text = false
-is_done_here _ = true
 
 -- so many, and from so many to so many
 abbrev pub just : ℕ → Option Counts
@@ -69,12 +64,24 @@ dict_counts native.Update = just 1
 dict_counts native.Copy = just 0
 dict_counts _ = None
 
+abbrev pub text_counts : NativeId → Option Counts
+text_counts native.Join = just 1
+text_counts native.Split = between 0 1
+text_counts native.Strip = just 0
+text_counts native.StartsWith = just 1
+text_counts native.EndsWith = just 1
+text_counts native.Find = just 1
+text_counts native.Replace = just 2
+text_counts native.Count = just 1
+text_counts native.IsDigit = just 0
+text_counts _ = None
+
 -- the counts that a method takes; none where such a receiver does not have it
 abbrev pub counts_of : Receiver → NativeId → Option Counts
 counts_of receiver.List id = list_counts id
 counts_of receiver.Tuple id = tuple_counts id
 counts_of receiver.Dict id = dict_counts id
-counts_of receiver.Text id = None
+counts_of receiver.Text id = text_counts id
 counts_of receiver.Other id = None
 
 abbrev pub takes : Counts → ℕ → Bool

@@ -2,4 +2,5 @@ pub mod Faults
 pub mod Counts
 pub mod Lists
 pub mod Dicts
+pub mod Texts
 pub mod Methods

@@ -3,6 +3,8 @@ use Rattle.std.specs.Prelude.{ℕ, List, length, Option, Some, None, if◌then�
 use Rattle.std.specs.Option.{option_map_or}
 use Rattle.rp_base.specs.declared.native.NativeId.{NativeId}
 use Rattle.rp_base.specs.declared.value.Oid.{Oid}
+use Rattle.rp_base.specs.declared.value.Rock.{Rock}
+use Rattle.rp_base.specs.declared.value.Rock.TheVariants as rock
 use Rattle.rp_base.specs.declared.value.Side.{Side}
 use Rattle.rp_base.specs.declared.value.Value.{Value}
 use Rattle.rp_base.specs.declared.value.Value.TheVariants as value
@@ -14,6 +16,7 @@ use Rattle.rp_methods.specs.Counts.{counts_of, receiver_of, takes}
 use Rattle.rp_methods.specs.Dicts.{dict_method}
 use Rattle.rp_methods.specs.Faults.{no_method, wrong_arguments}
 use Rattle.rp_methods.specs.Lists.{list_method, tuple_method}
+use Rattle.rp_methods.specs.Texts.{text_method}
 use Rattle.rp_methods.specs.declared.counts.Counts.{Counts}
 
 abbrev pub content_method : Oid → Content → NativeId → List Value → State → Outcome Value
@@ -25,9 +28,13 @@ content_method at c id args s = no_method s
 abbrev pub object_method : Oid → NativeId → List Value → State → Outcome Value
 object_method at id args s = option_map_or (λ c. content_method at c id args s) (content_at s.store.heap at) (no_method s)
 
+abbrev pub rock_method : Side → Rock → NativeId → List Value → State → Outcome Value
+rock_method side (rock.Text t) id args s = text_method side t id args s
+rock_method side r id args s = no_method s
+
 -- the method, whatever the count of its arguments
 abbrev pub method_of : Side → Value → NativeId → List Value → State → Outcome Value
-method_of side (value.Rock r) id args s = no_method s
+method_of side (value.Rock r) id args s = rock_method side r id args s
 method_of side (value.Ref at) id args s = object_method at id args s
 method_of side (value.Prox at) id args s = object_method at id args s
 

@@ -1,9 +1,9 @@
 //! How many arguments the built-in methods take.
-ghost use Rattle.std.specs.Prelude.{◌≡◌, IsTrue};
+ghost use Rattle.std.specs.Prelude.{◌≡◌};
 ghost use Rattle.std.specs.Option.{option_map_or};
 ghost use Rattle.rp_store.specs.Heap.{IsHeld, content_at};
 ghost use Rattle.rp_store.specs.Kept.{IsSound};
-ghost use Rattle.rp_methods.specs.Counts.{between, content_receiver, counts_of, dict_counts, is_done_here, just, list_counts, method_takes, receiver_of, rock_receiver, takes, tuple_counts};
+ghost use Rattle.rp_methods.specs.Counts.{between, content_receiver, counts_of, dict_counts, just, list_counts, method_takes, receiver_of, rock_receiver, takes, text_counts, tuple_counts};
 
 use rp_base::{NativeId, Oid, Rock, Value};
 use rp_store::{Object, Store};
@@ -35,21 +35,9 @@ impl Counts {
     }
 }
 
-/// Whether the methods of a value are built: not yet those of texts.
-pub fn is_done_here(store: &Store, receiver: &Value) -> bool
-    requires { IsSound store.now.heap receiver.now }
-    ensures { result ≡ is_done_here (receiver_of store.now.heap receiver.now) }
-{
-    match receiver_of(store, receiver) {
-        Receiver::Text => false,
-        Receiver::List | Receiver::Tuple | Receiver::Dict | Receiver::Other => true,
-    }
-}
-
 /// Whether a method takes so many arguments; one that the receiver does not have is refused whatever they are.
 pub fn method_takes(store: &Store, receiver: &Value, id: NativeId, count: usize) -> bool
-    requires sound { IsSound store.now.heap receiver.now }
-    requires done_here { IsTrue (is_done_here (receiver_of store.now.heap receiver.now)) }
+    requires { IsSound store.now.heap receiver.now }
     ensures { result ≡ method_takes (receiver_of store.now.heap receiver.now) id count }
 {
     match counts_of(receiver_of(store, receiver), id) {
@@ -99,7 +87,7 @@ pub(crate) fn counts_of(receiver: Receiver, id: NativeId) -> Option<Counts>
         Receiver::List => list_counts(id),
         Receiver::Tuple => tuple_counts(id),
         Receiver::Dict => dict_counts(id),
-        Receiver::Text => None,
+        Receiver::Text => text_counts(id),
         Receiver::Other => None,
     }
 }
@@ -154,6 +142,23 @@ fn dict_counts(id: NativeId) -> Option<Counts>
         NativeId::SetDefault => between(1, 2),
         NativeId::Update => just(1),
         NativeId::Copy => just(0),
+        _ => None,
+    }
+}
+
+fn text_counts(id: NativeId) -> Option<Counts>
+    ensures { result ≡ text_counts id }
+{
+    match id {
+        NativeId::Join => just(1),
+        NativeId::Split => between(0, 1),
+        NativeId::Strip => just(0),
+        NativeId::StartsWith => just(1),
+        NativeId::EndsWith => just(1),
+        NativeId::Find => just(1),
+        NativeId::Replace => just(2),
+        NativeId::Count => just(1),
+        NativeId::IsDigit => just(0),
         _ => None,
     }
 }

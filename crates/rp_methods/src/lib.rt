@@ -1,4 +1,4 @@
-//! The built-in methods of lists, tuples and dicts, on values whose access decisions have been made.
+//! The built-in methods of lists, tuples, dicts and texts, on values whose access decisions have been made.
 #![tactic(auto)]
 
 mod counts;
@@ -14,6 +14,10 @@ mod missing;
 mod places;
 mod search;
 mod sequences;
+mod text_lists;
+mod text_makers;
+mod text_pieces;
+mod text_tests;
 
-pub use counts::{is_done_here, method_takes};
+pub use counts::method_takes;
 pub use methods::call_method;

@@ -1,19 +1,18 @@
 //! Calls of built-in methods.
 #![tactic(auto, using(rp_store::proofs::Shapes::goes_on))]
 
-ghost use Rattle.std.specs.Prelude.{◌≡◌, ◌≤◌, ℕ, IfOk, IsTrue};
+ghost use Rattle.std.specs.Prelude.{◌≡◌, ◌≤◌, ℕ, IfOk};
 ghost use Rattle.rp_store.specs.Heap.{IsHeld, Names};
 ghost use Rattle.rp_store.specs.Kept.{AreSound, IsSound};
 ghost use Rattle.rp_store.specs.Parts.{IsDict, IsList};
 ghost use Rattle.rp_store.specs.Shape.{KeepsShape};
 ghost use Rattle.rp_ops.specs.Outcome.{Meets, state_of};
-ghost use Rattle.rp_methods.specs.Counts.{is_done_here, receiver_of};
 ghost use Rattle.rp_methods.specs.Dicts.{dict_method};
 ghost use Rattle.rp_methods.specs.Lists.{list_method, tuple_method};
-ghost use Rattle.rp_methods.specs.Methods.{method, method_of, object_method};
+ghost use Rattle.rp_methods.specs.Methods.{method, method_of, object_method, rock_method};
+ghost use Rattle.rp_methods.specs.Texts.{text_method};
 
 use crate::counts::{counts_of, receiver_of};
-use crate::dict_keys;
 use crate::dict_keys::{get, setdefault};
 use crate::dict_pairs::{items, update};
 use crate::dict_views::{copy, keys, values};
@@ -21,14 +20,18 @@ use crate::fault::Fault;
 use crate::list_changes::{append, extend, insert, reverse};
 use crate::list_takes::pop;
 use crate::sequences::{count, index, remove};
-use rp_base::{Meter, NativeId, Oid, OpEnd, Side, Value};
+use crate::text_lists::split;
+use crate::text_makers::{join, replace, strip};
+use crate::text_tests::{endswith, find, isdigit, startswith};
+use crate::{dict_keys, text_pieces};
+use rp_base::{Meter, NativeId, Oid, OpEnd, Rock, Side, Text, Value};
 use rp_store::{Object, Store};
 use std::alloc::Global;
 
-/// `a.m(..)` of a built-in method of lists, tuples and dicts, on values whose access decisions have been made (Python
+/// `a.m(..)` of a built-in method, on values whose access decisions have been made (Python
 /// Standard Library, Built-in Types). An argument may be lent, and what is walked out of it is stored lent. What a method
-/// makes belongs to the owner of the receiver. Steps that were taken are not given back. The methods of texts are not
-/// built yet (`is_done_here`).
+/// makes belongs to the owner of the receiver. Steps that were taken are not given back. What a method of a text
+/// makes belongs to the side.
 ///
 /// # Errors
 /// - `Raised` with `TypeError`, whose text is `call` where the receiver has no such method, whatever the arguments,
@@ -51,7 +54,6 @@ pub fn call_method(
     args: &[Value],
 ) -> Result<Value, OpEnd>
     requires receiver { IsSound store.old.heap receiver.now }
-    requires done_here { IsTrue (is_done_here (receiver_of store.old.heap receiver.now)) }
     requires args { AreSound store.old.heap args.now }
     ensures plain { Meets result (state_of store.new meter.new.left) (method side receiver.now id args.now (state_of store.old meter.old.left)) }
     ensures sound { IfOk result (λ v. IsSound store.new.heap v) }
@@ -87,7 +89,7 @@ fn method_of(
     ensures fewer { meter.new.left ≤ meter.old.left }
 {
     match receiver {
-        Value::Rock(_) => Err(Fault::Call.end(alloc)),
+        Value::Rock(rock) => rock_method(alloc, store, meter, side, rock, id, args),
         Value::Ref(at) => object_method(alloc, store, meter, *at, id, args),
         Value::Prox(at) => object_method(alloc, store, meter, *at, id, args),
     }
@@ -188,6 +190,56 @@ fn dict_method(
         NativeId::SetDefault => setdefault(alloc, store, at, args),
         NativeId::Update => update(alloc, store, at, args),
         NativeId::Copy => copy(alloc, store, at, args),
+        _ => Err(Fault::Call.end(alloc)),
+    }
+}
+
+fn rock_method(
+    alloc: Global,
+    store: &mut Store,
+    meter: &mut Meter,
+    side: Side,
+    rock: &Rock,
+    id: NativeId,
+    args: &[Value],
+) -> Result<Value, OpEnd>
+    requires args { AreSound store.old.heap args.now }
+    ensures plain { Meets result (state_of store.new meter.new.left) (rock_method side rock.now id args.now (state_of store.old meter.old.left)) }
+    ensures sound { IfOk result (λ v. IsSound store.new.heap v) }
+    ensures shape { KeepsShape store.old.heap store.new.heap }
+    ensures fewer { meter.new.left ≤ meter.old.left }
+{
+    match rock {
+        Rock::Text(text) => text_method(alloc, store, meter, side, text, id, args),
+        _ => Err(Fault::Call.end(alloc)),
+    }
+}
+
+fn text_method(
+    alloc: Global,
+    store: &mut Store,
+    meter: &mut Meter,
+    side: Side,
+    text: &Text,
+    id: NativeId,
+    args: &[Value],
+) -> Result<Value, OpEnd>
+    requires args { AreSound store.old.heap args.now }
+    ensures plain { Meets result (state_of store.new meter.new.left) (text_method side text.now id args.now (state_of store.old meter.old.left)) }
+    ensures sound { IfOk result (λ v. IsSound store.new.heap v) }
+    ensures shape { KeepsShape store.old.heap store.new.heap }
+    ensures fewer { meter.new.left ≤ meter.old.left }
+{
+    match id {
+        NativeId::Join => join(alloc, store, meter, text, args),
+        NativeId::Split => split(alloc, store, side, text, args),
+        NativeId::Strip => strip(alloc, store, text, args),
+        NativeId::StartsWith => startswith(alloc, text, args),
+        NativeId::EndsWith => endswith(alloc, text, args),
+        NativeId::Find => find(alloc, text, args),
+        NativeId::Replace => replace(alloc, store, text, args),
+        NativeId::Count => text_pieces::count(alloc, text, args),
+        NativeId::IsDigit => isdigit(alloc, text, args),
         _ => Err(Fault::Call.end(alloc)),
     }
 }

@@ -6,7 +6,7 @@ ghost use Rattle.rp_show.specs.Shown.{shown_inside};
 
 use rp_base::{Kind, Memory, OpEnd, Raised, Rock, Text};
 use rp_show::shown_inside;
-use rp_store::Store;
+use rp_store::{Store, bytes_of};
 use std::alloc::Global;
 
 /// The end of an operation on a key that a dict does not have; `Memory` where there is none for its text, or the store
@@ -34,6 +34,6 @@ fn key_text(alloc: Global, store: &mut Store, rock: &Rock) -> Result<Text, Memor
     ensures same { store.new ≡ store.old }
 {
     let text = shown_inside(alloc, rock)?;
-    store.hold_text(text.as_str().len())?;
+    store.hold_text(bytes_of(&text))?;
     Ok(text)
 }

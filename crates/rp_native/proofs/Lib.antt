@@ -8,3 +8,4 @@ pub mod RangeNumbers
 pub mod StableOrders
 pub mod TableRows
 pub mod ValueOrders
+pub mod ZipRows

@@ -26,13 +26,13 @@ is_function Print = true
 is_function RemoveSecurityProxy = true
 is_function _ = false
 
--- what `call_native` may be called with: not what its caller does, and not what is not built yet
-abbrev pub is_done_here : NativeId → Bool
-is_done_here GetAttr = false
-is_done_here SetAttr = false
-is_done_here Print = false
-is_done_here Zip = false
-is_done_here _ = true
+-- what is called with the values alone: not `getattr` and `setattr`, which stand for forms of the language, and not `print`, which writes a line. Who calls
+-- the others does what these do
+abbrev pub is_called_here : NativeId → Bool
+is_called_here GetAttr = false
+is_called_here SetAttr = false
+is_called_here Print = false
+is_called_here _ = true
 
 -- a function takes so many arguments
 abbrev pub function_takes : NativeId → ℕ → Bool

@@ -1,6 +1,5 @@
 -- Calls of the built-in functions on values whose access decisions have been made (Python Standard Library, Built-in Functions): first what is
--- called, then the count of the arguments, then the function. `getattr`, `setattr` and `print` are done by the caller, and are not called here; `zip` is not
--- defined yet.
+-- called, then the count of the arguments, then the function. `getattr`, `setattr` and `print` are done by the caller, and are not called here.
 use Rattle.std.specs.Prelude.{ℕ, not, List, [], ◌∷◌, length, if◌then◌else◌}
 use Rattle.rp_base.specs.declared.native.NativeId.{NativeId}
 use Rattle.rp_base.specs.declared.native.NativeId.TheVariants as native
@@ -23,6 +22,7 @@ use Rattle.rp_native.specs.Ranges.{range}
 use Rattle.rp_native.specs.Sorted.{sorted}
 use Rattle.rp_native.specs.Tables.{enumerate}
 use Rattle.rp_native.specs.Walked.{sum}
+use Rattle.rp_native.specs.Zips.{zip}
 use Rattle.rp_native.specs.declared.extremes.Extreme.TheVariants as extremes
 use Rattle.rp_native.specs.declared.fault.Fault.TheVariants as fault
 
@@ -44,6 +44,7 @@ abbrev pub none_given : Side → NativeId → State → Outcome Value
 none_given side native.List s = new_object side (object.list []) s
 none_given side native.Tuple s = new_object side (object.tuple []) s
 none_given side native.Dict s = new_object side (object.dict []) s
+none_given side native.Zip s = zip side [] s
 none_given side id s = fails fault.Call s
 
 -- of one argument
@@ -62,6 +63,7 @@ one_given names side native.Dict v s = dict_copy side v s
 one_given names side native.Sorted v s = sorted side v s
 one_given names side native.Range v s = range side (v ∷ []) s
 one_given names side native.Enumerate v s = enumerate side v s
+one_given names side native.Zip v s = zip side (v ∷ []) s
 one_given names side native.RemoveSecurityProxy v s = gives (plain_value v) s
 one_given names side id v s = fails fault.Call s
 
@@ -70,6 +72,7 @@ abbrev pub more_given : Side → NativeId → List Value → State → Outcome V
 more_given side native.Min vs s = chosen extremes.Least vs s
 more_given side native.Max vs s = chosen extremes.Greatest vs s
 more_given side native.Range vs s = range side vs s
+more_given side native.Zip vs s = zip side vs s
 more_given side id vs s = fails fault.Call s
 
 -- a function that takes so many

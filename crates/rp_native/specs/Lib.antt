@@ -15,3 +15,5 @@ pub mod Sorted
 pub mod TableView
 pub mod Tables
 pub mod Walked
+pub mod ZipView
+pub mod Zips

@@ -5,7 +5,7 @@ ghost use Rattle.rp_store.specs.Kept.{AreSound, IsSound};
 ghost use Rattle.rp_store.specs.Shape.{KeepsShape};
 ghost use Rattle.rp_ops.specs.Growth.{Gains};
 ghost use Rattle.rp_ops.specs.Outcome.{Meets, State, gives, state_of};
-ghost use Rattle.rp_native.specs.Counts.{is_done_here};
+ghost use Rattle.rp_native.specs.Counts.{is_called_here};
 ghost use Rattle.rp_native.specs.Functions.{bool, function, more_given, none_given, one_given, plain_value, str};
 ghost use Rattle.rp_native.specs.Objects.{IsContainerOf};
 
@@ -20,18 +20,20 @@ use crate::sorts::sorted;
 use crate::spelling::int;
 use crate::sums::sum;
 use crate::tables::enumerate;
+use crate::zips::zip;
 use rp_base::{Meter, Names, NativeId, OpEnd, Rock, Side, Value};
 use rp_dict::Dict;
 use rp_ops::{Sequence, truth};
 use rp_show::show;
 use rp_store::{Object, Store};
 use std::alloc::Global;
+use std::slice;
 
 /// Calls a built-in function for code of a side, on values whose access decisions have been made (Python Standard
 /// Library, Built-in Functions). What is walked out of a proxy is lent. What is made is the side's. Each element that
 /// is walked takes a step; a list, a tuple or a dict costs a cell and one for each element or entry, a new text its
-/// bytes. `getattr`, `setattr` and `print`, and `len` of an instance whose class has `__len__`, are for the caller to
-/// do. `zip` is not built yet (`is_done_here`).
+/// bytes; `zip` takes one step for each tuple. `getattr`, `setattr` and `print` (`is_called_here`), and `len` of an
+/// instance whose class has `__len__`, are for the caller to do.
 ///
 /// # Errors
 /// - `Raised` with `TypeError`, whose text is `call`, where a method or a function that the caller does is called,
@@ -52,7 +54,7 @@ pub fn call_native(
     id: NativeId,
     args: &[Value],
 ) -> Result<Value, OpEnd>
-    requires done_here { IsTrue (is_done_here id) }
+    requires called_here { IsTrue (is_called_here id) }
     requires sound { AreSound store.old.heap args.now }
     ensures plain { Meets result (state_of store.new meter.new.left) (function names.now side id args.now (state_of store.old meter.old.left)) }
     ensures sound { IfOk result (λ v. IsSound store.new.heap v) }
@@ -67,19 +69,26 @@ pub fn call_native(
         return Err(Fault::Count.end(alloc));
     }
     let Some((first, rest)) = args.split_first() else {
-        return none_given(alloc, store, side, id);
+        return none_given(alloc, store, meter, side, id);
     };
     if rest.is_empty() {
         return one_given(alloc, store, meter, names, side, id, first);
     }
-    more_given(alloc, store, side, id, args)
+    more_given(alloc, store, meter, side, id, args)
 }
 
 /// A function of no argument.
-fn none_given(alloc: Global, store: &mut Store, side: Side, id: NativeId) -> Result<Value, OpEnd>
-    ensures plain { (steps : ℕ) → Meets result (state_of store.new steps) (none_given side id (state_of store.old steps)) }
+fn none_given(
+    alloc: Global,
+    store: &mut Store,
+    meter: &mut Meter,
+    side: Side,
+    id: NativeId,
+) -> Result<Value, OpEnd>
+    ensures plain { Meets result (state_of store.new meter.new.left) (none_given side id (state_of store.old meter.old.left)) }
     ensures sound { IfOk result (λ v. IsSound store.new.heap v) }
     ensures grown { Gains (IsContainerOf side) store.old.heap store.new.heap }
+    ensures fewer { meter.new.left ≤ meter.old.left }
 {
     match id {
         NativeId::List => new_container(store, side, Object::List(Vec::new(alloc))),
@@ -88,6 +97,7 @@ fn none_given(alloc: Global, store: &mut Store, side: Side, id: NativeId) -> Res
             let entries = Dict::new(alloc, store.seed());
             new_container(store, side, Object::Dict(entries))
         }
+        NativeId::Zip => zip(alloc, store, meter, side, &[]),
         _ => Err(Fault::Call.end(alloc)),
     }
 }
@@ -124,6 +134,7 @@ fn one_given(
         NativeId::Sorted => sorted(alloc, store, meter, side, value),
         NativeId::Range => range_to(alloc, store, side, value),
         NativeId::Enumerate => enumerate(alloc, store, meter, side, value),
+        NativeId::Zip => zip(alloc, store, meter, side, slice::from_ref(value)),
         NativeId::RemoveSecurityProxy => plain_value(value),
         _ => Err(Fault::Call.end(alloc)),
     }
@@ -134,19 +145,22 @@ fn one_given(
 fn more_given(
     alloc: Global,
     store: &mut Store,
+    meter: &mut Meter,
     side: Side,
     id: NativeId,
     args: &[Value],
 ) -> Result<Value, OpEnd>
     requires sound { AreSound store.old.heap args.now }
-    ensures plain { (steps : ℕ) → Meets result (state_of store.new steps) (more_given side id args.now (state_of store.old steps)) }
+    ensures plain { Meets result (state_of store.new meter.new.left) (more_given side id args.now (state_of store.old meter.old.left)) }
     ensures sound { IfOk result (λ v. IsSound store.new.heap v) }
     ensures grown { Gains (IsContainerOf side) store.old.heap store.new.heap }
+    ensures fewer { meter.new.left ≤ meter.old.left }
 {
     match id {
         NativeId::Min => chosen(alloc, Extreme::Least, args),
         NativeId::Max => chosen(alloc, Extreme::Greatest, args),
         NativeId::Range => range(alloc, store, side, args),
+        NativeId::Zip => zip(alloc, store, meter, side, args),
         _ => Err(Fault::Call.end(alloc)),
     }
 }

@@ -1,6 +1,6 @@
 //! How many arguments the built-in functions take.
 ghost use Rattle.std.specs.Prelude.{◌≡◌};
-ghost use Rattle.rp_native.specs.Counts.{function_takes, is_done_here, is_function};
+ghost use Rattle.rp_native.specs.Counts.{function_takes, is_called_here, is_function};
 
 use rp_base::NativeId;
 
@@ -32,13 +32,13 @@ pub(crate) fn is_function(id: NativeId) -> bool
     }
 }
 
-/// Whether `call_native` may be called with it. Not with what its caller does, `getattr`, `setattr` and `print`, nor
-/// with `zip`, which is not built yet.
-pub fn is_done_here(id: NativeId) -> bool
-    ensures { result ≡ is_done_here id }
+/// Whether `call_native` may be called with it. Not with `getattr` and `setattr`, which stand for forms of the language,
+/// nor with `print`, which writes a line: its caller does what they do.
+pub fn is_called_here(id: NativeId) -> bool
+    ensures { result ≡ is_called_here id }
 {
     match id {
-        NativeId::GetAttr | NativeId::SetAttr | NativeId::Print | NativeId::Zip => false,
+        NativeId::GetAttr | NativeId::SetAttr | NativeId::Print => false,
         _ => true,
     }
 }

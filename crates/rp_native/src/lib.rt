@@ -15,9 +15,10 @@ mod sorts;
 mod spelling;
 mod sums;
 mod tables;
+mod zips;
 
 pub use calls::call_native;
-pub use counts::{function_takes, is_done_here};
+pub use counts::{function_takes, is_called_here};
 // A crate can name these in a contract only if they are exported.
 #[doc(hidden)]
 pub use extremes::Extreme;

@@ -68,7 +68,8 @@ pub(crate) fn len(alloc: Global, store: &Store, value: &Value) -> Result<Value, 
     }
 }
 
-fn length_of(store: &Store, value: &Value) -> Option<usize>
+/// The number of elements, entries or characters; None where it has none.
+pub(crate) fn length_of(store: &Store, value: &Value) -> Option<usize>
     requires sound { IsSound store.now.heap value.now }
     ensures { result ≡ length_of store.now.heap value.now }
 {

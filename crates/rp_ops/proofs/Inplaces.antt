@@ -1,6 +1,7 @@
 -- Augmented assignment, by what the first operand names.
-use Rattle.std.proofs.Common.{◌≡◌, ℕ, ◌+◌, ◌*◌, ◌-◌, ◌≤◌, ℤ, false, List, [], length, Option, Some, None, Result, Ok, Err, IsErrAnd, IsSomeAnd, refl, sym, ap, subst, ◌∙◌, arith}
+use Rattle.std.proofs.Common.{◌≡◌, ℕ, zero, suc, ◌+◌, ◌*◌, ◌-◌, ◌≤◌, ℤ, false, List, [], ◌∷◌, append-nil, length, Option, Some, None, Result, Ok, Err, IsErrAnd, IsSomeAnd, refl, sym, ap, subst, ◌∙◌, arith}
 use Rattle.std.proofs.lemmas.List.{map-id}
+use Rattle.std.specs.List.{repeat}
 use Rattle.std.specs.Option.{option_map_or}
 use Rattle.rp_base.specs.declared.operator.BinOp.{BinOp}
 use Rattle.rp_base.specs.declared.operator.BinOp.TheVariants as op
@@ -10,7 +11,7 @@ use Rattle.rp_base.specs.declared.value.OpEnd.TheVariants as end
 use Rattle.rp_base.specs.declared.value.Side.{Side}
 use Rattle.rp_base.specs.declared.value.Value.{Value}
 use Rattle.rp_base.specs.declared.value.Value.TheVariants as value
-use Rattle.rp_store.specs.Heap.{Names, Owned, content_at}
+use Rattle.rp_store.specs.Heap.{Names, Owned, changed_from, content_at}
 use Rattle.rp_store.specs.Object.{Content, list}
 use Rattle.rp_store.specs.Parts.{IsList}
 use Rattle.rp_store.specs.Store.{Cells, IsOver, written}
@@ -123,6 +124,31 @@ repeats-within a at xs values n old between new cells steps e h first items seco
     ∙ ap (λ (t : Cells). gives a (state_of (written t at (with_elements (repeated n xs))) steps)) (sym first)
     ∙ ap (λ vs. gives a (state_of (written between at (with_elements vs)) steps)) (sym items)
     ∙ ap (λ (t : Cells). gives a (state_of t steps)) (sym second)
+
+-- a list that is repeated once holds what it held
+once : (n : ℤ) (xs : List Value) → times n ≡ 1 → xs ≡ repeated n xs
+once n xs one = sym (ap (λ k. repeat k xs) one ∙ append-nil xs)
+
+kept_content : (c : Content) → with_elements (held_by c) c ≡ c
+kept_content (list xs) = refl
+kept_content _ = refl
+
+kept_from : (heap : List Owned) (k : ℕ) → changed_from heap k (with_elements (option_map_or held_by (content_at heap (record { 0 = k })) [])) ≡ heap
+kept_from [] k = refl
+kept_from (o ∷ os) zero = ap (λ c. record { owner = o.owner; content = c } ∷ os) (kept_content o.content)
+kept_from (o ∷ os) (suc k) = ap (λ t. o ∷ t) (kept_from os k)
+
+kept_at : (old : Cells) (at : Oid) (cells : ℕ) → used old cells ≡ written (used old cells) at (with_elements (option_map_or held_by (content_at old.heap at) []))
+kept_at old at cells = ap (λ heap. record (used old cells) { heap = heap }) (sym (kept_from old.heap at.0))
+
+-- the cells of no copy are used, and the list stays
+pub repeats-once : (a : Value) (at : Oid) (n : ℤ) (old new : Cells) (cells steps : ℕ)
+    → cells ≡ (times n - 1) * length (option_map_or held_by (content_at old.heap at) []) → old.used + cells ≤ old.limit → new ≡ used old cells → times n ≡ 1
+    → repeats_list a at (option_map_or held_by (content_at old.heap at) []) (Some n) (state_of old steps) ≡ gives a (state_of new steps)
+repeats-once a at n old new cells steps e h first one =
+    let xs : List Value = option_map_or held_by (content_at old.heap at) [] in
+    repeats-within a at xs xs n old new new cells steps e h first (once n xs one)
+    (subst (λ (t : Cells). t ≡ written t at (with_elements xs)) (sym first) (kept_at old at cells))
 
 -- no cell is left for the copies
 pub repeats-stopped : (a : Value) (at : Oid) (xs : List Value) (n : ℤ) (old new : Cells) (result : Result Value OpEnd) (f : OpEnd) (cells steps : ℕ)

@@ -9,5 +9,4 @@ pub mod Walk
 pub mod Inplace
 pub mod Growth
 pub mod View
-pub mod Words
 pub mod Standing

@@ -189,6 +189,10 @@ fn repeat_in_place(
     }
 }
 
+/// The same, so many times over. Once over, the list stays as it is, and nothing is copied.
+///
+/// # Errors
+/// As `repeat_in_place`, of `StopCells` and `Memory`.
 fn set_repeated(
     alloc: Global,
     store: &mut Store,
@@ -208,6 +212,9 @@ fn set_repeated(
     let more = but_first(copies);
     let size = elements_at(store, at).len();
     charge_copies(store, 0, more, size as u64)?;
+    if copies == 1 {
+        return Ok(same);
+    }
     let x = Elements { at, lent: false };
     let values = copied(alloc, store, x, copies as usize)?;
     store.kept();

@@ -1,6 +1,6 @@
 //! The words of names.
 ghost use Rattle.std.specs.Prelude.{◌≡◌, chars};
-ghost use Rattle.rp_ops.specs.Words.{word_of};
+ghost use Rattle.rp_base.specs.Names.{word_of};
 
 use rp_base::{Name, Names};
 

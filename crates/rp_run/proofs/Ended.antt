@@ -3,8 +3,8 @@ use Rattle.std.proofs.Common.{◌≡◌, ◌++◌, ◌∙◌, ℕ, List, map, ch
 use Rattle.rp_base.specs.declared.memory.Memory.{Memory}
 use Rattle.rp_base.specs.declared.value.OpEnd.{OpEnd}
 use Rattle.rp_base.specs.declared.value.Value.{Value}
-use Rattle.rp_compile.specs.View.{statement_view}
-use Rattle.rp_compile.specs.declared.tree.Stmt.{Stmt}
+use Rattle.rp_first.specs.View.{statement_view}
+use Rattle.rp_first.specs.declared.tree.Stmt.{Stmt}
 use Rattle.rp_decl.specs.Records.{Declarations}
 use Rattle.rp_decl.specs.View.{Placed, declarations_view}
 use Rattle.rp_machine.specs.Meaning.{Outcome, State, first_state, run_script}

@@ -1,4 +1,5 @@
 mod Ascii
+mod Checks
 mod Ended
 mod Ids
 mod Later

@@ -1,12 +1,12 @@
 -- What the steps of a command say of the contents of its files.
 use Rattle.std.proofs.Common.{◌≡◌, ◌≢◌, ◌++◌, ◌∙◌, ℕ, false, List, map, codes, Option, Some, None, Result, Ok, Err, IfOk, IfSome, Vec, Global, ap, subst, refl}
-use Rattle.rp_compile.specs.Refusal.{IsRefused as IsScriptRefused, refusal_line as script_refusal_line}
-use Rattle.rp_compile.specs.Rewrites.{Rewrites}
-use Rattle.rp_compile.specs.Script.{IsScript}
-use Rattle.rp_compile.specs.Source.{Statement}
-use Rattle.rp_compile.specs.View.{statement_view}
-use Rattle.rp_compile.specs.declared.refusal.Refusal.{Refusal as ScriptRefusal}
-use Rattle.rp_compile.specs.declared.tree.Stmt.{Stmt}
+use Rattle.rp_first.specs.Refusal.{IsRefused as IsScriptRefused, refusal_line as script_refusal_line}
+use Rattle.rp_first.specs.Rewrites.{Rewrites}
+use Rattle.rp_first.specs.Script.{IsScript}
+use Rattle.rp_first.specs.Source.{Statement}
+use Rattle.rp_first.specs.View.{statement_view}
+use Rattle.rp_first.specs.declared.refusal.Refusal.{Refusal as ScriptRefusal}
+use Rattle.rp_first.specs.declared.tree.Stmt.{Stmt}
 use Rattle.rp_decl.specs.Declares.{Declares, version, shape, permission, class, group, role}
 use Rattle.rp_decl.specs.Faults.{HasFault, fault_line}
 use Rattle.rp_decl.specs.InOrder.{AreInOrder}

@@ -19,12 +19,21 @@ pub record May : Type 0 where
 
 pub data Command : Type 0 where
   run : Run → Command
+  -- tell whether the script at this path is accepted
+  check : List ℕ → Command
   may : May → Command
 
--- the path of the declarations
-abbrev pub declarations_of : Command → List ℕ
-declarations_of (run r) = r.declarations
-declarations_of (may m) = m.declarations
+-- the path of the file that is read first
+abbrev pub first_file : Command → List ℕ
+first_file (run r) = r.declarations
+first_file (check script) = script
+first_file (may m) = m.declarations
+
+-- the path of the file that is read second, where the command has one
+abbrev pub second_file : Command → Option (List ℕ)
+second_file (run r) = Some r.script
+second_file (check script) = None
+second_file (may m) = None
 
 -- a word that begins with `-` is an option, except `-` alone
 abbrev pub is_option : List ℕ → Bool
@@ -70,9 +79,11 @@ run_of declarations pair =
 abbrev pub may_of : List ℕ → List ℕ → List ℕ → Command
 may_of declarations who permission = may (record { declarations = chars declarations; ids = ids_of who; permission = chars permission })
 
--- The words, as UTF-8, that give a command: `run`, the path of the declarations, and ids with the path of their script; or `may`,
--- the path of the declarations, ids, and the id of a permission.
+-- The words, as UTF-8, that give a command: `run`, the path of the declarations, and ids with the path of their script; `check`
+-- and the path of a script; or `may`, the path of the declarations, ids, and the id of a permission.
 abbrev pub command_of : List (List ℕ) → Option Command
+command_of (verb ∷ script ∷ []) =
+    if is_verb verb (codes "check") && not (is_option script) then Some (check (chars script)) else None
 command_of (verb ∷ declarations ∷ pair ∷ []) =
     if (is_verb verb (codes "run") && not (is_option declarations)) && (not (is_option pair) && is_pair pair)
     then Some (run_of declarations pair)

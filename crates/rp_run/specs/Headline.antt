@@ -1,7 +1,7 @@
 -- What the program promises of its files and of what it writes.
 use Rattle.std.specs.Prelude.{◌≡◌, ◌≢◌, ◌<◌, ◌≤◌, ◌⊎◌, ℕ, List, ◌++◌, length, take, encode_utf8_all, Option, Some, None, option_map, IfSome}
 use Rattle.rp_decl.specs.Records.{Declarations}
-use Rattle.rp_run.specs.Command.{Command, run, may, declarations_of}
+use Rattle.rp_run.specs.Command.{Command, run, check, may, first_file, second_file}
 use Rattle.rp_run.specs.Told.{Told, IsAdmitted}
 
 -- a status of a run in which nothing failed
@@ -29,25 +29,21 @@ TellsWhole words status contents old new = (text : List ℕ) × (Told words cont
 abbrev pub TellsFront : List (List ℕ) → (List ℕ → List ℕ) → Option (List ℕ) → Option (List ℕ) → Type 0
 TellsFront words contents old new = (text : List ℕ) × ((status : ℕ) × (Told words contents text status × WritesFront text old new))
 
--- the path of the script, where the command has one
-abbrev pub script_of : Command → Option (List ℕ)
-script_of (run r) = Some r.script
-script_of (may m) = None
-
 -- no file was begun but those that the command names, each once, in the order of its steps
 abbrev pub BeginsNamed : Option Command → ℕ → List ℕ → Type 0
 BeginsNamed None begun last_path = begun ≡ 0
 BeginsNamed (Some c) begun last_path =
-    (begun ≡ 0) ⊎ (((begun ≡ 1) × (last_path ≡ declarations_of c)) ⊎ ((begun ≡ 2) × (script_of c ≡ Some last_path)))
+    (begun ≡ 0) ⊎ (((begun ≡ 1) × (last_path ≡ first_file c)) ⊎ ((begun ≡ 2) × (second_file c ≡ Some last_path)))
 
 -- the declarations are read, can be run, and have the principals of a run
 abbrev pub AdmitsRun : Command → (List ℕ → List ℕ) → Type 0
 AdmitsRun (run r) contents = (d : Declarations) × IsAdmitted r contents d
+AdmitsRun (check script) contents = ⊥
 AdmitsRun (may m) contents = ⊥
 
 -- the file at which reading failed is one that the command names, and nothing before it refused
 abbrev pub FailsAtNamed : Option Command → Option (List ℕ → List ℕ) → ℕ → List ℕ → Type 0
 FailsAtNamed None contents begun last_path = ⊥
 FailsAtNamed (Some c) contents begun last_path =
-    ((begun ≡ 1) × (last_path ≡ declarations_of c))
-    ⊎ ((begun ≡ 2) × ((script_of c ≡ Some last_path) × IfSome contents (AdmitsRun c)))
+    ((begun ≡ 1) × (last_path ≡ first_file c))
+    ⊎ ((begun ≡ 2) × ((second_file c ≡ Some last_path) × IfSome contents (AdmitsRun c)))

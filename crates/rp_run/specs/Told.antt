@@ -1,16 +1,22 @@
 -- What the program says to its words and the contents of the files that they name.
-use Rattle.std.specs.Prelude.{◌≡◌, ◌<◌, ◌≤◌, ℕ, true, false, List, ◌++◌, length, codes, Some, None, MatchOption}
-use Rattle.rp_compile.specs.Refusal.{IsRefused as IsScriptRefused, refusal_line as script_refusal_line}
-use Rattle.rp_compile.specs.Script.{IsScript}
-use Rattle.rp_compile.specs.Source.{Statement}
-use Rattle.rp_compile.specs.declared.refusal.Refusal.{Refusal as ScriptRefusal}
+use Rattle.std.specs.Prelude.{◌≡◌, ◌≢◌, ◌<◌, ◌≤◌, ℕ, true, false, List, [], ◌++◌, length, codes, Some, None, MatchOption}
+use Rattle.std.specs.List.{flat_map}
+use Rattle.rp_first.specs.Refusal.{IsRefused as IsScriptRefused, refusal_line as script_refusal_line}
+use Rattle.rp_first.specs.Script.{IsScript}
+use Rattle.rp_first.specs.Source.{Statement}
+use Rattle.rp_first.specs.declared.refusal.Refusal.{Refusal as ScriptRefusal}
 use Rattle.rp_decl.specs.Declares.{Declares, IsNoDocument, IsRefused, Refusal}
 use Rattle.rp_decl.specs.Records.{Declarations}
 use Rattle.rp_decl.specs.Word.{is_among}
 use Rattle.rp_interact.specs.Why.{first_unknown}
 use Rattle.rp_load.specs.Load.{Fault, fault_line, fault_of}
 use Rattle.rp_machine.specs.Meaning.{Outcome, run_script, first_state}
-use Rattle.rp_run.specs.Command.{Command, run, may, Run, May, command_of, usage}
+use Rattle.rp_policy.specs.Offences.{offences, offence_text}
+use Rattle.rp_program.specs.Fault.{IsFault, fault_text}
+use Rattle.rp_program.specs.Program.{IsProgram}
+use Rattle.rp_program.specs.declared.fault.ProgramFault.{ProgramFault}
+use Rattle.rp_run.specs.Command.{Command, run, check, may, Run, May, command_of, usage}
+use Rattle.rp_tree.specs.StatementTrees.{Stmts}
 use Rattle.rp_run.specs.Output.{session_block, end_status, refusal_line, may_text, may_status}
 
 -- the most bytes of a file that is read
@@ -74,6 +80,16 @@ pub data ToldRun (r : Run) (contents : List ℕ → List ℕ) (text : List ℕ) 
   ran : (d : Declarations) → IsAdmitted r contents d → IsShort (contents r.script) → (source : List Statement) → IsScript (contents r.script) source
       → text ≡ session_block 1 r.who (played r d source) → status ≡ end_status (played r d source).answer → ToldRun r contents text status
 
+-- ---- a check
+
+-- The first check that a script does not pass decides, in the order of the constructors; else it is accepted.
+pub data ToldCheck (path bytes : List ℕ) (text : List ℕ) (status : ℕ) : Type 0 where
+  long : IsTooLong bytes → text ≡ too_long_line path → status ≡ 9 → ToldCheck path bytes text status
+  no_program : IsShort bytes → (fault : ProgramFault) → IsFault bytes fault → text ≡ fault_text fault ++ codes "\n" → status ≡ 4 → ToldCheck path bytes text status
+  offends : IsShort bytes → (tree : Stmts (List ℕ)) → IsProgram bytes tree → offences tree ≢ []
+      → text ≡ flat_map (λ o. offence_text o ++ codes "\n") (offences tree) → status ≡ 4 → ToldCheck path bytes text status
+  accepted : IsShort bytes → (tree : Stmts (List ℕ)) → IsProgram bytes tree → offences tree ≡ [] → text ≡ codes "ok\n" → status ≡ 0 → ToldCheck path bytes text status
+
 -- ---- permissions
 
 -- the same order: the declarations, the principals, the permission; else each principal's line is told
@@ -88,6 +104,7 @@ pub data ToldMay (m : May) (contents : List ℕ → List ℕ) (text : List ℕ) 
 
 abbrev pub ToldCommand : Command → (List ℕ → List ℕ) → List ℕ → ℕ → Type 0
 ToldCommand (run r) contents text status = ToldRun r contents text status
+ToldCommand (check script) contents text status = ToldCheck script (contents script) text status
 ToldCommand (may m) contents text status = ToldMay m contents text status
 
 -- the program says this text, as characters, and ends with this status

@@ -5,13 +5,15 @@ ghost use Rattle.std.specs.Char.{is_ascii};
 ghost use Rattle.std.specs.Fmt.{decimal};
 ghost use Rattle.std.specs.List.{list_all};
 ghost use Rattle.rp_base.specs.Kind.{kind_name};
-ghost use Rattle.rp_compile.specs.Refusal.{refusal_line};
+ghost use Rattle.rp_first.specs.Refusal.{refusal_line};
+ghost use Rattle.rp_script.specs.Refusal.{refusal_lines};
 ghost use Rattle.rp_run.specs.Command.{usage};
 ghost use Rattle.rp_run.specs.Output.{detail, end_line, end_status};
 ghost use Rattle.rp_run.specs.View.{end_view};
 
-use rp_base::{Memory, Printed, Raised, Status, Text};
-use rp_compile::{Refusal, refusal_text};
+use rp_base::{Memory, Names, Printed, Raised, Status, Text};
+use rp_first::{Refusal, refusal_text};
+use rp_script::Refusal as Unaccepted;
 use std::alloc::Global;
 
 /// What the program says where its words give no command.
@@ -98,6 +100,26 @@ impl Answer {
             Refusal::Memory => Err(Memory),
             _ => Ok(Answer {
                 text: refusal_text(alloc, prefix, refusal)?,
+                status: Status(4),
+            }),
+        }
+    }
+
+    /// The answer to a script that is not accepted, each line behind a prefix. It is refused only for want of memory,
+    /// which may be the script's refusal.
+    pub fn unaccepted(
+        alloc: Global,
+        prefix: &str,
+        refusal: &Unaccepted,
+        names: &Names,
+    ) -> Result<Answer, Memory>
+        ensures said { IfOk result (λ a. (a.text ≡ refusal_lines names.now (chars prefix.now) refusal.now) × (a.status.0 ≡ 4)) }
+        ensures other { OnOk result (refusal.now ≢ Unaccepted.Memory) }
+    {
+        match refusal {
+            Unaccepted::Memory => Err(Memory),
+            _ => Ok(Answer {
+                text: rp_script::refusal_text(alloc, prefix, refusal, names)?,
                 status: Status(4),
             }),
         }

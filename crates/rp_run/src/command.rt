@@ -12,6 +12,8 @@ use std::alloc::Global;
 #[derive(Drop)]
 pub enum Command {
     Run(Run),
+    /// To tell whether the script at this path is accepted.
+    Check(Text),
     May(May),
 }
 
@@ -44,6 +46,7 @@ impl Command {
         ensures { IfOk result (λ c. option_map command_view c ≡ command_of (map string_bytes words.now)) }
     {
         match words {
+            [verb, script] => read_check(alloc, verb.as_str(), script.as_str()),
             [verb, declarations, pair] => {
                 read_run(alloc, verb.as_str(), declarations.as_str(), pair.as_str())
             }
@@ -82,6 +85,15 @@ fn read_run(
         ids,
         script: Text::new(alloc, script)?,
     })))
+}
+
+fn read_check(alloc: Global, verb: &str, script: &str) -> Result<Option<Command>, Memory>
+    ensures { IfOk result (λ c. option_map command_view c ≡ command_of (verb.now ∷ script.now ∷ [])) }
+{
+    if verb != "check" || is_option(script) {
+        return Ok(None);
+    }
+    Ok(Some(Command::Check(Text::new(alloc, script)?)))
 }
 
 fn read_may(

@@ -1,13 +1,19 @@
 //! Declarations and scripts read into names that are first hashed anew, from a secret and their bytes: who wrote the bytes
 //! cannot pick names that collide. Nothing that is told depends on it.
 
-ghost use Rattle.std.specs.Prelude.{◌≡◌, ◌≢◌, IfErr, IfOk, List};
+ghost use Rattle.std.specs.Prelude.{◌≡◌, ◌≢◌, IfErr, IfOk, List, []};
 ghost use Rattle.std.specs.List.{All};
-ghost use Rattle.rp_compile.specs.Refusal.{IsRefused};
-ghost use Rattle.rp_compile.specs.Rewrites.{Rewrites};
-ghost use Rattle.rp_compile.specs.Script.{IsScript};
-ghost use Rattle.rp_compile.specs.Source.{Statement};
-ghost use Rattle.rp_compile.specs.View.{IsStatementHeld};
+ghost use Rattle.rp_base.specs.Names.{word_of};
+ghost use Rattle.rp_script.specs.Refusal.{IsRefused as IsUnaccepted};
+ghost use Rattle.rp_first.specs.Refusal.{IsRefused};
+ghost use Rattle.rp_policy.specs.Offences.{offences};
+ghost use Rattle.rp_program.specs.Program.{IsProgram};
+ghost use Rattle.rp_tree.specs.Maps.{named};
+ghost use Rattle.rp_tree.specs.StatementViews.{view_tree};
+ghost use Rattle.rp_first.specs.Rewrites.{Rewrites};
+ghost use Rattle.rp_first.specs.Script.{IsScript};
+ghost use Rattle.rp_first.specs.Source.{Statement};
+ghost use Rattle.rp_first.specs.View.{IsStatementHeld};
 ghost use Rattle.rp_decl.specs.Consistency.{IsConsistent};
 ghost use Rattle.rp_decl.specs.Declares.{Declares};
 ghost use Rattle.rp_decl.specs.Faults.{HasFault, IsFaultHeld};
@@ -16,8 +22,10 @@ ghost use Rattle.rp_decl.specs.Places.{GrowsTo, IsHeldBy};
 ghost use Rattle.rp_decl.specs.View.{declarations_view};
 
 use rp_base::{Memory, Names};
-use rp_compile::{Compiled, Refusal};
 use rp_decl::{Decl, DeclFault};
+use rp_first::{Compiled, Refusal};
+use rp_script::Refusal as Unaccepted;
+use rp_tree::Tree;
 use std::alloc::Global;
 
 /// Hashes the words anew, from their seed and these bytes.
@@ -45,11 +53,11 @@ pub fn declarations(alloc: Global, bytes: &[u8], names: &mut Names) -> Result<De
     rp_decl::declarations(alloc, bytes, names)
 }
 
-/// The compiled script of the bytes.
+/// The statements of the first forms that the bytes are, with guards.
 ///
 /// # Errors
-/// As `rp_compile::compile_script`.
-pub fn compile_script(alloc: Global, bytes: &[u8], names: &mut Names) -> Result<Compiled, Refusal>
+/// As `rp_first::compile_script`.
+pub fn first_script(alloc: Global, bytes: &[u8], names: &mut Names) -> Result<Compiled, Refusal>
     ensures rewritten { IfOk result (λ c. (source : List Statement) × (IsScript bytes.now source × Rewrites names.new source c)) }
     ensures one { IfOk result (λ c. (source : List Statement) → IsScript bytes.now source → Rewrites names.new source c) }
     ensures held { IfOk result (λ c. All (IsStatementHeld names.new) c) }
@@ -57,5 +65,18 @@ pub fn compile_script(alloc: Global, bytes: &[u8], names: &mut Names) -> Result<
     ensures names { GrowsTo names.old names.new }
 {
     rekey(names, bytes)?;
-    rp_compile::compile_script(alloc, bytes, names)
+    rp_first::compile_script(alloc, bytes, names)
+}
+
+/// The tree of the script that the bytes are, against which the policy of names has nothing.
+///
+/// # Errors
+/// As `rp_script::read_script`.
+pub fn read_script(alloc: Global, bytes: &[u8], names: &mut Names) -> Result<Tree, Unaccepted>
+    ensures program { IfOk result (λ t. IsProgram bytes.now (named (word_of names.new) (view_tree t))) }
+    ensures lawful { IfOk result (λ t. offences (named (word_of names.new) (view_tree t)) ≡ []) }
+    ensures refused { IfErr result (λ refusal. refusal ≢ Unaccepted.Memory → IsUnaccepted names.new bytes.now refusal) }
+{
+    rekey(names, bytes)?;
+    rp_script::read_script(alloc, bytes, names)
 }

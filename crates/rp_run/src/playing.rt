@@ -2,7 +2,7 @@
 
 ghost use Rattle.std.specs.Prelude.{◌≡◌, ◌≢◌, ◌<◌, ℕ, [], Err, List, None, Some, IfOk, IfSome, IsErrOf, OnOk, map};
 ghost use Rattle.std.specs.List.{All};
-ghost use Rattle.rp_compile.specs.View.{IsStatementHeld, statement_view};
+ghost use Rattle.rp_first.specs.View.{IsStatementHeld, statement_view};
 ghost use Rattle.rp_decl.specs.InOrder.{AreInOrder};
 ghost use Rattle.rp_decl.specs.View.{declarations_view};
 ghost use Rattle.rp_interact.specs.Answers.{AnswersAs};
@@ -20,12 +20,12 @@ ghost use Rattle.rp_run.specs.View.{IsReadInto, IsToldBy, run_view};
 use crate::answer::{Answer, SessionEnd};
 use crate::command::Run;
 use crate::declaring::{Declared, read_declarations};
-use crate::keying::compile_script;
+use crate::keying::first_script;
 use crate::reading::{Contents, read_file};
 use crate::stop::Stop;
 use rp_base::{Files, Memory, Meter, Names, OpEnd, Printed, Value};
-use rp_compile::Compiled;
 use rp_decl::Decl;
+use rp_first::Compiled;
 use rp_interact::{Interaction, WhoFault};
 use rp_load::{fault_line, load, load_fault};
 use rp_machine::Session;
@@ -143,7 +143,7 @@ fn answer_script<F: Files>(
         Contents::TooLong => Ok(Answer::labelled(alloc, "too long: ", &command.script, 9)?),
         Contents::Whole(bytes) => {
             let mut admitted = admitted;
-            match compile_script(alloc, bytes.as_slice(), &mut admitted.names) {
+            match first_script(alloc, bytes.as_slice(), &mut admitted.names) {
                 Ok(script) => Ok(play(alloc, command, admitted, &script)?),
                 Err(refusal) => Ok(Answer::refused(alloc, "script 1: ", &refusal)?),
             }

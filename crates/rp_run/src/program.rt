@@ -6,6 +6,7 @@ ghost use Rattle.rp_run.specs.Headline.{IsAnswer, IsStatus, Writes, TellsWhole, 
 ghost use Rattle.rp_run.specs.Told.{Told};
 
 use crate::answer::Answer;
+use crate::checking::answer_check;
 use crate::command::Command;
 use crate::playing::answer_run;
 use crate::stop::Stop;
@@ -18,12 +19,12 @@ use std::alloc::Global;
 ///
 /// Whatever the words and the files say, what is written and the status are those of the direct meaning
 /// of the source script, where each operation through a lent reference is first decided by the declared
-/// policy for the script's principals, and logged; `may` tells what that policy grants. All text goes to
-/// `out`, and only after the last step.
+/// policy for the script's principals, and logged; `may` tells what that policy grants, and `check` the faults
+/// and offences of a script. All text goes to `out`, and only after the last step.
 ///
 /// | status | means |
 /// |---|---|
-/// | 0 | the session ended well; or the principals have the permission |
+/// | 0 | the session ended well; or the script is accepted; or the principals have the permission |
 /// | 1 | the session ended by an exception; or the principals lack the permission |
 /// | 2 | the words give no command |
 /// | 3 | the declarations, a principal or the permission are refused |
@@ -84,6 +85,7 @@ fn answer<F: Files>(alloc: Global, words: &[String], files: &mut F) -> Result<An
     match Command::read(alloc, words)? {
         None => Ok(Answer::usage(alloc)?),
         Some(Command::Run(run)) => answer_run(alloc, &run, files),
+        Some(Command::Check(script)) => answer_check(alloc, &script, files),
         Some(Command::May(may)) => answer_may(alloc, &may, files),
     }
 }

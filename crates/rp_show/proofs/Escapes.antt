@@ -1,5 +1,5 @@
 -- Characters and escapes as they are added to a text.
-use Rattle.std.proofs.Common.{◌≡◌, ℕ, ◌+◌, List, [], ◌∷◌, ◌++◌, append-nil, append_assoc, encode_utf8_all, IsUtf8, refl, sym, ap, ◌∙◌, length, Bool, true, false, ◌==◌}
+use Rattle.std.proofs.Common.{◌≡◌, ℕ, List, [], ◌∷◌, ◌++◌, append-nil, append_assoc, encode_utf8_all, IsUtf8, refl, sym, ap, ◌∙◌, length, true, false, ◌==◌}
 use Rattle.std.specs.Char.{IsScalar}
 use Rattle.std.specs.Str.{chars}
 use Rattle.std.proofs.lemmas.Str.{IsUtf8-encode, chars-append, chars_from_encodes, chars-nil, encodes-chars}
@@ -22,10 +22,6 @@ chars-push bs c h scalar =
 pub escaped_all-append : (q : ℕ) (xs ys : List ℕ) → escaped_all q (xs ++ ys) ≡ escaped_all q xs ++ escaped_all q ys
 escaped_all-append q [] ys = refl
 escaped_all-append q (x ∷ xs) ys = ap (λ t. escaped q x ++ t) (escaped_all-append q xs ys) ∙ sym (append_assoc (escaped q x) (escaped_all q xs) (escaped_all q ys))
-
--- one character more is escaped
-pub escaped_all-push : (q : ℕ) (xs : List ℕ) (c : ℕ) → escaped_all q (xs ++ c ∷ []) ≡ escaped_all q xs ++ escaped q c
-escaped_all-push q xs c = escaped_all-append q xs (c ∷ []) ∙ ap (λ t. escaped_all q xs ++ t) (append-nil (escaped q c))
 
 -- the names of kinds and built-ins are their own bytes
 pub chars-kind : (k : Kind) → chars (kind_name k) ≡ kind_name k
@@ -111,5 +107,3 @@ pub call-joined : (a b c d e : List ℕ) → (((a ++ b) ++ c) ++ d) ++ e ≡ a +
 call-joined a b c d e = simp append_assoc
 
 pub ruleset names = (chars-kind, chars-native)
-
-pub ruleset pushes = (escaped_all-push, append_assoc, append-nil)

@@ -1,5 +1,6 @@
 mod Escapes
 mod Lines
 mod Marks
+mod Runs
 mod ShowExamples
 mod Turns

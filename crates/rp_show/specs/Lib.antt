@@ -1,3 +1,4 @@
+pub mod EscapeSteps
 pub mod Shown
 pub mod Show
 pub mod ShowView

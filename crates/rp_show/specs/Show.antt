@@ -19,7 +19,7 @@ use Rattle.rp_store.specs.Object as object
 use Rattle.rp_store.specs.Object.{Content}
 use Rattle.rp_ops.specs.Depth.{deepest, nested}
 use Rattle.rp_ops.specs.Outcome.{State, Outcome, gives, on_value, stepped, charged}
-use Rattle.rp_ops.specs.Words.{word_of}
+use Rattle.rp_base.specs.Names.{word_of}
 use Rattle.rp_show.specs.Shown.{shown_inside}
 
 -- a text that is written, of which each character costs its bytes

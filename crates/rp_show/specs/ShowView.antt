@@ -13,7 +13,7 @@ use Rattle.rp_store.specs.Object as object
 use Rattle.rp_store.specs.Object.{Content}
 use Rattle.rp_store.specs.Store.{Cells}
 use Rattle.rp_ops.specs.Outcome.{State, Outcome, Meets, gives, on_value, state_of, stepped}
-use Rattle.rp_ops.specs.Words.{word_of}
+use Rattle.rp_base.specs.Names.{word_of}
 use Rattle.rp_show.specs.Show.{Showing, callee_word, class_word, content_shown, cut_text, followed, function_name, further, is_among, printed, separated, shown, tuple_end}
 use Rattle.rp_show.specs.Shown.{shown_inside}
 

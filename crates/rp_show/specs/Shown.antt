@@ -1,5 +1,5 @@
 -- How rocks are shown inside a container (Python Standard Library, repr): texts in quotes with their escapes, the rest as written.
--- Other way: the escapes of a text's characters are lists that are joined; the code loops over the characters and adds to one text.
+-- Other way: the escapes of a text's characters are lists that are joined; the code adds the runs between them, found among the bytes, to one text.
 use Rattle.std.specs.Prelude.{ℕ, ◌/◌, ◌%◌, Bool, true, false, ◌==◌, ◌&&◌, ◌||◌, not, nat_lt, List, [], ◌∷◌, ◌++◌, codes, if◌then◌else◌}
 use Rattle.std.specs.Char.{digit_char}
 use Rattle.std.specs.Fmt.{signed_decimal}

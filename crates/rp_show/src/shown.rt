@@ -1,8 +1,11 @@
 //! Rocks as they are shown inside a container, written into a growing text.
-ghost use Rattle.std.specs.Prelude.{◌≡◌, ◌<◌, ◌++◌, ◌∷◌, [], chars, encode_utf8_all, if◌then◌else◌, length, IfOk, OnOk};
+ghost use Rattle.std.specs.Prelude.{◌≡◌, ◌<◌, ◌++◌, ◌∷◌, [], chars, drop, encode_utf8_all, if◌then◌else◌, length, take, IfOk, OnOk};
 ghost use Rattle.std.specs.Char.{digit_char};
 ghost use Rattle.std.specs.Fmt.{signed_decimal};
+ghost use Rattle.std.specs.List.{position_or_len};
+ghost use Rattle.std.specs.Str.{IsUtf8};
 ghost use Rattle.rp_base.specs.Kind.{kind_name};
+ghost use Rattle.rp_show.specs.EscapeSteps.{has_escape};
 ghost use Rattle.rp_show.specs.Shown.{escaped, escaped_all, exception_call, hex_escape, holds, is_control, quote_of, quoted, shown_inside};
 
 use itoa::Buffer;
@@ -128,14 +131,30 @@ impl Line {
         self.push(quote)
     }
 
-    #[tactic(auto, using(crate::proofs::Escapes::pushes))]
+    /// Adds a text with its escapes, run by run, each up to the next character that has one.
     fn add_escaped(&mut self, quote: char, text: &str) -> Result<(), Memory>
+        requires { quote < 128 }
         ensures { OnOk result (self.new ≡ self.old ++ escaped_all quote (chars text.now)) }
     {
-        for c in text.chars() {
-            self.escape(quote, c)?;
+        let mut rest = text;
+        'runs: while !rest.is_empty() {
+            let (run, behind) = split_plain(quote, rest);
+            self.add(run)?;
+            self.escape_first(quote, behind)?;
+            rest = behind_first(behind);
         }
         Ok(())
+    }
+
+    /// Adds the first character, where there is one, by its escape.
+    #[inline(always)]
+    fn escape_first(&mut self, quote: char, text: &str) -> Result<(), Memory>
+        ensures { OnOk result (self.new ≡ self.old ++ escaped_all quote (take 1 (chars text.now))) }
+    {
+        match text.chars().next() {
+            Some(c) => self.escape(quote, c),
+            None => Ok(()),
+        }
     }
 
     #[tactic(auto)]
@@ -194,9 +213,53 @@ fn hex_digit(n: u32) -> char
     }
 }
 
+/// The front of a text up to the first character that has an escape, and what stands from there.
+#[inline(always)]
+fn split_plain(quote: char, text: &str) -> (&str, &str)
+    requires { quote < 128 }
+    ensures text { chars text.now ≡ chars result.0.now ++ chars result.1.now }
+    ensures plain { escaped_all quote (chars result.0.now) ≡ chars result.0.now }
+    ensures run { IsUtf8 result.0.now }
+    ensures rest { IsUtf8 result.1.now }
+{
+    text.split_at(plain_length(quote, text))
+}
+
+/// How many bytes stand before the first character that has an escape.
+fn plain_length(quote: char, text: &str) -> usize
+    ensures { result ≡ position_or_len (has_escape quote) text.now }
+{
+    let bytes = text.as_bytes();
+    match bytes.iter().position(|byte| has_escape(quote, *byte)) {
+        Some(at) => at,
+        None => bytes.len(),
+    }
+}
+
+/// Whether a byte is a character that has an escape.
+#[inline(always)]
+fn has_escape(quote: char, byte: u8) -> bool
+    ensures { result ≡ has_escape quote byte }
+{
+    byte < 32 || byte == 127 || byte == b'\\' || byte as char == quote
+}
+
+/// What stands behind the first character.
+#[inline(always)]
+fn behind_first(text: &str) -> &str
+    ensures { chars result.now ≡ drop 1 (chars text.now) }
+{
+    let mut letters = text.chars();
+    match letters.next() {
+        Some(_) => letters.as_str(),
+        None => text,
+    }
+}
+
 /// The quote that a text is shown in: ' but where it holds that and no ".
 fn quote_of(text: &str) -> char
-    ensures { result ≡ quote_of (chars text.now) }
+    ensures quote { result ≡ quote_of (chars text.now) }
+    ensures ascii { result < 128 }
 {
     if holds(text, '\'') && !holds(text, '"') {
         '"'
@@ -206,7 +269,8 @@ fn quote_of(text: &str) -> char
 }
 
 fn holds(text: &str, c: char) -> bool
+    requires { c < 128 }
     ensures { result ≡ holds c (chars text.now) }
 {
-    text.chars().any(|d| d == c)
+    text.contains(c)
 }

@@ -122,9 +122,9 @@ impl Store {
         self.limit = limit;
     }
 
-    /// Counts the bytes of a text that costs no cell, as that of an exception which the system raises: twice, since the
-    /// text may have room for as many again from when it was built. A text of at most 128 bytes has room in the cell of
-    /// what holds it.
+    /// Counts the bytes of a text that costs no cell, as that of an exception which the system raises (`bytes_of`):
+    /// twice, since the text may have room for as many again from when it was built. A text of at most 128 bytes has
+    /// room in the cell of what holds it.
     ///
     /// # Errors
     /// `Memory` where what is counted so far passes 300 bytes for each cell of the limit, and 64 MB. It is never given

@@ -3,8 +3,8 @@
 use crate::soundness::{are_sound, is_sound};
 use crate::world::{Fault, OURS, World};
 use rp_base::{Meter, Names, NativeId, Rock, Value};
-use rp_methods::{call_method, is_done_here as has_methods_here};
-use rp_native::{call_native, is_done_here, print_line};
+use rp_methods::call_method;
+use rp_native::{call_native, is_called_here, print_line};
 use rp_store::Store;
 use std::alloc::Global;
 
@@ -50,7 +50,7 @@ fn function(
     id: NativeId,
     args: &[Value],
 ) -> Result<Value, Fault> {
-    if !is_done_here(id) || !are_sound(store, args) {
+    if !is_called_here(id) || !are_sound(store, args) {
         return Err(Fault::Unsound);
     }
     Ok(call_native(alloc, store, meter, names, OURS, id, args)?)
@@ -66,9 +66,6 @@ fn method(
     args: &[Value],
 ) -> Result<Value, Fault> {
     if !is_sound(store, receiver) || !are_sound(store, args) {
-        return Err(Fault::Unsound);
-    }
-    if !has_methods_here(store, receiver) {
         return Err(Fault::Unsound);
     }
     Ok(call_method(alloc, store, meter, names, OURS, receiver, id, args)?)

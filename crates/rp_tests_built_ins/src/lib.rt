@@ -20,6 +20,8 @@ mod need_tests;
 #[cfg(test)]
 mod soundness;
 #[cfg(test)]
+mod text_tests;
+#[cfg(test)]
 mod walk_tests;
 #[cfg(test)]
 mod words;

@@ -95,3 +95,33 @@ fn elements_are_counted(rt: HostRuntime) -> Result<(), Fail> {
     assert_eq!(rt; found.as_str(), "");
     Ok(())
 }
+
+const ZIPPED: &str = r#"
+    What is walked side by side.
+    zip() => [] ‖ zip([]) => [] ‖ zip([1, 2]) => [(1,), (2,)] ‖ zip([1, 2], [3, 4]) => [(1, 3), (2, 4)]
+    zip([1, 2, 3], [4]) => [(1, 4)] ‖ zip([4], [1, 2, 3]) => [(4, 1)] ‖ zip([], [1]) => [] ‖ zip([1], []) => []
+    zip('ab', [1, 2]) => [('a', 1), ('b', 2)] ‖ zip({'a': 1}, (2,)) => [('a', 2)]
+    zip([1, 2], 'ab', (3, 4)) => [(1, 'a', 3), (2, 'b', 4)] ‖ zip([1, 2, 3], 'ab', (3,)) => [(1, 'a', 3)]
+    zip(lent([[1]]), [[2]]) => [([1], [2])] ‖ a = [1]; b = a.append(a); zip(a, a) => [(1, 1), ([1, [...]], [1, [...]])]
+    zip('', 'a') => [] ‖ zip([1], [2], [3], [4]) => [(1, 2, 3, 4)] ‖ zip(5) => TypeError: iterate
+    zip([1], 5) => TypeError: iterate ‖ zip(5, [1]) => TypeError: iterate ‖ zip([], 5) => TypeError: iterate
+    zip(None) => TypeError: iterate ‖ zip([], [], thing()) => TypeError: iterate ‖ zip('ab', True) => TypeError: iterate
+    zip(len, []) => TypeError: iterate
+    By our own rules, or with what they cost.
+    zip() => [] | ours | 0 steps | 1 cells ‖ zip([]) => [] | ours | 0 steps | 1 cells
+    zip([1, 2], [3, 4]) => [(1, 3), (2, 4)] | ours | 2 steps | 9 cells
+    zip([1, 2, 3], 'ab') => [(1, 'a'), (2, 'b')] | 2 steps | 11 cells
+    zip('abc', [1]) => [('a', 1)] | 1 steps | 6 cells ‖ zip([1], 'abc') => [(1, 'a')] | 1 steps | 6 cells
+    zip('é', 'ab', '') => [] | 0 steps | 1 cells ‖ zip('éa', 'b') => [('é', 'b')] | 1 steps | 8 cells
+    zip([1], 5) => TypeError: iterate | 0 steps | 0 cells ‖ zip('ab', 5) => TypeError: iterate | 0 steps | 0 cells
+    a = zip(lent([[1]]), [[2]]); a.pop() => ([1], [2]) | ours | 1 lent elements
+    steps 1; cells 1; zip('ab', 'cd') => stop cells ‖ steps 1; cells 2; zip('ab', 'cd') => stop steps
+    steps 2; cells 12; zip('ab', 'cd') => stop cells ‖ zip('ab', 'cd') => [('a', 'c'), ('b', 'd')] | 2 steps | 13 cells
+"#;
+
+#[test]
+fn elements_go_side_by_side(rt: HostRuntime) -> Result<(), Fail> {
+    let found = others(rt.alloc(), ZIPPED)?;
+    assert_eq!(rt; found.as_str(), "");
+    Ok(())
+}

@@ -6,6 +6,8 @@ mod cases;
 #[cfg(test)]
 mod chains;
 #[cfg(test)]
+mod check_tests;
+#[cfg(test)]
 mod checker_answers;
 #[cfg(test)]
 mod checker_tests;

@@ -73,7 +73,11 @@ may title.toml bob:s.py zope.View => usage
 may title.toml bob -zope.View => usage
 may title.toml bob zope/View => usage
 May title.toml bob zope.View => usage
-may title.toml bob zope.View x => usage"#;
+may title.toml bob zope.View x => usage
+check => usage
+check -s => usage
+check s.py t.py => usage
+Check s.py => usage"#;
 
 #[test]
 fn says_what_a_session_says(rt: HostRuntime) -> Result<(), Fail> {

@@ -3,7 +3,7 @@
 ghost use Rattle.std.specs.Prelude.{◌≡◌, ◌<◌, ℕ, List, [], IfOk, IfSome, None};
 ghost use Rattle.std.specs.List.{All};
 ghost use Rattle.rp_base.specs.Names.{first_words};
-ghost use Rattle.rp_compile.specs.View.{IsStatementHeld};
+ghost use Rattle.rp_first.specs.View.{IsStatementHeld};
 ghost use Rattle.rp_decl.specs.Consistency.{IsConsistent};
 ghost use Rattle.rp_decl.specs.InOrder.{AreInOrder};
 ghost use Rattle.rp_decl.specs.Places.{GrowsTo, IsHeldBy};
@@ -14,8 +14,8 @@ ghost use Rattle.rp_load.specs.Load.{fault_of};
 use crate::cases::seed;
 use crate::crossing_answers::end_text;
 use rp_base::{ClassTag, Meter, Name, Names, Op, Printed, Text};
-use rp_compile::{Compiled, compile_script};
 use rp_decl::{Decl, Row, declarations};
+use rp_first::{Compiled, compile_script};
 use rp_interact::Interaction;
 use rp_load::{fault_line, load, load_fault};
 use rp_machine::Session;

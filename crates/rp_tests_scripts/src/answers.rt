@@ -3,8 +3,8 @@
 use crate::shown::{show_expr, show_name, show_params, show_place, show_target};
 use crate::shown_statements::show_stmts;
 use rp_base::{Memory, Names, Seed};
-use rp_compile::{compile_script, refusal_text};
 use rp_expr::{expr, expr_list, params, place_of, target};
+use rp_first::{compile_script, refusal_text};
 use rp_heights::height;
 use rp_parse::{ParseFault, parse};
 use rp_token::{Token, TokenFault, TokenKind, tokens};

@@ -3,7 +3,7 @@
 use crate::answers::{Question, compiled_bytes, new_names};
 use crate::cases::first_other;
 use rp_base::{Line, Names};
-use rp_compile::{Refusal, compile_script, refusal_text};
+use rp_first::{Refusal, compile_script, refusal_text};
 use rp_token::TokenFault;
 use std::alloc::Global;
 use std::test::Fail;

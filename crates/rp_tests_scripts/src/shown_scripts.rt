@@ -1,7 +1,7 @@
 //! The statements of compiled scripts in words.
 
 use rp_base::{Name, Names};
-use rp_compile::{Expr, Stmt};
+use rp_first::{Expr, Stmt};
 use std::alloc::AllocError;
 
 /// The word of a name.

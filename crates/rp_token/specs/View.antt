@@ -1,6 +1,7 @@
 -- Which token of the definition a token of the program is.
-use Rattle.std.specs.Prelude.{◌≡◌, ◌<◌, ⊤, ℕ, pos, negsuc, List, [], Option, None, Some, chars, codes, drop, length, slice_index_or}
+use Rattle.std.specs.Prelude.{◌≡◌, ◌<◌, ⊤, ℕ, pos, negsuc, List, [], Option, None, Some, chars, codes, drop, length}
 use Rattle.std.specs.Str.{IsUtf8}
+use Rattle.rp_base.specs.Names.{word_of}
 use Rattle.rp_token.specs.declared.token.Token.{Token}
 use Rattle.rp_token.specs.declared.token.TokenKind.{TokenKind}
 use Rattle.rp_token.specs.declared.token.TokenKind.TheVariants as kind
@@ -8,7 +9,7 @@ use Rattle.rp_token.specs.Form.{Form, name, number, literal, keyword, mark, newl
 
 -- a name by the text that is held at its place, a keyword and a mark by their spelling; no token is a number below 0
 abbrev pub form_view : List (List ℕ) → TokenKind → Form
-form_view names (kind.Name n) = name (slice_index_or names n.0 [])
+form_view names (kind.Name n) = name (word_of names n)
 form_view names (kind.Int (pos n)) = number n
 form_view names (kind.Int (negsuc n)) = mark []
 form_view names (kind.Text t) = literal t

@@ -26,6 +26,11 @@ is_call_guarded (t.arg (t.star e) xs) g = is_mark Apply g
 is_call_guarded (t.arg (t.key n e) xs) g = is_call_guarded xs g
 is_call_guarded (t.arg (t.stars e) xs) g = is_mark Apply g
 
+-- the mark of going over an iterable whose elements are assigned to this target
+abbrev pub is_walk_marked : {A : Type 0} → Target A → Option Guard → Bool
+is_walk_marked (t.to_place p) g = is_mark GetIter g
+is_walk_marked (t.group ps) g = is_mark IterUnpack g
+
 abbrev mutual
   pub is_expr_guarded : {A : Type 0} → Expr A → Bool
   is_expr_guarded (t.node l f) = is_form_guarded f
@@ -79,8 +84,7 @@ abbrev mutual
   are_clauses_guarded (t.clause x xs) = is_clause_guarded x && are_clauses_guarded xs
 
   pub is_walk_guarded : {A : Type 0} → Walk A → Bool
-  is_walk_guarded (t.a_walk (t.to_place p) e g) = is_place_guarded p && is_expr_guarded e && is_mark GetIter g
-  is_walk_guarded (t.a_walk (t.group ps) e g) = are_targets_guarded ps && is_expr_guarded e && is_mark IterUnpack g
+  is_walk_guarded (t.a_walk p e g) = is_target_guarded p && is_expr_guarded e && is_walk_marked p g
 
   pub is_target_guarded : {A : Type 0} → Target A → Bool
   is_target_guarded (t.to_place p) = is_place_guarded p

@@ -1,3 +1,4 @@
+pub mod Augmented
 pub mod Expressions
 pub mod ExpressionTrees
 pub mod ExpressionViews

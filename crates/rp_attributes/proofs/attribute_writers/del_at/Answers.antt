@@ -1,7 +1,7 @@
 use Rattle.std.proofs.Common.{◌≡◌, None, sym, ◌∙◌}
 use Rattle.rp_store.specs.Heap.{field_at}
 use Rattle.rp_ops.specs.Outcome.{state_of}
-use Rattle.rp_ops.specs.Words.{word_of}
+use Rattle.rp_base.specs.Names.{word_of}
 use Rattle.rp_attributes.proofs.Places.{Meets-raised, del_at-missing, is_none-None, written-missing}
 use Rattle.rp_attributes.proofs.attribute_writers.del_at.Goals as goal
 

@@ -1,7 +1,7 @@
 use Rattle.std.proofs.Common.{sym, subst}
 use Rattle.rp_base.specs.declared.value.Value.{Value}
 use Rattle.rp_ops.specs.Outcome.{Meets, Outcome, state_of}
-use Rattle.rp_ops.specs.Words.{word_of}
+use Rattle.rp_base.specs.Names.{word_of}
 use Rattle.rp_attributes.proofs.Places.{attribute_at-method}
 use Rattle.rp_attributes.proofs.attributes.attribute_at.Goals as goal
 

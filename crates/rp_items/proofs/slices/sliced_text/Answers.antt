@@ -5,7 +5,7 @@ use Rattle.rp_ops.specs.Outcome.{Meets, state_of}
 use Rattle.rp_ops.proofs.CallerLemmas.{text-stopped}
 use Rattle.rp_items.specs.Slices.{sliced}
 use Rattle.rp_items.specs.SliceView.{span_seen, taken}
-use Rattle.rp_items.proofs.Collected.{slice-over}
+use Rattle.rp_items.proofs.Sliced.{slice-over}
 use Rattle.rp_items.proofs.SlicePlaces.{taken-sliced}
 use Rattle.rp_items.proofs.slices.sliced_text.Goals as goal
 

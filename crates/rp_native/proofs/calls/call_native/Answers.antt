@@ -8,3 +8,6 @@ returns-then-is_empty-clause-shape c =
 
 pub returns-clause-shape : goal.returns-clause-shape
 returns-clause-shape c = KeepsShape-Gains (IsContainerOf c.args.side) c.args.store.now.heap c.more_given.new.store.heap c.more_given.ensures.grown
+
+pub returns-in_default-clause-shape : goal.returns-in_default-clause-shape
+returns-in_default-clause-shape c = KeepsShape-Gains (IsContainerOf c.args.side) c.args.store.now.heap c.none_given.new.store.heap c.none_given.ensures.grown

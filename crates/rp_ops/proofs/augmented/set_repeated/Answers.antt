@@ -1,4 +1,4 @@
-use Rattle.std.proofs.Common.{◌≡◌, List, [], Some, ◌∙◌, ap, false, length, subst, sym}
+use Rattle.std.proofs.Common.{◌≡◌, List, [], Some, ◌∙◌, ap, false, rules, length, subst, sym}
 use Rattle.std.specs.Int.{w64}
 use Rattle.std.specs.List.{repeat}
 use Rattle.std.specs.Option.{option_map_or}
@@ -15,7 +15,7 @@ use Rattle.rp_ops.specs.Outcome.{state_of}
 use Rattle.rp_ops.specs.View.{elements_of, held_by}
 use Rattle.rp_ops.specs.declared.operand.Elements.{Elements}
 use Rattle.rp_ops.proofs.CallerLemmas.{AreSound-elements, AreSound-repeat, IsHeld-Names}
-use Rattle.rp_ops.proofs.Inplaces.{elements_of-own, more-cells, repeats-stopped, repeats-within}
+use Rattle.rp_ops.proofs.Inplaces.{elements_of-own, more-cells, repeats-once, repeats-stopped, repeats-within}
 use Rattle.rp_ops.proofs.augmented.set_repeated.Goals as goal
 
 pub elements_at-size-requires : goal.elements_at-size-requires
@@ -64,3 +64,14 @@ set_elements-requires-clause-values c =
     let x : Elements = record { at = c.args.at; lent = false } in
     All-same (IsSound heap) c.in_ok-values.values.items (repeat c.times-copies.result (elements_of heap x)) c.in_ok-values.ensures
     (AreSound-repeat heap c.times-copies.result (elements_of heap x) (AreSound-elements heap c.args.at false c.kept.ensures))
+
+pub returns-then-copies-eq1-clause-plain : goal.returns-then-copies-eq1-clause-plain
+returns-then-copies-eq1-clause-plain c =
+    let old = c.args.store.now in
+    let xs : List Value = option_map_or held_by (content_at old.heap c.args.at) [] in
+    let copies = c.times-copies.ensures ∙ ap times (to_z-of_z w64 c.args.n c.ranges.n) in
+    let one : c.times-copies.result ≡ 1 = search rules in
+    (λ steps. ap (λ (v : Value). repeats_list v c.args.at xs (Some c.args.n) (state_of old steps)) (sym c.in_ok-same.ensures)
+    ∙ repeats-once c.in_ok-same.same c.args.at c.args.n old c.charge_copies.new.store _ steps
+    (more-cells c.args.n c.times-copies.result c.but_first-more.result _ xs c.but_first-more.ensures copies (sym (ap length c.elements_at-size.ensures.value)))
+    c.in_ok-charge_copies.ensures.within c.in_ok-charge_copies.ensures.charged (sym copies ∙ one))

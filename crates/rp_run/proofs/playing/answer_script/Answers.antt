@@ -18,11 +18,11 @@ returns-in-TooLong-clause-told g c =
 pub play-requires : goal.play-requires
 play-requires g c =
     let grown = c.in-Ok.ensures.names in
-    let later = IsReadInto-later c.args.admitted.names c.compile_script.new.names grown c.args.admitted.decl c.requires.well in
-    let same = declarations-later c.args.admitted.names c.compile_script.new.names grown c.args.admitted.decl c.requires.well.held in
+    let later = IsReadInto-later c.args.admitted.names c.first_script.new.names grown c.args.admitted.decl c.requires.well in
+    let same = declarations-later c.args.admitted.names c.first_script.new.names grown c.args.admitted.decl c.requires.well.held in
     record {
       well = later;
-      grants = c.requires.grants c.compile_script.new.names later.ordered;
+      grants = c.requires.grants c.first_script.new.names later.ordered;
       ids = c.requires.ids;
       runs = subst (λ (d : Declarations). fault_of d ≡ None) (sym same) c.requires.runs;
       held = c.in-Ok.ensures.held;
@@ -31,9 +31,9 @@ play-requires g c =
 pub returns-in-Ok-clause-told : goal.returns-in-Ok-clause-told
 returns-in-Ok-clause-told g c =
     let said = c.in_ok-play-in-Ok.ensures in
-    let same = declarations-later c.args.admitted.names c.compile_script.new.names c.in-Ok.ensures.names c.args.admitted.decl c.requires.well.held in
+    let same = declarations-later c.args.admitted.names c.first_script.new.names c.in-Ok.ensures.names c.args.admitted.decl c.requires.well.held in
     tells_session (run_view c.args.command.now) (declarations_view c.args.admitted.names c.args.admitted.decl)
-    (declarations_view c.compile_script.new.names c.args.admitted.decl) _ c.in-Whole.bytes.items _ c.compile_script.new.names c.in-Ok.script _ same
+    (declarations_view c.first_script.new.names c.args.admitted.decl) _ c.in-Whole.bytes.items _ c.first_script.new.names c.in-Ok.script _ same
     (whole_read _ _ c.in-Whole.bytes _ _ c.in-Whole.is c.in_ok-copy.ensures (c.in_ok-read_file.ensures).told)
     (rw c.as_slice.ensures.value at (c.in-Ok.ensures).rewritten) said.text said.status
 

@@ -1,6 +1,6 @@
 use Rattle.std.proofs.Common.{◌≡◌, ◌∙◌, ℕ, List, map, ap, sym, subst, refl}
 use Rattle.std.specs.List.{All}
-use Rattle.rp_compile.specs.View.{IsStatementHeld, statement_view}
+use Rattle.rp_first.specs.View.{IsStatementHeld, statement_view}
 use Rattle.rp_decl.specs.View.{declarations_view}
 use Rattle.rp_machine.specs.World.{Scene}
 use Rattle.rp_proxy.specs.declared.world.Running.{Running}

@@ -1,6 +1,6 @@
 use Rattle.std.proofs.Common.{sym, ap, subst, ◌∙◌}
 use Rattle.std.specs.List.{All}
-use Rattle.rp_compile.specs.View.{IsStatementHeld}
+use Rattle.rp_first.specs.View.{IsStatementHeld}
 use Rattle.rp_tests_policy.proofs.session_answers.ran.Goals as goal
 
 pub finished-requires : goal.finished-requires

@@ -1,5 +1,5 @@
 use Rattle.std.proofs.Common.{◌≡◌, sym, ap, ◌∙◌, is_ok, true}
-use Rattle.rp_compile.specs.View.{expression_view, word}
+use Rattle.rp_first.specs.View.{expression_view, word}
 use Rattle.rp_decl.specs.Places.{IsHeld}
 use Rattle.rp_decl.specs.View.{name_text}
 use Rattle.rp_dict.specs.Dict.{insert_entry}

@@ -1,9 +1,9 @@
 use Rattle.std.proofs.Common.{◌≤◌, length, subst}
 use Rattle.std.proofs.lemmas.List.{get_or_default}
 use Rattle.std.proofs.lemmas.Result.{err_from_is_err_and}
-use Rattle.rp_compile.specs.declared.tree.Expr.TheVariants as expr
-use Rattle.rp_compile.specs.declared.tree.Stmt.{Stmt}
-use Rattle.rp_compile.specs.declared.tree.Stmt.TheVariants as stmt
+use Rattle.rp_first.specs.declared.tree.Expr.TheVariants as expr
+use Rattle.rp_first.specs.declared.tree.Stmt.{Stmt}
+use Rattle.rp_first.specs.declared.tree.Stmt.TheVariants as stmt
 use Rattle.rp_machine.specs.Store.{AreSafe}
 use Rattle.rp_machine.specs.World.{Scene}
 use Rattle.rp_machine.proofs.Scripts.{SameSetting-next, IsUnderWay-start, IsUnderWay-next, Ends-next, Ends-last, is_guarded-at, item-at}

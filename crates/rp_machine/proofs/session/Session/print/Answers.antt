@@ -1,7 +1,7 @@
 use Rattle.std.proofs.Common.{codes, Ok, Err, subst}
 use Rattle.std.proofs.lemmas.Result.{err_from_is_err_and}
 use Rattle.rp_base.specs.Names.{first_words}
-use Rattle.rp_compile.specs.View.{expression_view}
+use Rattle.rp_first.specs.View.{expression_view}
 use Rattle.rp_decl.specs.Places.{GrowsTo}
 use Rattle.rp_machine.specs.Meaning.{decide, eval, on_value, print_value}
 use Rattle.rp_machine.specs.Store.{IsPlaced}

@@ -1,0 +1,4 @@
+pub mod Augmented
+pub mod Collections
+pub mod Renamed
+pub mod Spelled

@@ -1,0 +1,4 @@
+pub mod CollectionSteps
+pub mod Forbidden
+pub mod Offences
+pub mod Spots

@@ -1,0 +1,13 @@
+//! The policy of names: what a script may not name, bind, call or assign to (RestrictedPython, names and attributes).
+#![tactic(auto)]
+
+mod collector;
+mod expressions;
+mod forbidden;
+mod offence;
+mod spot;
+mod statements;
+
+pub use forbidden::is_forbidden_attribute;
+pub use offence::{Offence, What, offence_text};
+pub use statements::offences;

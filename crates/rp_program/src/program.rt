@@ -1,0 +1,77 @@
+//! The tree of a program, from its bytes.
+
+ghost use Rattle.std.specs.Prelude.{◌≡◌, ◌≢◌, ℕ, IfErr, IfOk, List, MatchResult};
+ghost use Rattle.rp_base.specs.Names.{HoldsEachOnce, word_of};
+ghost use Rattle.rp_token.specs.Lexer.{IsGrown};
+ghost use Rattle.rp_tree.specs.Maps.{named};
+ghost use Rattle.rp_tree.specs.Marks.{HasNoGuards};
+ghost use Rattle.rp_tree.specs.StatementTrees.{Stmts};
+ghost use Rattle.rp_tree.specs.StatementViews.{view_tree};
+ghost use Rattle.rp_grammar.specs.Kinds.{Tokens};
+ghost use Rattle.rp_grammar.specs.Program.{Spells};
+ghost use Rattle.rp_program.specs.Fault.{IsFault};
+ghost use Rattle.rp_program.specs.Leaves.{IsTreeHeld, IsUnnumbered};
+ghost use Rattle.rp_program.specs.Program.{IsProgram};
+
+use crate::fault::ProgramFault;
+use rp_base::{Name, Names};
+use rp_parse::parse;
+use rp_token::tokens;
+use rp_tree::Tree;
+use std::alloc::Global;
+
+/// The tree of the program that the bytes are (Python Language Reference, Top-level components). Its words are interned
+/// among the names, which stay where they are and grow, whatever is answered.
+///
+/// # Errors
+/// The first check that the bytes do not pass, in the order of `ProgramFault`, or `Memory` where a growth was refused.
+pub fn read_program(alloc: Global, bytes: &[u8], names: &mut Names) -> Result<Tree, ProgramFault>
+    ensures program { IfOk result (λ t. IsProgram bytes.now (named (word_of names.new) (view_tree t))) }
+    // A program has one tree, and bytes that are one are refused for want of memory alone.
+    ensures one { (a b : Stmts (List ℕ)) → IsProgram bytes.now a → IsProgram bytes.now b → a ≡ b }
+    ensures only { (tree : Stmts (List ℕ)) → IsProgram bytes.now tree
+        → MatchResult result (λ t. named (word_of names.new) (view_tree t) ≡ tree) (λ e. e ≡ ProgramFault.Memory) }
+    ensures held { IfOk result (λ t. IsTreeHeld names.new (view_tree t)) }
+    ensures plain { IfOk result (λ t. HasNoGuards (view_tree t)) }
+    ensures low { IfOk result (λ t. (tokens : Tokens) × Spells (view_tree t) tokens) }
+    ensures unnumbered { IfOk result (λ t. IsUnnumbered (view_tree t)) }
+    ensures refused { IfErr result (λ f. f ≢ ProgramFault.Memory → IsFault bytes.now f) }
+    ensures names { IsGrown names.old names.new }
+{
+    match std::str::from_utf8(bytes) {
+        Ok(text) => read_text(alloc, text, names),
+        Err(error) => Err(ProgramFault::NotUtf8(error.valid_up_to())),
+    }
+}
+
+/// The tree of the program that a text is. Its words are interned among the names, which stay where they are and grow,
+/// whatever is answered.
+///
+/// # Errors
+/// The first check that the text does not pass, in the order of `ProgramFault` and never `NotUtf8`, or `Memory` where a
+/// growth was refused.
+pub fn read_text(alloc: Global, text: &str, names: &mut Names) -> Result<Tree, ProgramFault>
+    ensures program { IfOk result (λ t. IsProgram text.now (named (word_of names.new) (view_tree t))) }
+    ensures one { (a b : Stmts (List ℕ)) → IsProgram text.now a → IsProgram text.now b → a ≡ b }
+    ensures only { (tree : Stmts (List ℕ)) → IsProgram text.now tree
+        → MatchResult result (λ t. named (word_of names.new) (view_tree t) ≡ tree) (λ e. e ≡ ProgramFault.Memory) }
+    ensures held { IfOk result (λ t. IsTreeHeld names.new (view_tree t)) }
+    ensures plain { IfOk result (λ t. HasNoGuards (view_tree t)) }
+    ensures low { IfOk result (λ t. (tokens : Tokens) × Spells (view_tree t) tokens) }
+    ensures unnumbered { IfOk result (λ t. IsUnnumbered (view_tree t)) }
+    ensures refused { IfErr result (λ f. f ≢ ProgramFault.Memory → IsFault text.now f) }
+    ensures names { IsGrown names.old names.new }
+{
+    let tokens = tokens(alloc, text, names)?;
+    hold_each_once(names);
+    Ok(parse(alloc, tokens.as_slice())?)
+}
+
+/// Tells the caller that no word is held twice, and does nothing else.
+fn hold_each_once(names: &Names)
+    ensures { HoldsEachOnce names.now }
+{
+    if names.len() > 0 {
+        let _first = names.text(Name(0));
+    }
+}

@@ -1,0 +1,14 @@
+use Rattle.rp_run.proofs.Checks.{tells_long_check, tells_whole_check}
+use Rattle.rp_run.proofs.Sayings.{long_read, whole_read}
+use Rattle.rp_run.proofs.checking.answer_check.Goals as goal
+
+pub returns-in-TooLong-clause-told : goal.returns-in-TooLong-clause-told
+returns-in-TooLong-clause-told g c =
+    let said = c.in_ok-labelled-in-TooLong.ensures in
+    tells_long_check c.args.script.now _ _ _ (long_read _ _ _ _ c.in-TooLong.is c.in_ok-copy.ensures (c.in_ok-read_file.ensures).told) said.0 said.1
+
+pub returns-clause-told : goal.returns-clause-told
+returns-clause-told g c =
+    tells_whole_check c.args.script.now c.in-Whole.bytes.items _ _ _
+    (whole_read _ _ c.in-Whole.bytes _ _ c.in-Whole.is c.in_ok-copy.ensures (c.in_ok-read_file.ensures).told)
+    (rw c.as_slice.ensures.value at c.in_ok-tell-in-Whole.ensures.told)
