@@ -4,6 +4,7 @@ ghost use Rattle.std.specs.Prelude.{◌≡◌, ◌↔◌, ℕ, IsTrue, OnErr};
 ghost use Rattle.rp_attributes.specs.Attributes.{del_at, del_attribute, set_at, set_attribute};
 ghost use Rattle.rp_ops.specs.Outcome.{Meets, state_of};
 ghost use Rattle.rp_base.specs.Names.{word_of};
+ghost use Rattle.rp_store.specs.Counters.{KeepsCounters};
 ghost use Rattle.rp_store.specs.Heap.{IsHeld, Names as IsAt};
 ghost use Rattle.rp_store.specs.Kept.{IsSound};
 ghost use Rattle.rp_store.specs.Parts.{IsInstance};
@@ -33,9 +34,11 @@ pub fn set_attribute(
 ) -> Result<(), OpEnd>
     requires a { IsSound store.old.heap a.now }
     requires v { IsSound store.old.heap v }
-    ensures plain { (steps : ℕ) → Meets result (state_of store.new steps) (set_attribute a.now name (word_of names.now name) v (state_of store.old steps)) }
+    ensures plain { (steps : ℕ) → Meets result (state_of store.new steps)
+        (set_attribute a.now name (word_of names.now name) v (state_of store.old steps)) }
     ensures shape { KeepsShape store.old.heap store.new.heap }
     ensures same { OnErr result (store.new ≡ store.old) }
+    ensures counters { KeepsCounters store.old store.new }
 {
     match a {
         Value::Rock(_) => Err(no_attribute(alloc, names, name)),
@@ -60,9 +63,11 @@ pub fn del_attribute(
     name: Name,
 ) -> Result<(), OpEnd>
     requires a { IsSound store.old.heap a.now }
-    ensures plain { (steps : ℕ) → Meets result (state_of store.new steps) (del_attribute a.now name (word_of names.now name) (state_of store.old steps)) }
+    ensures plain { (steps : ℕ) → Meets result (state_of store.new steps)
+        (del_attribute a.now name (word_of names.now name) (state_of store.old steps)) }
     ensures shape { KeepsShape store.old.heap store.new.heap }
     ensures same { OnErr result (store.new ≡ store.old) }
+    ensures counters { KeepsCounters store.old store.new }
 {
     match a {
         Value::Rock(_) => Err(no_attribute(alloc, names, name)),
@@ -81,9 +86,11 @@ fn set_at(
 ) -> Result<(), OpEnd>
     requires held { IsHeld store.old.heap at }
     requires v { IsSound store.old.heap v }
-    ensures plain { (steps : ℕ) → Meets result (state_of store.new steps) (set_at at name (word_of names.now name) v (state_of store.old steps)) }
+    ensures plain { (steps : ℕ) → Meets result (state_of store.new steps)
+        (set_at at name (word_of names.now name) v (state_of store.old steps)) }
     ensures shape { KeepsShape store.old.heap store.new.heap }
     ensures same { OnErr result (store.new ≡ store.old) }
+    ensures counters { KeepsCounters store.old store.new }
 {
     if !is_instance(store, at) {
         return Err(no_attribute(alloc, names, name));
@@ -97,9 +104,11 @@ fn set_at(
 
 fn del_at(alloc: Global, store: &mut Store, names: &Names, at: Oid, name: Name) -> Result<(), OpEnd>
     requires held { IsHeld store.old.heap at }
-    ensures plain { (steps : ℕ) → Meets result (state_of store.new steps) (del_at at name (word_of names.now name) (state_of store.old steps)) }
+    ensures plain { (steps : ℕ) → Meets result (state_of store.new steps)
+        (del_at at name (word_of names.now name) (state_of store.old steps)) }
     ensures shape { KeepsShape store.old.heap store.new.heap }
     ensures same { OnErr result (store.new ≡ store.old) }
+    ensures counters { KeepsCounters store.old store.new }
 {
     if !is_instance(store, at) {
         return Err(no_attribute(alloc, names, name));

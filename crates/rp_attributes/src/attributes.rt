@@ -5,6 +5,7 @@ ghost use Rattle.rp_attributes.specs.Attributes.{attribute, attribute_at, bound,
 ghost use Rattle.rp_ops.specs.Operand.{lent};
 ghost use Rattle.rp_ops.specs.Outcome.{Meets, state_of};
 ghost use Rattle.rp_base.specs.Names.{word_of};
+ghost use Rattle.rp_store.specs.Counters.{KeepsCounters};
 ghost use Rattle.rp_store.specs.Kept.{IsCallee, IsReceiver, IsSound};
 ghost use Rattle.rp_store.specs.Shape.{KeepsShape};
 
@@ -35,10 +36,12 @@ pub fn attribute(
     name: Name,
 ) -> Result<Value, OpEnd>
     requires a { IsSound store.old.heap a.now }
-    ensures plain { (steps : ℕ) → Meets result (state_of store.new steps) (attribute side a.now name (word_of names.now name) (state_of store.old steps)) }
+    ensures plain { (steps : ℕ) → Meets result (state_of store.new steps)
+        (attribute side a.now name (word_of names.now name) (state_of store.old steps)) }
     ensures sound { IfOk result (λ v. IsSound store.new.heap v) }
     ensures shape { KeepsShape store.old.heap store.new.heap }
     ensures same { OnErr result (store.new ≡ store.old) }
+    ensures counters { KeepsCounters store.old store.new }
 {
     match a {
         Value::Rock(rock) => rock_attribute(alloc, store, names, side, rock, name),
@@ -59,10 +62,12 @@ fn rock_attribute(
     rock: &Rock,
     name: Name,
 ) -> Result<Value, OpEnd>
-    ensures plain { (steps : ℕ) → Meets result (state_of store.new steps) (rock_attribute side rock.now (word_of names.now name) (state_of store.old steps)) }
+    ensures plain { (steps : ℕ) → Meets result (state_of store.new steps)
+        (rock_attribute side rock.now (word_of names.now name) (state_of store.old steps)) }
     ensures sound { IfOk result (λ v. IsSound store.new.heap v) }
     ensures shape { KeepsShape store.old.heap store.new.heap }
     ensures same { OnErr result (store.new ≡ store.old) }
+    ensures counters { KeepsCounters store.old store.new }
 {
     match rock {
         Rock::Text(text) => {
@@ -84,10 +89,12 @@ fn attribute_at(
     name: Name,
 ) -> Result<Value, OpEnd>
     requires sound { IsSound store.old.heap (Value.Ref at) }
-    ensures plain { (steps : ℕ) → Meets result (state_of store.new steps) (attribute_at at name (word_of names.now name) (state_of store.old steps)) }
+    ensures plain { (steps : ℕ) → Meets result (state_of store.new steps)
+        (attribute_at at name (word_of names.now name) (state_of store.old steps)) }
     ensures sound { IfOk result (λ v. IsSound store.new.heap v) }
     ensures shape { KeepsShape store.old.heap store.new.heap }
     ensures same { OnErr result (store.new ≡ store.old) }
+    ensures counters { KeepsCounters store.old store.new }
 {
     if let Some(value) = store.field(at, name) {
         return Ok(value.copy()?);
@@ -110,10 +117,12 @@ fn bind(
     requires sound { IsSound store.old.heap receiver }
     requires receiver { IsReceiver store.old.heap owner receiver }
     requires callee { IfSome callee (IsCallee store.old.heap) }
-    ensures plain { (steps : ℕ) → Meets result (state_of store.new steps) (bound owner receiver callee (word_of names.now name) (state_of store.old steps)) }
+    ensures plain { (steps : ℕ) → Meets result (state_of store.new steps)
+        (bound owner receiver callee (word_of names.now name) (state_of store.old steps)) }
     ensures sound { IfOk result (λ v. IsSound store.new.heap v) }
     ensures shape { KeepsShape store.old.heap store.new.heap }
     ensures same { OnErr result (store.new ≡ store.old) }
+    ensures counters { KeepsCounters store.old store.new }
 {
     match callee {
         Some(callee) => new_object(store, owner, Object::Method { receiver, callee }),

@@ -4,7 +4,8 @@ ghost use Rattle.std.specs.Prelude.{◌≡◌, ℕ, IfSome, chars};
 ghost use Rattle.std.specs.Option.{option_and_then, option_map};
 ghost use Rattle.rp_base.specs.Native.{native_name};
 ghost use Rattle.rp_base.specs.Same.{same_text};
-ghost use Rattle.rp_attributes.specs.Attributes.{dict_methods, list_methods, method_named, method_of, text_methods, tuple_methods};
+ghost use Rattle.rp_attributes.specs.Attributes.{dict_methods, list_methods, method_named, method_of, text_methods};
+ghost use Rattle.rp_attributes.specs.Attributes.{tuple_methods};
 ghost use Rattle.rp_ops.specs.Outcome.{state_of};
 ghost use Rattle.rp_base.specs.Names.{word_of};
 ghost use Rattle.rp_store.specs.Heap.{IsHeld, content_at, method_at};
@@ -92,7 +93,9 @@ pub(crate) fn text_method(word: &str) -> Option<NativeId>
 /// object's kind.
 pub(crate) fn method_of(store: &Store, names: &Names, at: Oid, name: Name) -> Option<Callee>
     requires held { IsHeld store.now.heap at }
-    ensures method { (steps : ℕ) → result ≡ option_and_then (λ c. method_of c name (word_of names.now name) (state_of store.now steps)) (content_at store.now.heap at) }
+    ensures method { (steps : ℕ) → result
+        ≡ option_and_then (λ c. method_of c name (word_of names.now name) (state_of store.now steps))
+        (content_at store.now.heap at) }
     ensures callee { IfSome result (IsCallee store.now.heap) }
 {
     match store.object(at) {

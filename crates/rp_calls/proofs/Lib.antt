@@ -1,3 +1,4 @@
 mod Examples
 pub mod Slots
 pub mod Sound
+pub mod Tables

@@ -1,6 +1,7 @@
 //! Arguments are bound to parameters.
 ghost use Rattle.std.specs.Prelude.{◌≡◌, ℕ, All, IfOk, drop, length, true};
 ghost use Rattle.rp_ops.specs.Outcome.{Meets, Raises, state_of};
+ghost use Rattle.rp_store.specs.Counters.{KeepsCounters};
 ghost use Rattle.rp_store.specs.Heap.{Names as IsAt};
 ghost use Rattle.rp_store.specs.Kept.{AreSound, Holds, IsEntry, IsSound};
 ghost use Rattle.rp_store.specs.Object.{content_of, dict, tuple};
@@ -46,16 +47,19 @@ pub fn bind(
     requires function { IsAt store.old.heap IsFunction function }
     requires args { AreSound store.old.heap args.now }
     requires named { All (λ g. IsSound store.old.heap g.1) named.now }
-    ensures plain { (steps : ℕ) → Meets (slots_of result) (state_of store.new steps) (bind side names.now params.now (defaults_at store.old.heap function) args.now named.now (state_of store.old steps)) }
+    ensures plain { (steps : ℕ) → Meets (slots_of result) (state_of store.new steps)
+        (bind side names.now params.now (defaults_at store.old.heap function) args.now named.now
+        (state_of store.old steps)) }
     ensures sound { IfOk result (λ slots. AreSlotsSound store.new.heap slots.items) }
     ensures shape { KeepsShape store.old.heap store.new.heap }
+    ensures counters { KeepsCounters store.old store.new }
 {
     let plain = params.plain.as_slice();
     if params.list.is_none() && args.len() > plain.len() {
         return Err(no_binding(alloc));
     }
     let defaults = defaults_of(store, function);
-    let Some(slots) = plain_slots(alloc, names, plain, defaults, args, named)? else {
+    let Some(slots) = plain_slots(alloc, store.seed(), names, plain, defaults, args, named)? else {
         return Err(no_binding(alloc));
     };
     let Some(entries) = entries_for(alloc, store.seed(), names, params, named)? else {
@@ -80,9 +84,12 @@ fn with_stars(
     requires args { AreSound store.old.heap args.now }
     requires entries { All (IsEntry store.old.heap) entries }
     requires slots { AreSlotsSound store.old.heap slots.items }
-    ensures plain { (steps : ℕ) → Meets (slots_of result) (state_of store.new steps) (all_made side params.now slots.items (drop (length (plain params.now)) args.now) entries (state_of store.old steps)) }
+    ensures plain { (steps : ℕ) → Meets (slots_of result) (state_of store.new steps)
+        (all_made side params.now slots.items (drop (length (plain params.now)) args.now) entries
+        (state_of store.old steps)) }
     ensures sound { IfOk result (λ slots. AreSlotsSound store.new.heap slots.items) }
     ensures shape { KeepsShape store.old.heap store.new.heap }
+    ensures counters { KeepsCounters store.old store.new }
 {
     let slots = with_list(alloc, store, side, params, args, slots)?;
     with_dict(store, side, params, entries, slots)
@@ -122,9 +129,12 @@ fn with_list(
 ) -> Result<Vec<Option<Value>>, OpEnd>
     requires args { AreSound store.old.heap args.now }
     requires slots { AreSlotsSound store.old.heap slots.items }
-    ensures plain { (steps : ℕ) → Meets (slots_of result) (state_of store.new steps) (slot_made (has_list params.now) side (tuple (drop (length (plain params.now)) args.now)) slots.items (state_of store.old steps)) }
+    ensures plain { (steps : ℕ) → Meets (slots_of result) (state_of store.new steps)
+        (slot_made (has_list params.now) side (tuple (drop (length (plain params.now)) args.now)) slots.items
+        (state_of store.old steps)) }
     ensures sound { IfOk result (λ slots. AreSlotsSound store.new.heap slots.items) }
     ensures shape { KeepsShape store.old.heap store.new.heap }
+    ensures counters { KeepsCounters store.old store.new }
 {
     if params.list.is_none() {
         return Ok(slots);
@@ -146,9 +156,11 @@ fn with_dict(
 ) -> Result<Vec<Option<Value>>, OpEnd>
     requires entries { All (IsEntry store.old.heap) entries }
     requires slots { AreSlotsSound store.old.heap slots.items }
-    ensures plain { (steps : ℕ) → Meets (slots_of result) (state_of store.new steps) (slot_made (has_dict params.now) side (dict entries) slots.items (state_of store.old steps)) }
+    ensures plain { (steps : ℕ) → Meets (slots_of result) (state_of store.new steps)
+        (slot_made (has_dict params.now) side (dict entries) slots.items (state_of store.old steps)) }
     ensures sound { IfOk result (λ slots. AreSlotsSound store.new.heap slots.items) }
     ensures shape { KeepsShape store.old.heap store.new.heap }
+    ensures counters { KeepsCounters store.old store.new }
 {
     if params.dict.is_none() {
         return Ok(slots);
@@ -170,9 +182,11 @@ fn with_object(
     requires holds { Holds store.old.heap side (content_of object) }
     requires value { ¬ IsScope (content_of object) }
     requires slots { AreSlotsSound store.old.heap slots.items }
-    ensures plain { (steps : ℕ) → Meets (slots_of result) (state_of store.new steps) (slot_made true side (content_of object) slots.items (state_of store.old steps)) }
+    ensures plain { (steps : ℕ) → Meets (slots_of result) (state_of store.new steps)
+        (slot_made true side (content_of object) slots.items (state_of store.old steps)) }
     ensures sound { IfOk result (λ slots. AreSlotsSound store.new.heap slots.items) }
     ensures shape { KeepsShape store.old.heap store.new.heap }
+    ensures counters { KeepsCounters store.old store.new }
 {
     let mut slots = slots;
     slots.reserve(1).map_err(Memory::from)?;

@@ -1,8 +1,10 @@
 //! The arguments of a call, bound to the parameters of a function.
-#![tactic(auto)]
+#![tactic(auto, using(rp_store::proofs::Shapes::goes_on))]
 
 mod binding;
+mod named_arguments;
 mod others;
+mod parameter_names;
 mod parameters;
 
 pub use binding::bind;

@@ -1,11 +1,12 @@
 //! The arguments that are left for the parameters with stars.
-ghost use Rattle.std.specs.Prelude.{◌≡◌, [], IfOk, IsTrue, drop, is_some, not};
+ghost use Rattle.std.specs.Prelude.{◌≡◌, [], IfOk, IfSome, IsTrue, drop, is_some, not};
 ghost use Rattle.std.specs.Map.{lookup};
 ghost use Rattle.rp_dict.specs.Dict.{insert_entry};
 ghost use Rattle.rp_store.specs.Key.{same_key};
 ghost use Rattle.rp_calls.specs.Binding.{are_plain, entries_for, has_dict, other_entries, plain};
+ghost use Rattle.rp_calls.specs.TableSteps.{HasNames};
 
-use crate::parameters::is_plain;
+use crate::parameter_names::{Words, is_one, words_for};
 use rp_base::{Memory, Names, Rock, Seed, Text, Value};
 use rp_dict::Dict;
 use rp_store::Key;
@@ -27,10 +28,11 @@ pub fn entries_for(
     ensures { IfOk result (λ r. r ≡ entries_for (has_dict params.now) names.now (plain params.now) named.now) }
 {
     let plain = params.plain.as_slice();
+    let words = words_for(alloc, seed, names, plain, named.len())?;
     if params.dict.is_some() {
-        return other_entries(alloc, seed, names, plain, named);
+        return other_entries(alloc, seed, names, plain, &words, named);
     }
-    if are_plain(names, plain, named) {
+    if are_plain(names, plain, &words, named) {
         return Ok(Some(Dict::new(alloc, seed)));
     }
     Ok(None)
@@ -46,13 +48,15 @@ fn other_entries(
     seed: Seed,
     names: &Names,
     plain: &[(Named, Option<Expr>)],
+    words: &Option<Words<'_>>,
     named: &[(Text, Value)],
 ) -> Result<Option<Dict<Key, (Rock, Value)>>, Memory>
+    requires { IfSome words.now (λ set. HasNames set names.now plain.now) }
     ensures { IfOk result (λ r. r ≡ other_entries names.now plain.now [] named.now) }
 {
     let mut entries = Dict::new(alloc, seed);
     for (name, value) in named {
-        if is_plain(names, plain, name) {
+        if is_one(names, plain, words, name) {
             continue;
         }
         if !add(&mut entries, name, value)? {
@@ -68,7 +72,8 @@ fn other_entries(
 /// `Memory` where a growth was refused, or the count of a text's owners is full.
 fn add(entries: &mut Dict<Key, (Rock, Value)>, name: &Text, value: &Value) -> Result<bool, Memory>
     ensures is_new { IfOk result (λ is_new. not is_new ≡ is_some (lookup (same_key (Key.Text name.now)) entries.old)) }
-    ensures added { IfOk result (λ is_new. IsTrue is_new → entries.new ≡ insert_entry same_key entries.old (Key.Text name.now) (Rock.Text name.now, value.now)) }
+    ensures added { IfOk result (λ is_new. IsTrue is_new → entries.new
+        ≡ insert_entry same_key entries.old (Key.Text name.now) (Rock.Text name.now, value.now)) }
 {
     let key = Key::Text(name.copy()?);
     if entries.get(&key).is_some() {
@@ -80,10 +85,18 @@ fn add(entries: &mut Dict<Key, (Rock, Value)>, name: &Text, value: &Value) -> Re
 }
 
 /// Whether each argument by name has the name of a parameter without a star.
-fn are_plain(names: &Names, plain: &[(Named, Option<Expr>)], named: &[(Text, Value)]) -> bool
+fn are_plain(
+    names: &Names,
+    plain: &[(Named, Option<Expr>)],
+    words: &Option<Words<'_>>,
+    named: &[(Text, Value)],
+) -> bool
+    requires { IfSome words.now (λ set. HasNames set names.now plain.now) }
     ensures { result ≡ are_plain names.now plain.now named.now }
 {
-    named.iter().all(|(name, _)| is_plain(names, plain, name))
+    named
+        .iter()
+        .all(|(name, _)| is_one(names, plain, words, name))
 }
 
 /// The positional arguments from a place on.

@@ -2,10 +2,12 @@
 ghost use Rattle.std.specs.Prelude.{◌≡◌, ◌++◌, IfOk, Some, chars, map};
 ghost use Rattle.std.specs.Option.{option_copied, option_map, option_to_list};
 ghost use Rattle.rp_base.specs.Names.{word_of};
-ghost use Rattle.rp_calls.specs.Binding.{default_of, defaults_after, filled, given, is_plain, offered, parameter as parameter_of, sole, value_of};
+ghost use Rattle.rp_calls.specs.Binding.{default_of, defaults_after, filled, given, is_plain, offered};
+ghost use Rattle.rp_calls.specs.Binding.{parameter as parameter_of, sole, value_of};
 
+use crate::named_arguments::NamedArguments;
 use crate::others::rest_of;
-use rp_base::{Memory, Names, Text, Value};
+use rp_base::{Memory, Names, Seed, Text, Value};
 use rp_ops::word_of;
 use rp_tree::{Expr, Named};
 use std::alloc::Global;
@@ -14,16 +16,37 @@ use std::alloc::Global;
 ///
 /// # Errors
 /// `Memory` where a growth was refused, or the count of a text's owners is full.
-#[tactic(auto, using(crate::proofs::Slots::slots_put))]
 pub fn plain_slots(
     alloc: Global,
+    seed: Seed,
     names: &Names,
     plain: &[(Named, Option<Expr>)],
     defaults: &[Value],
     args: &[Value],
     named: &[(Text, Value)],
 ) -> Result<Option<Vec<Option<Value>>>, Memory>
-    ensures { IfOk result (λ r. option_map (λ slots. slots.items) r ≡ option_map (map Some) (filled (offered names.now plain.now args.now defaults.now) named.now)) }
+    ensures { IfOk result (λ r. option_map (λ slots. slots.items) r
+        ≡ option_map (map Some) (filled (offered names.now plain.now args.now defaults.now) named.now)) }
+{
+    let named = NamedArguments::new(alloc, seed, plain.len(), named)?;
+    slots_from(alloc, names, plain, defaults, args, &named)
+}
+
+/// The same, of arguments by name that are found.
+///
+/// # Errors
+/// `Memory` where a growth was refused, or the count of a text's owners is full.
+#[tactic(auto, using(crate::proofs::Slots::slots_put))]
+fn slots_from(
+    alloc: Global,
+    names: &Names,
+    plain: &[(Named, Option<Expr>)],
+    defaults: &[Value],
+    args: &[Value],
+    named: &NamedArguments<'_>,
+) -> Result<Option<Vec<Option<Value>>>, Memory>
+    ensures { IfOk result (λ r. option_map (λ slots. slots.items) r
+        ≡ option_map (map Some) (filled (offered names.now plain.now args.now defaults.now) named.now)) }
 {
     let mut slots = Vec::with_capacity(alloc, plain.len())?;
     let mut args = args;
@@ -50,13 +73,14 @@ fn value_at(
     has_default: bool,
     defaults: &[Value],
     args: &[Value],
-    named: &[(Text, Value)],
+    named: &NamedArguments<'_>,
 ) -> Result<Option<Value>, Memory>
-    ensures { IfOk result (λ r. r ≡ value_of (parameter_of names.now parameter has_default args.now defaults.now) named.now) }
+    ensures { IfOk result (λ r. r ≡ value_of
+        (parameter_of names.now parameter has_default args.now defaults.now) named.now) }
 {
     let word = word_of(names, parameter.name);
     let default = default_of(has_default, defaults);
-    sole(args.get(0), named, word, default)
+    named.sole(args.get(0), word, default)
 }
 
 /// The first default, for a parameter that has one.
@@ -84,13 +108,15 @@ fn defaults_after(has_default: bool, defaults: &[Value]) -> &[Value]
 ///
 /// # Errors
 /// `Memory` where the count of a text's owners is full.
-fn sole(
+pub fn sole(
     first: Option<&Value>,
     named: &[(Text, Value)],
     word: &str,
     default: Option<&Value>,
 ) -> Result<Option<Value>, Memory>
-    ensures { IfOk result (λ r. r ≡ sole (option_to_list (option_copied first.entry) ++ given named.now (chars word.now)) (option_copied default.entry)) }
+    ensures { IfOk result (λ r. r ≡ sole
+        (option_to_list (option_copied first.entry) ++ given named.now (chars word.now))
+        (option_copied default.entry)) }
 {
     let mut found = first;
     for (name, value) in named {
@@ -108,7 +134,7 @@ fn sole(
 ///
 /// # Errors
 /// `Memory` where the count of a text's owners is full.
-fn copied(found: Option<&Value>, default: Option<&Value>) -> Result<Option<Value>, Memory>
+pub fn copied(found: Option<&Value>, default: Option<&Value>) -> Result<Option<Value>, Memory>
     ensures { IfOk result (λ r. r ≡ sole (option_to_list (option_copied found.entry)) (option_copied default.entry)) }
 {
     match found {

@@ -23,7 +23,7 @@ use Rattle.rp_checker.specs.Chain.{AllEnd, AreRowsOf, HasAllRows, class_places, 
 use Rattle.rp_checker.specs.Lookup.{is_name}
 use Rattle.rp_checker.specs.Plan.{HasPlacesWithin}
 use Rattle.rp_checker.specs.RowOf as text
-use Rattle.rp_checker.specs.Tables.{is_place_among, row_at, row_in, row_unlisted}
+use Rattle.rp_checker.specs.Tables.{class_place, is_place_among, row_at, row_in, row_unlisted}
 use Rattle.rp_checker.specs.declared.class_rows.ClassRows.{ClassRows}
 use Rattle.rp_checker.specs.declared.words.TheConstants.{SEQUENCE, MAPPING, CALLABLE, AVAILABLE}
 use Rattle.rp_checker.proofs.Composition.{plan_of, has-no-ring, same_text-places, within-agrees}
@@ -73,7 +73,8 @@ module _ (names : List (List ℕ)) (d : Placed) (r : IsReadWith names d) where
       by true = ap (λ b. cond b text.public (text.needs zope_public)) (sym (same_text-refl zope_public))
       by false = unlisted-agrees (Get name) held
 
-  module _ (places : List (Name × ℕ)) (rows : List ClassRows) (look : (name : Name) → lookup (is_name name) places ≡ lookup (is_name name) (class_places d.classes)) (within : HasPlacesWithin (plan_of d places)) (right : AllEnd (plan_of d places) → HasAllRows (plan_of d places) rows) where
+  module _ (places : List (Name × ℕ)) (rows : List ClassRows) (look : (name : Name) → lookup (is_name name) places ≡ lookup (is_name name) (class_places d.classes)) (within : HasPlacesWithin (plan_of d places)) (right : AllEnd (plan_of d places) → HasAllRows (plan_of d places) rows)
+      (index : List (Option ℕ)) (indexed : (name : Name) → class_place index name ≡ lookup (is_name name) places) where
     ends : AllEnd (plan_of d places)
     ends = all-end (plan_of d places) (has-no-ring names d places r look) within
 
@@ -90,18 +91,19 @@ module _ (names : List (List ℕ)) (d : Placed) (r : IsReadWith names d) where
         by (Some r) rows_of some = rows_of op
 
     declared-agrees : (name : Name) (op : Op) → IsHeld names name → IsOpHeld names op
-        → row_view d.permissions (row_in (record { places = places; rows = rows }) (Declared name) op) ≡ text.row_of (declarations_view names d) (text.declared (name_text names name)) (operation_view names op)
+        → row_view d.permissions (row_in (record { places = index; rows = rows }) (Declared name) op) ≡ text.row_of (declarations_view names d) (text.declared (name_text names name)) (operation_view names op)
     declared-agrees name op held asked =
         let as_many : length (map (class_view names d.permissions) d.classes) ≡ length d.classes = length-map d.classes (class_view names d.permissions) in
         let listed = listed-agrees op (lookup (is_name name) places) (λ q e. within name q e) in
         let said = within-agrees names d places r look (length d.classes) op asked name held in
-        option_map-unwrap (row_view d.permissions) _ _
+        ap (λ o. row_view d.permissions (unwrap_or (option_and_then (λ place. option_and_then (row_at op) (slice_get rows place)) o) (row_unlisted op))) (indexed name)
+        ∙ option_map-unwrap (row_view d.permissions) _ _
         ∙ (λ k. unwrap_or (option_map (row_view d.permissions) (listed k)) (unlisted-agrees op asked k))
         ∙ ap (λ o. unwrap_or o (text.row_without (operation_view names op))) (sym said)
         ∙ sym (option_map_or-unwrap text.row_needing (text.permission_within (declarations_view names d) (length d.classes) (name_text names name) (operation_view names op)) (text.row_without (operation_view names op)))
         ∙ ap (λ n. option_map_or text.row_needing (text.permission_within (declarations_view names d) n (name_text names name) (operation_view names op)) (text.row_without (operation_view names op))) (sym as_many)
 
-    pub answers-as : AnswersAs names d (record { places = places; rows = rows })
+    pub answers-as : AnswersAs names d (record { places = index; rows = rows })
     answers-as (Declared name) op held asked = declared-agrees name op held asked
     answers-as ListTag (Get name) held asked = public-agrees name _ _ asked (words-at SEQUENCE text.sequence_names name asked refl (λ more. refl))
     answers-as Tuple (Get name) held asked = public-agrees name _ _ asked (words-at SEQUENCE text.sequence_names name asked refl (λ more. refl))

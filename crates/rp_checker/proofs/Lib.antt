@@ -1,5 +1,6 @@
 pub mod Answering
 pub mod Composition
+mod Indexed
 pub mod Lookups
 pub mod Plans
 pub mod Rings

@@ -22,7 +22,7 @@ use Rattle.rp_checker.specs.Answers.{AreRowsWithin, IsRowWithin}
 use Rattle.rp_checker.specs.Chain.{AreClassesWithin, HasRowsWithin, HaveRowsWithin, like_place, own_permission, own_row, row_needing}
 use Rattle.rp_checker.specs.Lookup.{is_name}
 use Rattle.rp_checker.specs.Plan.{Plan}
-use Rattle.rp_checker.specs.Tables.{Tables, is_place_among, listed, public_places, row_at, row_unlisted}
+use Rattle.rp_checker.specs.Tables.{Tables, class_place, is_place_among, listed, public_places, row_at, row_unlisted}
 use Rattle.rp_checker.specs.declared.class_rows.ClassRows.{ClassRows}
 use Rattle.rp_checker.specs.declared.words.TheConstants.{AVAILABLE}
 
@@ -72,7 +72,7 @@ module _ (n : ℕ) where
       by false = tt
 
   listed-within : (t : Tables) (tag : ClassTag) (op : Op) → All (HasRowsWithin n) t.rows → IfSome (listed t tag op) (IsRowWithin n)
-  listed-within t (Declared name) op all = place-within op t.rows (lookup (is_name name) t.places) all
+  listed-within t (Declared name) op all = place-within op t.rows (class_place t.places name) all
   listed-within t ListTag (Get name) all = public-within (public_places ListTag) name
   listed-within t Tuple (Get name) all = public-within (public_places Tuple) name
   listed-within t Dict (Get name) all = public-within (public_places Dict) name

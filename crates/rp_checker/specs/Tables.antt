@@ -13,9 +13,9 @@ use Rattle.rp_checker.specs.Lookup.{is_name}
 use Rattle.rp_checker.specs.declared.words.TheConstants.{SEQUENCE, MAPPING, CALLABLE, AVAILABLE}
 use Rattle.rp_checker.specs.declared.class_rows.ClassRows.{ClassRows}
 
--- the place of each declared class by its name, and the rows at each place
+-- the place of each declared class by the place of its name, and the rows at each place
 pub record Tables : Type 0 where
-  pub places : List (Name × ℕ)
+  pub places : List (Option ℕ)
   pub rows : List ClassRows
 
 -- the row of a class
@@ -37,9 +37,13 @@ public_places Other = []
 abbrev pub is_place_among : List ℕ → Name → Bool
 is_place_among places name = list_any (λ place. nat_eq place name.0) places
 
+-- the place of the class with a name, if it is declared
+abbrev pub class_place : List (Option ℕ) → Name → Option ℕ
+class_place places name = option_and_then (λ place. place) (slice_get places name.0)
+
 -- the row that is listed for a class, if there is one
 abbrev pub listed : Tables → ClassTag → Op → Option Row
-listed t (Declared name) op = option_and_then (λ place. option_and_then (row_at op) (slice_get t.rows place)) (lookup (is_name name) t.places)
+listed t (Declared name) op = option_and_then (λ place. option_and_then (row_at op) (slice_get t.rows place)) (class_place t.places name)
 listed t tag (Get name) = if is_place_among (public_places tag) name then Some Public else None
 listed t tag (Set name) = None
 

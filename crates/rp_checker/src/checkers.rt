@@ -5,8 +5,8 @@ ghost use Rattle.rp_checker.specs.Answers.{AnswersAs, AreRowsWithin, IsReadWith}
 ghost use Rattle.rp_checker.specs.Tables.{listed, row_in};
 
 use crate::class_rows::ClassRows;
+use crate::places::Places;
 use crate::plan::Plan;
-use crate::table::Table;
 use crate::words::{is_public, row_unlisted};
 use rp_base::{ClassTag, Memory, Op};
 use rp_decl::{Decl, Row};
@@ -17,7 +17,7 @@ use std::marker::Model;
 #[derive(Drop)]
 pub struct Checkers {
     /// The place of the rows of each declared class.
-    places: Table<usize>,
+    places: Places,
     rows: Vec<ClassRows>,
 }
 
@@ -36,18 +36,19 @@ impl Checkers {
     /// # Errors
     /// `Memory` where a growth was refused.
     pub fn new(alloc: Global, decl: &Decl) -> Result<Checkers, Memory>
-        ensures answers { IfOk result (λ c. (names : List (List ℕ)) → IsReadWith names decl.now → AnswersAs names decl.now c) }
+        ensures answers { IfOk result (λ c. (names : List (List ℕ)) → IsReadWith names decl.now
+            → AnswersAs names decl.now c) }
         ensures declared { IfOk result (AreRowsWithin (length decl.now.permissions)) }
     {
         let plan = Plan::new(alloc, decl.classes(), decl.permissions())?;
         let rows = plan.all_rows(alloc)?;
-        Ok(Checkers {
-            places: plan.into_places(),
-            rows,
-        })
+        let places = Places::new(alloc, &plan.into_places())?;
+        Ok(Checkers { places, rows })
     }
 
-    /// The row of a class for an operation. It takes no memory.
+    /// The row of a class for an operation. It takes no memory: the class is found by the place of its name, and the
+    /// name by halving.
+    #[inline(always)]
     pub fn row(&self, class: ClassTag, op: Op) -> Row
         ensures { result ≡ row_in self.now class op }
     {
@@ -57,6 +58,7 @@ impl Checkers {
         }
     }
 
+    #[inline(always)]
     fn listed(&self, class: ClassTag, op: Op) -> Option<Row>
         ensures { result ≡ listed self.now class op }
     {

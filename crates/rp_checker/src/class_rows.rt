@@ -35,6 +35,7 @@ impl ClassRows {
     }
 
     /// The row for an operation.
+    #[inline(always)]
     pub fn row(&self, op: Op) -> Option<Row>
         ensures { result ≡ row_at op self.now }
     {
@@ -55,7 +56,9 @@ pub fn rows_over(
     own: &[(Name, Perm)],
     others: &[(Name, Row)],
 ) -> Result<Table<Row>, Memory>
-    ensures { IfOk result (λ t. (name : Name) → lookup (is_name name) t ≡ option_or (option_map (row_needing permissions.now) (lookup (is_name name) own.now)) (lookup (is_name name) others.now)) }
+    ensures { IfOk result (λ t. (name : Name) → lookup (is_name name) t
+        ≡ option_or (option_map (row_needing permissions.now) (lookup (is_name name) own.now))
+        (lookup (is_name name) others.now)) }
 {
     let mut rows = Vec::with_capacity(alloc, own.len())?;
     for (name, permission) in own {

@@ -3,6 +3,7 @@
 
 mod checkers;
 mod class_rows;
+mod places;
 mod plan;
 mod table;
 mod words;

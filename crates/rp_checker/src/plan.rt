@@ -1,11 +1,13 @@
 //! The order in which the rows of classes are made: a class after the one that it is like.
 
-ghost use Rattle.std.specs.Prelude.{◌≡◌, ◌<◌, ℕ, IfOk, OnOk, [], true, map, length, slice_get, option_copied, option_and_then, vec_len};
+ghost use Rattle.std.specs.Prelude.{◌≡◌, ◌<◌, ℕ, IfOk, OnOk, [], true, map, length, slice_get, option_copied};
+ghost use Rattle.std.specs.Prelude.{option_and_then, vec_len};
 ghost use Rattle.std.specs.Option.{option_or};
 ghost use Rattle.std.specs.Map.{lookup};
 ghost use Rattle.rp_base.specs.declared.value.Name.{Name};
 ghost use Rattle.rp_base.specs.declared.value.Op.{Op};
-ghost use Rattle.rp_checker.specs.Chain.{AllEnd, AreClassesWithin, AreRight, HasAllRows, HaveRowsWithin, IsChain, class_places, is_done, like_place, own_row};
+ghost use Rattle.rp_checker.specs.Chain.{AllEnd, AreClassesWithin, AreRight, HasAllRows, HaveRowsWithin, IsChain};
+ghost use Rattle.rp_checker.specs.Chain.{class_places, is_done, like_place, own_row};
 ghost use Rattle.rp_checker.specs.Lookup.{is_name};
 ghost use Rattle.rp_checker.specs.Tables.{row_at};
 
@@ -31,7 +33,8 @@ impl<'d> Model for Plan<'d> {
 
     ghost view = { λ p. record { classes = p.classes.now; places = p.places; permissions = p.permissions.now } };
 
-    ghost invariant = { λ p. HasPlacesWithin (record { classes = p.classes.now; places = p.places; permissions = p.permissions.now }) };
+    ghost invariant = { λ p. HasPlacesWithin
+        (record { classes = p.classes.now; places = p.places; permissions = p.permissions.now }) };
 }
 
 impl<'d> Plan<'d> {
@@ -45,7 +48,8 @@ impl<'d> Plan<'d> {
         permissions: &'d [Text],
     ) -> Result<Plan<'d>, Memory>
         ensures classes { IfOk result (λ p. p.classes ≡ classes.now) }
-        ensures places { IfOk result (λ p. (name : Name) → lookup (is_name name) p.places ≡ lookup (is_name name) (class_places classes.now)) }
+        ensures places { IfOk result (λ p. (name : Name) → lookup (is_name name) p.places
+            ≡ lookup (is_name name) (class_places classes.now)) }
         ensures permissions { IfOk result (λ p. p.permissions ≡ permissions.now) }
     {
         let places = Table::new(class_places(alloc, classes)?)?;
@@ -69,7 +73,8 @@ impl<'d> Plan<'d> {
     /// `Memory` where a growth was refused.
     pub fn all_rows(&self, alloc: Global) -> Result<Vec<ClassRows>, Memory>
         ensures all { IfOk result (λ rows. AllEnd self.now → HasAllRows self.now rows.items) }
-        ensures within { IfOk result (λ rows. AreClassesWithin self.now → HaveRowsWithin (length self.now.permissions) rows.items) }
+        ensures within { IfOk result (λ rows. AreClassesWithin self.now
+            → HaveRowsWithin (length self.now.permissions) rows.items) }
     {
         let classes = self.classes;
         let count = classes.len();
@@ -94,7 +99,10 @@ impl<'d> Plan<'d> {
     /// The rows of the class at this place, over those of the class that it is like, which are made.
     fn rows(&self, alloc: Global, place: usize, made: &[ClassRows]) -> Result<ClassRows, Memory>
         requires { place < length self.now.classes }
-        ensures { IfOk result (λ r. (op : Op) → row_at op r ≡ option_or (own_row self.now place op) (option_and_then (λ like. option_and_then (row_at op) (slice_get made.now like)) (like_place self.now place))) }
+        ensures { IfOk result (λ r. (op : Op) → row_at op r
+            ≡ option_or (own_row self.now place op)
+            (option_and_then (λ like. option_and_then (row_at op) (slice_get made.now like))
+            (like_place self.now place))) }
     {
         let classes = self.classes;
         let class = &classes[place];
@@ -136,9 +144,12 @@ impl<'d> Plan<'d> {
         requires within { first < length self.now.classes }
         requires rows { length rows.old ≡ length self.now.classes }
         requires done { length done.old ≡ length self.now.classes }
-        ensures right { OnOk result (AllEnd self.now → AreRight self.now done.old rows.old → AreRight self.now done.new rows.new) }
+        ensures right { OnOk result (AllEnd self.now → AreRight self.now done.old rows.old
+            → AreRight self.now done.new rows.new) }
         ensures first { OnOk result (is_done done.new first ≡ true) }
-        ensures declared { OnOk result (AreClassesWithin self.now → HaveRowsWithin (length self.now.permissions) rows.old → HaveRowsWithin (length self.now.permissions) rows.new) }
+        ensures declared { OnOk result (AreClassesWithin self.now
+            → HaveRowsWithin (length self.now.permissions) rows.old
+            → HaveRowsWithin (length self.now.permissions) rows.new) }
         ensures kept { OnOk result ((place : ℕ) → is_done done.old place ≡ true → is_done done.new place ≡ true) }
     {
         let mut chain = self.chain(alloc, done, first)?;

@@ -50,6 +50,7 @@ impl<V: Copy> Table<V> {
     }
 
     /// The value of a name.
+    #[inline(always)]
     pub fn get(&self, name: Name) -> Option<V>
         ensures { result ≡ lookup (is_name name) self.now }
     {

@@ -1,7 +1,8 @@
 //! Equality of values.
 ghost use Rattle.std.specs.Prelude.{◌≡◌, ◌<◌, ◌≤◌, IfErr, IfOk, None, Some};
 ghost use Rattle.std.specs.Option.{option_copied};
-ghost use Rattle.rp_compare.specs.Equality.{contents_equal, dicts_equal, elements_equal, equal, found_equal, objects_equal, pair_equal, within};
+ghost use Rattle.rp_compare.specs.Equality.{contents_equal, dicts_equal, elements_equal, equal, found_equal};
+ghost use Rattle.rp_compare.specs.Equality.{objects_equal, pair_equal, within};
 ghost use Rattle.rp_ops.specs.Depth.{deepest};
 ghost use Rattle.rp_ops.specs.Outcome.{Meets, Raises, state_of};
 ghost use Rattle.rp_ops.specs.Refused.{raised_by};
@@ -35,7 +36,8 @@ pub fn equal(
     a: &Value,
     b: &Value,
 ) -> Result<bool, OpEnd>
-    ensures plain { Meets result (state_of store.now meter.new.left) (equal deepest a.now b.now (state_of store.now meter.old.left)) }
+    ensures plain { Meets result (state_of store.now meter.new.left)
+        (equal deepest a.now b.now (state_of store.now meter.old.left)) }
     ensures fewer { meter.new.left ≤ meter.old.left }
 {
     equal_values(alloc, store, meter, DEEPEST, a, b)
@@ -51,7 +53,8 @@ fn equal_values(
     a: &Value,
     b: &Value,
 ) -> Result<bool, OpEnd>
-    ensures plain { Meets result (state_of store.now meter.new.left) (equal depth a.now b.now (state_of store.now meter.old.left)) }
+    ensures plain { Meets result (state_of store.now meter.new.left)
+        (equal depth a.now b.now (state_of store.now meter.old.left)) }
     ensures fewer { meter.new.left ≤ meter.old.left }
 {
     match (a, b) {
@@ -73,7 +76,8 @@ fn equal_objects(
     x: Oid,
     y: Oid,
 ) -> Result<bool, OpEnd>
-    ensures plain { Meets result (state_of store.now meter.new.left) (objects_equal (within depth) x y (state_of store.now meter.old.left)) }
+    ensures plain { Meets result (state_of store.now meter.new.left)
+        (objects_equal (within depth) x y (state_of store.now meter.old.left)) }
     ensures fewer { meter.new.left ≤ meter.old.left }
 {
     if x == y {
@@ -95,7 +99,9 @@ fn equal_contents(
     left: &Object,
     right: &Object,
 ) -> Result<bool, OpEnd>
-    ensures plain { Meets result (state_of store.now meter.new.left) (contents_equal (within depth) (content_of left.now) (content_of right.now) (state_of store.now meter.old.left)) }
+    ensures plain { Meets result (state_of store.now meter.new.left)
+        (contents_equal (within depth) (content_of left.now) (content_of right.now)
+        (state_of store.now meter.old.left)) }
     ensures fewer { meter.new.left ≤ meter.old.left }
 {
     match (left, right) {
@@ -135,7 +141,8 @@ fn equal_elements(
     xs: &[Value],
     ys: &[Value],
 ) -> Result<bool, OpEnd>
-    ensures plain { Meets result (state_of store.now meter.new.left) (elements_equal (equal depth) xs.now ys.now (state_of store.now meter.old.left)) }
+    ensures plain { Meets result (state_of store.now meter.new.left)
+        (elements_equal (equal depth) xs.now ys.now (state_of store.now meter.old.left)) }
     ensures fewer { meter.new.left ≤ meter.old.left }
 {
     if xs.len() != ys.len() {
@@ -159,7 +166,8 @@ fn equal_entries(
     es: &Dict<Key, (Rock, Value)>,
     fs: &Dict<Key, (Rock, Value)>,
 ) -> Result<bool, OpEnd>
-    ensures plain { Meets result (state_of store.now meter.new.left) (dicts_equal (equal depth) es.now fs.now (state_of store.now meter.old.left)) }
+    ensures plain { Meets result (state_of store.now meter.new.left)
+        (dicts_equal (equal depth) es.now fs.now (state_of store.now meter.old.left)) }
     ensures fewer { meter.new.left ≤ meter.old.left }
 {
     if es.len() != fs.len() {
@@ -184,7 +192,8 @@ fn equal_found(
     value: &Value,
     found: Option<&(Rock, Value)>,
 ) -> Result<bool, OpEnd>
-    ensures plain { Meets result (state_of store.now meter.new.left) (found_equal (equal depth) value.now (option_copied found.entry) (state_of store.now meter.old.left)) }
+    ensures plain { Meets result (state_of store.now meter.new.left)
+        (found_equal (equal depth) value.now (option_copied found.entry) (state_of store.now meter.old.left)) }
     ensures fewer { meter.new.left ≤ meter.old.left }
 {
     match found {
@@ -203,7 +212,8 @@ fn equal_pair(
     x: &Value,
     y: &Value,
 ) -> Result<bool, OpEnd>
-    ensures plain { Meets result (state_of store.now meter.new.left) (pair_equal (equal depth) (x.now, y.now) (state_of store.now meter.old.left)) }
+    ensures plain { Meets result (state_of store.now meter.new.left)
+        (pair_equal (equal depth) (x.now, y.now) (state_of store.now meter.old.left)) }
     ensures fewer { meter.new.left ≤ meter.old.left }
 {
     step(meter)?;

@@ -1,6 +1,7 @@
 //! Membership of values.
 ghost use Rattle.std.specs.Prelude.{◌≡◌, ◌≤◌, is_some};
-ghost use Rattle.rp_compare.specs.Membership.{contains, content_contains, found_in, is_text_part, object_contains, rock_contains};
+ghost use Rattle.rp_compare.specs.Membership.{contains, content_contains, found_in, is_text_part, object_contains};
+ghost use Rattle.rp_compare.specs.Membership.{rock_contains};
 ghost use Rattle.rp_ops.specs.Keys.{entry_in, key_named};
 ghost use Rattle.rp_ops.specs.Outcome.{Meets, State, gives, on_found, state_of};
 ghost use Rattle.rp_store.specs.Object.{content_of};
@@ -30,7 +31,8 @@ pub fn contains(
     a: &Value,
     of: &Value,
 ) -> Result<bool, OpEnd>
-    ensures plain { Meets result (state_of store.now meter.new.left) (contains a.now of.now (state_of store.now meter.old.left)) }
+    ensures plain { Meets result (state_of store.now meter.new.left)
+        (contains a.now of.now (state_of store.now meter.old.left)) }
     ensures fewer { meter.new.left ≤ meter.old.left }
 {
     match of {
@@ -62,7 +64,8 @@ fn object_contains(
     at: Oid,
     a: &Value,
 ) -> Result<bool, OpEnd>
-    ensures plain { Meets result (state_of store.now meter.new.left) (object_contains at a.now (state_of store.now meter.old.left)) }
+    ensures plain { Meets result (state_of store.now meter.new.left)
+        (object_contains at a.now (state_of store.now meter.old.left)) }
     ensures fewer { meter.new.left ≤ meter.old.left }
 {
     match store.get(at) {
@@ -78,7 +81,8 @@ fn content_contains(
     object: &Object,
     a: &Value,
 ) -> Result<bool, OpEnd>
-    ensures plain { Meets result (state_of store.now meter.new.left) (content_contains (content_of object.now) a.now (state_of store.now meter.old.left)) }
+    ensures plain { Meets result (state_of store.now meter.new.left)
+        (content_contains (content_of object.now) a.now (state_of store.now meter.old.left)) }
     ensures fewer { meter.new.left ≤ meter.old.left }
 {
     match object {
@@ -97,7 +101,8 @@ fn is_among(
     a: &Value,
     elements: &[Value],
 ) -> Result<bool, OpEnd>
-    ensures plain { Meets result (state_of store.now meter.new.left) (found_in a.now elements.now (state_of store.now meter.old.left)) }
+    ensures plain { Meets result (state_of store.now meter.new.left)
+        (found_in a.now elements.now (state_of store.now meter.old.left)) }
     ensures fewer { meter.new.left ≤ meter.old.left }
 {
     for element in elements {
@@ -111,7 +116,8 @@ fn is_among(
 
 /// Whether a dict has a value as a key.
 fn has_key(alloc: Global, entries: &Dict<Key, (Rock, Value)>, a: &Value) -> Result<bool, OpEnd>
-    ensures { (s : State) → Meets result s (on_found (key_named a.now) s (λ r s. gives (is_some (entry_in entries.now r)) s)) }
+    ensures { (s : State) → Meets result s
+        (on_found (key_named a.now) s (λ r s. gives (is_some (entry_in entries.now r)) s)) }
 {
     let Value::Rock(rock) = a else {
         return Err(Refusal::Key.end(alloc));

@@ -26,7 +26,8 @@ pub fn compare(
     a: &Value,
     b: &Value,
 ) -> Result<bool, OpEnd>
-    ensures plain { Meets result (state_of store.now meter.new.left) (compare op a.now b.now (state_of store.now meter.old.left)) }
+    ensures plain { Meets result (state_of store.now meter.new.left)
+        (compare op a.now b.now (state_of store.now meter.old.left)) }
     ensures fewer { meter.new.left ≤ meter.old.left }
 {
     match op {

@@ -9,9 +9,11 @@ use crate::tree::{Expr, Guard, Stmt};
 
 /// The statements with a guard at each read of an attribute (RestrictedPython, transformer).
 pub(crate) fn transform(mut statements: Vec<Stmt>) -> Vec<Stmt>
-    ensures same { (names : List (List ℕ)) → map (statement_view names) result.items ≡ map (statement_view names) statements.items }
+    ensures same { (names : List (List ℕ)) → map (statement_view names) result.items
+        ≡ map (statement_view names) statements.items }
     ensures guarded { list_all is_guarded result.items ≡ true }
-    ensures held { (names : List (List ℕ)) → All (IsStatementHeld names) statements.items → All (IsStatementHeld names) result.items }
+    ensures held { (names : List (List ℕ)) → All (IsStatementHeld names) statements.items
+        → All (IsStatementHeld names) result.items }
 {
     for statement in statements.iter_mut() {
         guard_statement(statement);
@@ -31,9 +33,11 @@ fn guard_statement(statement: &mut Stmt)
 }
 
 fn guard_expression(expression: &mut Expr)
-    ensures same { (names : List (List ℕ)) → expression_view names expression.new ≡ expression_view names expression.old }
+    ensures same { (names : List (List ℕ)) → expression_view names expression.new
+        ≡ expression_view names expression.old }
     ensures guarded { is_guarded_expression expression.new ≡ true }
-    ensures held { (names : List (List ℕ)) → IsExpressionHeld names expression.old → IsExpressionHeld names expression.new }
+    ensures held { (names : List (List ℕ)) → IsExpressionHeld names expression.old
+        → IsExpressionHeld names expression.new }
 {
     if let Expr::Attr { guard, .. } = expression {
         *guard = Some(Guard::GetAttr);

@@ -58,9 +58,11 @@ impl Compiled {
 /// The first check that the bytes do not pass, in the order of `Refusal`, or `Memory` where a growth was
 /// refused.
 pub fn compile_script(alloc: Global, bytes: &[u8], names: &mut Names) -> Result<Compiled, Refusal>
-    ensures rewritten { IfOk result (λ c. (source : List Statement) × (IsScript bytes.now source × Rewrites names.new source c)) }
+    ensures rewritten { IfOk result (λ c. (source : List Statement)
+        × (IsScript bytes.now source × Rewrites names.new source c)) }
     // A script has one tree.
-    ensures one { IfOk result (λ c. (source : List Statement) → IsScript bytes.now source → Rewrites names.new source c) }
+    ensures one { IfOk result (λ c. (source : List Statement) → IsScript bytes.now source
+        → Rewrites names.new source c) }
     ensures held { IfOk result (λ c. All (IsStatementHeld names.new) c) }
     ensures refused { IfErr result (λ refusal. refusal ≢ Refusal.Memory → IsRefused bytes.now refusal) }
     ensures names { IsGrown names.old names.new }
@@ -77,7 +79,8 @@ pub fn compile_script(alloc: Global, bytes: &[u8], names: &mut Names) -> Result<
 /// The first check that the bytes do not pass, or `Memory` where a growth was refused.
 fn read_script(alloc: Global, bytes: &[u8], names: &mut Names) -> Result<Vec<Stmt>, Refusal>
     ensures script { IfOk result (λ v. IsScript bytes.now (map (statement_view names.new) v.items)) }
-    ensures one { IfOk result (λ v. (source : List Statement) → IsScript bytes.now source → source ≡ map (statement_view names.new) v.items) }
+    ensures one { IfOk result (λ v. (source : List Statement) → IsScript bytes.now source → source
+        ≡ map (statement_view names.new) v.items) }
     ensures held { IfOk result (λ v. All (IsStatementHeld names.new) v.items) }
     ensures refused { IfErr result (λ refusal. refusal ≢ Refusal.Memory → IsRefused bytes.now refusal) }
     ensures names { IsGrown names.old names.new }

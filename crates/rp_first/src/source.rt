@@ -1,15 +1,18 @@
 //! The statements of the first form that a tree is.
 
-ghost use Rattle.std.specs.Prelude.{◌≡◌, ◌∷◌, [], IfErr, IfOk, IfSome, IsTrue, List, Some, map, option_and_then, option_map};
+ghost use Rattle.std.specs.Prelude.{◌≡◌, ◌∷◌, [], IfErr, IfOk, IfSome, IsTrue, List, Some, map, option_and_then};
+ghost use Rattle.std.specs.Prelude.{option_map};
 ghost use Rattle.std.specs.List.{All};
 ghost use Rattle.rp_tree.specs.ExpressionTrees as t;
 ghost use Rattle.rp_tree.specs.ExpressionViews as v;
 ghost use Rattle.rp_tree.specs.StatementViews.{view_stmt_form, view_tree};
 ghost use Rattle.rp_first.specs.Reading.{IsRead, OnNotYet, allowed, allowed_statement};
-ghost use Rattle.rp_first.specs.Script.{argument_in, arguments_in, attribute_in, expression_by, is_attribute_name, is_print, is_script_name, name_in, printed_by, statement_by, target_in};
+ghost use Rattle.rp_first.specs.Script.{argument_in, arguments_in, attribute_in, expression_by, is_attribute_name};
+ghost use Rattle.rp_first.specs.Script.{is_print, is_script_name, name_in, printed_by, statement_by, target_in};
 ghost use Rattle.rp_first.specs.Source as source;
 ghost use Rattle.rp_first.specs.Source.{Statement};
-ghost use Rattle.rp_first.specs.View.{IsExpressionHeld, IsNameHeld, IsStatementHeld, expression_view, statement_view, word};
+ghost use Rattle.rp_first.specs.View.{IsExpressionHeld, IsNameHeld, IsStatementHeld, expression_view, statement_view};
+ghost use Rattle.rp_first.specs.View.{word};
 
 use crate::refusal::Refusal;
 use crate::script_name::{is_attribute_name, is_script_name};
@@ -29,7 +32,8 @@ const LONGEST_SCRIPT: usize = 1000;
 pub(crate) fn statements(alloc: Global, tree: &Tree, names: &Names) -> Result<Vec<Stmt>, Refusal>
     ensures source { IfOk result (λ v. IsRead names.now (view_tree tree.now) (map (statement_view names.now) v.items)) }
     ensures held { IfOk result (λ v. All (IsStatementHeld names.now) v.items) }
-    ensures refused { IfErr result (λ refusal. OnNotYet refusal ((source : List Statement) → ¬ IsRead names.now (view_tree tree.now) source)) }
+    ensures refused { IfErr result (λ refusal. OnNotYet refusal ((source : List Statement)
+        → ¬ IsRead names.now (view_tree tree.now) source)) }
 {
     if tree.body.len() > LONGEST_SCRIPT {
         return Err(Refusal::NotYet);
@@ -46,7 +50,8 @@ pub(crate) fn statements(alloc: Global, tree: &Tree, names: &Names) -> Result<Ve
 
 /// The statement of the first form that a form is, where a script may write it.
 fn statement(form: &StmtForm, names: &Names) -> Option<Stmt>
-    ensures gives { option_map (statement_view names.now) result ≡ allowed_statement (statement_by (word names.now) (view_stmt_form form.now)) }
+    ensures gives { option_map (statement_view names.now) result
+        ≡ allowed_statement (statement_by (word names.now) (view_stmt_form form.now)) }
     ensures held { IfSome result (IsStatementHeld names.now) }
 {
     match form {
@@ -120,7 +125,8 @@ fn printed<'t>(form: &'t ExprForm, names: &Names) -> Option<&'t ExprForm>
 
 /// The arguments of the call that is all that trails.
 fn arguments(trailers: &[Trailer]) -> Option<&[Arg]>
-    ensures { option_map (λ args. v.args_of (map v.view_arg args.now)) result ≡ arguments_in (v.trailers_of (map v.view_trailer trailers.now)) }
+    ensures { option_map (λ args. v.args_of (map v.view_arg args.now)) result
+        ≡ arguments_in (v.trailers_of (map v.view_trailer trailers.now)) }
 {
     match trailers {
         [] => None,
@@ -131,7 +137,8 @@ fn arguments(trailers: &[Trailer]) -> Option<&[Arg]>
 
 /// The arguments, where a trailer is a call.
 fn arguments_of(trailer: &Trailer) -> Option<&[Arg]>
-    ensures { option_map (λ args. v.args_of (map v.view_arg args.now)) result ≡ arguments_in (t.trailer (v.view_trailer trailer.now) t.no_trailers) }
+    ensures { option_map (λ args. v.args_of (map v.view_arg args.now)) result
+        ≡ arguments_in (t.trailer (v.view_trailer trailer.now) t.no_trailers) }
 {
     match trailer {
         Trailer::Call(args, _) => Some(args),
@@ -170,7 +177,8 @@ fn is_print(name: Name, names: &Names) -> bool
 
 /// The expression of the first form that a form is, where a script may write it.
 fn expression(form: &ExprForm, names: &Names) -> Option<Expr>
-    ensures gives { option_map (expression_view names.now) result ≡ allowed (expression_by (word names.now) (v.view_form form.now)) }
+    ensures gives { option_map (expression_view names.now) result
+        ≡ allowed (expression_by (word names.now) (v.view_form form.now)) }
     ensures held { IfSome result (IsExpressionHeld names.now) }
 {
     match form {
@@ -205,7 +213,8 @@ fn attribute(trailers: &[Trailer]) -> Option<Name>
 
 /// The read of an attribute of the object that `object` names, where a script may write it.
 fn attribute_of(object: Name, name: Name, names: &Names) -> Option<Expr>
-    ensures gives { option_map (expression_view names.now) result ≡ allowed (Some (source.attribute (word names.now object) (word names.now name))) }
+    ensures gives { option_map (expression_view names.now) result
+        ≡ allowed (Some (source.attribute (word names.now object) (word names.now name))) }
     ensures held { IfSome result (IsExpressionHeld names.now) }
 {
     if is_usable(object, names) && is_readable(name, names) {

@@ -2,7 +2,7 @@
 use Rattle.std.proofs.Common.{◌≡◌, refl, sym, ap, ◌∙◌, ℕ, suc, ◌-◌, ◌⊎◌, inl, inr, Bool, true, false, cond, List, [], ◌∷◌, length, take, Option, Some, None, arith, nat_eq, subst}
 use Rattle.std.specs.List.{All}
 use Rattle.std.specs.Map.{lookup, lookup_entry, remove_entry}
-use Rattle.std.specs.Option.{option_map_or}
+use Rattle.std.specs.Option.{IfSome, IsSome, option_map_or}
 use Rattle.std.proofs.lemmas.Bool.Decides.{nat_tests}
 use Rattle.std.proofs.lemmas.List.{length-take}
 use Rattle.std.proofs.lemmas.List.Elements.{All-cons, All-head, All-tail, All-take}
@@ -127,3 +127,16 @@ used-latest i p a e = ap (λ es. record i { kept = es }) (sym (latest-promoted p
 
 pub latest-right : (i : Interacting) (room : ℕ) (p : Perm) (a : Bool) → IsSound i room → latest i.kept p ≡ Some a → a ≡ has_in i p
 latest-right i room p a s e = lookup-right (has_in i) p i.kept a s.right (latest-lookup p i.kept a e)
+
+-- the same of an answer that there may be
+pub latest-told : (i : Interacting) (room : ℕ) (p : Perm) (o : Option Bool) → IsSound i room → o ≡ latest i.kept p → IfSome o (λ a. a ≡ has_in i p)
+latest-told i room p None s e = tt
+latest-told i room p (Some a) s e = latest-right i room p a s (sym e)
+
+pub latest-used : (i : Interacting) (p : Perm) (o : Option Bool) → IsSome o → o ≡ latest i.kept p → i ≡ used i p
+latest-used i p None some e = cc
+latest-used i p (Some a) some e = used-latest i p a (sym e)
+
+pub latest-kept : (i : Interacting) (p : Perm) (o : Option Bool) → IsSome o → o ≡ latest i.kept p → IsSome (lookup (is_perm p) i.kept)
+latest-kept i p None some e = cc
+latest-kept i p (Some a) some e = rw (latest-lookup p i.kept a (sym e)) refl

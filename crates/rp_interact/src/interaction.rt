@@ -1,6 +1,7 @@
 //! The principals of a session, and the answers that are kept.
 
-ghost use Rattle.std.specs.Prelude.{◌≡◌, ◌⊎◌, ◌≤◌, ◌<◌, ℕ, IfOk, IfErr, IsSome, IsNone, List, None, Some, [], find, length, option_copied, position};
+ghost use Rattle.std.specs.Prelude.{◌≡◌, ◌⊎◌, ◌≤◌, ◌<◌, ℕ, IfOk, IfErr, IfSome, IsSome, IsNone, List, None, Some, []};
+ghost use Rattle.std.specs.Prelude.{find, length, option_copied, position};
 ghost use Rattle.std.specs.List.{list_all};
 ghost use Rattle.std.specs.Map.{lookup};
 ghost use Rattle.rp_base.specs.Same.{same_text};
@@ -67,8 +68,10 @@ impl Interaction {
     pub fn new(alloc: Global, decl: &Decl, who: &[Text]) -> Result<Interaction, WhoFault>
         ensures ids { IfOk result (λ i. i.ids ≡ who.now) }
         ensures kept { IfOk result (λ i. i.kept ≡ []) }
-        ensures answers { IfOk result (λ i. (names : List (List ℕ)) → AreInOrder (declarations_view names decl.now) → AnswersAs names decl.now i) }
-        ensures known { IfOk result (λ _. (names : List (List ℕ)) → first_unknown (declarations_view names decl.now) who.now ≡ None) }
+        ensures answers { IfOk result (λ i. (names : List (List ℕ)) → AreInOrder (declarations_view names decl.now)
+            → AnswersAs names decl.now i) }
+        ensures known { IfOk result (λ _. (names : List (List ℕ))
+            → first_unknown (declarations_view names decl.now) who.now ≡ None) }
         ensures refused { IfErr result (IsRefusedFor decl.now who.now) }
     {
         let permissions = decl.permissions();
@@ -119,6 +122,16 @@ impl Interaction {
         } else {
             reasons.reason(permission)
         }
+    }
+
+    /// The answer that was given last, where it was on this permission. `decide` would then give it too, and change nothing.
+    #[inline(always)]
+    pub fn last_answer(&self, permission: Perm) -> Option<bool>
+        ensures answer { IfSome result (λ answer. answer ≡ has_in self.now permission) }
+        ensures same { IsSome result → self.now ≡ used self.now permission }
+        ensures kept { IsSome result → IsSome (lookup (is_perm permission) self.now.kept) }
+    {
+        latest(&self.kept, permission)
     }
 
     /// What `has` answers, from what is kept where it is there. The answer is then the latest one kept,
@@ -175,6 +188,7 @@ fn no_answers(alloc: Global) -> Result<LruCache<Perm, bool>, AllocError>
 }
 
 /// The answer that is kept for a permission, where it is the latest one used.
+#[inline(always)]
 fn latest(kept: &LruCache<Perm, bool>, permission: Perm) -> Option<bool>
     ensures { result ≡ latest kept.now.entries permission }
 {
@@ -196,7 +210,8 @@ fn recall(kept: &mut LruCache<Perm, bool>, permission: Perm) -> Option<bool>
 
 /// Keeps an answer, where there is memory for it.
 fn keep(kept: &mut LruCache<Perm, bool>, permission: Perm, answer: bool)
-    ensures { (kept.new ≡ lru_cache (put_entries is_perm kept.old permission answer) kept.old.cap) ⊎ (kept.new ≡ kept.old) }
+    ensures { (kept.new ≡ lru_cache (put_entries is_perm kept.old permission answer) kept.old.cap) ⊎ (kept.new
+        ≡ kept.old) }
 {
     let _refused = kept.put(permission, answer);
 }

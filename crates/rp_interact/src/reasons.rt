@@ -4,7 +4,8 @@ ghost use Rattle.std.specs.Prelude.{◌≡◌, ◌<◌, ◌||◌, ℕ, All, IfOk
 ghost use Rattle.rp_decl.specs.Places.{IsGroupWithin, IsPrincipalWithin, IsRoleWithin};
 ghost use Rattle.rp_interact.specs.Granted.{granted_of, reasons_of};
 ghost use Rattle.rp_interact.specs.Interacting.{reason_at};
-ghost use Rattle.rp_interact.specs.ReasonsSteps.{by_group, by_groups, by_role, by_roles, granting, has_place, lowered, lowered_at, own_grants, own_roles, roles_by_group, roles_by_groups};
+ghost use Rattle.rp_interact.specs.ReasonsSteps.{by_group, by_groups, by_role, by_roles, granting, has_place, lowered};
+ghost use Rattle.rp_interact.specs.ReasonsSteps.{lowered_at, own_grants, own_roles, roles_by_group, roles_by_groups};
 ghost use Rattle.rp_interact.specs.declared.reason.Reason.TheVariants.{Nothing};
 
 use crate::reason::Reason;
@@ -176,7 +177,8 @@ impl Reasons {
 
 /// For each of so many places whether it is among some.
 fn marks(alloc: Global, count: usize, places: &[usize]) -> Result<Vec<bool>, Memory>
-    ensures { IfOk result (λ marks. (place : ℕ) → place < count → get_or marks.items place false ≡ has_place places.now place) }
+    ensures { IfOk result (λ marks. (place : ℕ) → place < count → get_or marks.items place false
+        ≡ has_place places.now place) }
 {
     let mut marks = vec![in alloc; false; count]?;
     for place in places {
@@ -188,7 +190,8 @@ fn marks(alloc: Global, count: usize, places: &[usize]) -> Result<Vec<bool>, Mem
 /// Marks a place, where it is among the marks.
 fn mark(marks: &mut [bool], place: usize)
     ensures as_many { length marks.new ≡ length marks.old }
-    ensures marked { (other : ℕ) → other < length marks.old → get_or marks.new other false ≡ (nat_eq place other || get_or marks.old other false) }
+    ensures marked { (other : ℕ) → other < length marks.old → get_or marks.new other false
+        ≡ (nat_eq place other || get_or marks.old other false) }
 {
     if place < marks.len() {
         marks[place] = true;

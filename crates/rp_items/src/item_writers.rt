@@ -2,6 +2,7 @@
 
 ghost use Rattle.std.specs.Prelude.{◌≡◌, ℕ, is_some, length, IsSome, OnErr};
 ghost use Rattle.std.specs.Option.{option_map_or};
+ghost use Rattle.rp_store.specs.Counters.{KeepsCounters};
 ghost use Rattle.rp_store.specs.Heap.{IsHeld, Names, content_at, elements_at, entry_of};
 ghost use Rattle.rp_store.specs.Kept.{IsSound};
 ghost use Rattle.rp_store.specs.Key.{key_form};
@@ -10,7 +11,8 @@ ghost use Rattle.rp_store.specs.Shape.{KeepsShape};
 ghost use Rattle.rp_store.specs.Writers.{with_element, without_element};
 ghost use Rattle.rp_ops.specs.Keys.{key_named};
 ghost use Rattle.rp_ops.specs.Outcome.{Meets, on_found, state_of};
-ghost use Rattle.rp_items.specs.Items.{changed, content_del, content_set, del_item, entry_put, missing_key, no_items, place_named, set_item, without_rock};
+ghost use Rattle.rp_items.specs.Items.{changed, content_del, content_set, del_item, entry_put, missing_key, no_items};
+ghost use Rattle.rp_items.specs.Items.{place_named, set_item, without_rock};
 
 use crate::missing::missing_key;
 use crate::places::place_named;
@@ -42,9 +44,11 @@ pub fn set_item(
 ) -> Result<(), OpEnd>
     requires a { IsSound store.old.heap a.now }
     requires v { IsSound store.old.heap v }
-    ensures plain { (steps : ℕ) → Meets result (state_of store.new steps) (set_item a.now i.now v (state_of store.old steps)) }
+    ensures plain { (steps : ℕ) → Meets result (state_of store.new steps)
+        (set_item a.now i.now v (state_of store.old steps)) }
     ensures same { OnErr result (store.new ≡ store.old) }
     ensures shape { KeepsShape store.old.heap store.new.heap }
+    ensures counters { KeepsCounters store.old store.new }
 {
     match a {
         Value::Rock(_) => Err(Refusal::Item.end(alloc)),
@@ -62,9 +66,12 @@ fn set_in_object(
 ) -> Result<(), OpEnd>
     requires held { IsHeld store.old.heap at }
     requires v { IsSound store.old.heap v }
-    ensures plain { (steps : ℕ) → Meets result (state_of store.new steps) (option_map_or (λ c. content_set at c i.now v (state_of store.old steps)) (content_at store.old.heap at) (no_items (state_of store.old steps))) }
+    ensures plain { (steps : ℕ) → Meets result (state_of store.new steps)
+        (option_map_or (λ c. content_set at c i.now v (state_of store.old steps)) (content_at store.old.heap at)
+        (no_items (state_of store.old steps))) }
     ensures same { OnErr result (store.new ≡ store.old) }
     ensures shape { KeepsShape store.old.heap store.new.heap }
+    ensures counters { KeepsCounters store.old store.new }
 {
     match store.object(at) {
         Object::List(_) => set_element(alloc, store, at, i, v),
@@ -82,9 +89,12 @@ fn set_element(alloc: Global, store: &mut Store, at: Oid, i: &Value, v: Value) -
     requires held { IsHeld store.old.heap at }
     requires list { Names store.old.heap IsList at }
     requires v { IsSound store.old.heap v }
-    ensures plain { (steps : ℕ) → Meets result (state_of store.new steps) (on_found (place_named (length (elements_at store.old.heap at)) i.now) (state_of store.old steps) (λ p s. changed at (with_element p v) s)) }
+    ensures plain { (steps : ℕ) → Meets result (state_of store.new steps)
+        (on_found (place_named (length (elements_at store.old.heap at)) i.now) (state_of store.old steps)
+        (λ p s. changed at (with_element p v) s)) }
     ensures same { OnErr result (store.new ≡ store.old) }
     ensures shape { KeepsShape store.old.heap store.new.heap }
+    ensures counters { KeepsCounters store.old store.new }
 {
     match place_named(list_length(store, at), i) {
         Ok(place) => {
@@ -112,9 +122,11 @@ fn set_entry(alloc: Global, store: &mut Store, at: Oid, i: &Value, v: Value) -> 
     requires held { IsHeld store.old.heap at }
     requires dict { Names store.old.heap IsDict at }
     requires v { IsSound store.old.heap v }
-    ensures plain { (steps : ℕ) → Meets result (state_of store.new steps) (on_found (key_named i.now) (state_of store.old steps) (λ r s. entry_put at r v s)) }
+    ensures plain { (steps : ℕ) → Meets result (state_of store.new steps)
+        (on_found (key_named i.now) (state_of store.old steps) (λ r s. entry_put at r v s)) }
     ensures same { OnErr result (store.new ≡ store.old) }
     ensures shape { KeepsShape store.old.heap store.new.heap }
+    ensures counters { KeepsCounters store.old store.new }
 {
     match i {
         Value::Rock(rock) => {
@@ -143,9 +155,11 @@ fn put_entry(store: &mut Store, at: Oid, rock: &Rock, v: Value) -> Result<(), Op
     requires dict { Names store.old.heap IsDict at }
     requires key { IsSome (key_form rock.now) }
     requires v { IsSound store.old.heap v }
-    ensures plain { (steps : ℕ) → Meets result (state_of store.new steps) (entry_put at rock.now v (state_of store.old steps)) }
+    ensures plain { (steps : ℕ) → Meets result (state_of store.new steps)
+        (entry_put at rock.now v (state_of store.old steps)) }
     ensures same { OnErr result (store.new ≡ store.old) }
     ensures shape { KeepsShape store.old.heap store.new.heap }
+    ensures counters { KeepsCounters store.old store.new }
 {
     let key = rock.copy()?;
     match store.put(at, key, v) {
@@ -174,9 +188,11 @@ fn put_entry(store: &mut Store, at: Oid, rock: &Rock, v: Value) -> Result<(), Op
 /// The store is then as before.
 pub fn del_item(alloc: Global, store: &mut Store, a: &Value, i: &Value) -> Result<(), OpEnd>
     requires a { IsSound store.old.heap a.now }
-    ensures plain { (steps : ℕ) → Meets result (state_of store.new steps) (del_item a.now i.now (state_of store.old steps)) }
+    ensures plain { (steps : ℕ) → Meets result (state_of store.new steps)
+        (del_item a.now i.now (state_of store.old steps)) }
     ensures same { OnErr result (store.new ≡ store.old) }
     ensures shape { KeepsShape store.old.heap store.new.heap }
+    ensures counters { KeepsCounters store.old store.new }
 {
     match a {
         Value::Rock(_) => Err(Refusal::Item.end(alloc)),
@@ -187,9 +203,12 @@ pub fn del_item(alloc: Global, store: &mut Store, a: &Value, i: &Value) -> Resul
 
 fn del_in_object(alloc: Global, store: &mut Store, at: Oid, i: &Value) -> Result<(), OpEnd>
     requires held { IsHeld store.old.heap at }
-    ensures plain { (steps : ℕ) → Meets result (state_of store.new steps) (option_map_or (λ c. content_del at c i.now (state_of store.old steps)) (content_at store.old.heap at) (no_items (state_of store.old steps))) }
+    ensures plain { (steps : ℕ) → Meets result (state_of store.new steps)
+        (option_map_or (λ c. content_del at c i.now (state_of store.old steps)) (content_at store.old.heap at)
+        (no_items (state_of store.old steps))) }
     ensures same { OnErr result (store.new ≡ store.old) }
     ensures shape { KeepsShape store.old.heap store.new.heap }
+    ensures counters { KeepsCounters store.old store.new }
 {
     match store.object(at) {
         Object::List(_) => del_element(alloc, store, at, i),
@@ -206,9 +225,12 @@ fn del_in_object(alloc: Global, store: &mut Store, at: Oid, i: &Value) -> Result
 fn del_element(alloc: Global, store: &mut Store, at: Oid, i: &Value) -> Result<(), OpEnd>
     requires held { IsHeld store.old.heap at }
     requires list { Names store.old.heap IsList at }
-    ensures plain { (steps : ℕ) → Meets result (state_of store.new steps) (on_found (place_named (length (elements_at store.old.heap at)) i.now) (state_of store.old steps) (λ p s. changed at (without_element p) s)) }
+    ensures plain { (steps : ℕ) → Meets result (state_of store.new steps)
+        (on_found (place_named (length (elements_at store.old.heap at)) i.now) (state_of store.old steps)
+        (λ p s. changed at (without_element p) s)) }
     ensures same { OnErr result (store.new ≡ store.old) }
     ensures shape { KeepsShape store.old.heap store.new.heap }
+    ensures counters { KeepsCounters store.old store.new }
 {
     match place_named(list_length(store, at), i) {
         Ok(place) => {
@@ -222,9 +244,12 @@ fn del_element(alloc: Global, store: &mut Store, at: Oid, i: &Value) -> Result<(
 fn del_entry(alloc: Global, store: &mut Store, at: Oid, i: &Value) -> Result<(), OpEnd>
     requires held { IsHeld store.old.heap at }
     requires dict { Names store.old.heap IsDict at }
-    ensures plain { (steps : ℕ) → Meets result (state_of store.new steps) (on_found (key_named i.now) (state_of store.old steps) (λ r s. option_map_or (λ e. changed at (without_rock r) s) (entry_of store.old.heap at r) (missing_key r s))) }
+    ensures plain { (steps : ℕ) → Meets result (state_of store.new steps)
+        (on_found (key_named i.now) (state_of store.old steps)
+        (λ r s. option_map_or (λ e. changed at (without_rock r) s) (entry_of store.old.heap at r) (missing_key r s))) }
     ensures same { OnErr result (store.new ≡ store.old) }
     ensures shape { KeepsShape store.old.heap store.new.heap }
+    ensures counters { KeepsCounters store.old store.new }
 {
     match i {
         Value::Rock(rock) => drop_entry(alloc, store, at, rock),
@@ -235,9 +260,12 @@ fn del_entry(alloc: Global, store: &mut Store, at: Oid, i: &Value) -> Result<(),
 fn drop_entry(alloc: Global, store: &mut Store, at: Oid, rock: &Rock) -> Result<(), OpEnd>
     requires held { IsHeld store.old.heap at }
     requires dict { Names store.old.heap IsDict at }
-    ensures plain { (steps : ℕ) → Meets result (state_of store.new steps) (on_found (key_named (Value.Rock rock.now)) (state_of store.old steps) (λ r s. option_map_or (λ e. changed at (without_rock r) s) (entry_of store.old.heap at r) (missing_key r s))) }
+    ensures plain { (steps : ℕ) → Meets result (state_of store.new steps)
+        (on_found (key_named (Value.Rock rock.now)) (state_of store.old steps)
+        (λ r s. option_map_or (λ e. changed at (without_rock r) s) (entry_of store.old.heap at r) (missing_key r s))) }
     ensures same { OnErr result (store.new ≡ store.old) }
     ensures shape { KeepsShape store.old.heap store.new.heap }
+    ensures counters { KeepsCounters store.old store.new }
 {
     let Some(key) = key_of(rock)? else {
         return Err(Refusal::Key.end(alloc));

@@ -2,11 +2,13 @@
 
 ghost use Rattle.std.specs.Prelude.{◌≡◌, ℕ, List, length, IfOk};
 ghost use Rattle.std.specs.Option.{option_map_or};
+ghost use Rattle.rp_store.specs.Counters.{KeepsCounters};
 ghost use Rattle.rp_store.specs.Heap.{IsHeld, Owned, content_at, entry_of};
 ghost use Rattle.rp_store.specs.Kept.{AreSound, IsSound};
 ghost use Rattle.rp_ops.specs.Keys.{key_named};
 ghost use Rattle.rp_ops.specs.Outcome.{Meets, State, gives, on_found, state_of};
-ghost use Rattle.rp_items.specs.Items.{character_at, content_item, elements_item, item, missing_key, no_items, place_named, rock_item};
+ghost use Rattle.rp_items.specs.Items.{character_at, content_item, elements_item, item, missing_key, no_items};
+ghost use Rattle.rp_items.specs.Items.{place_named, rock_item};
 
 use crate::lending::lent;
 use crate::letters::character_of;
@@ -29,12 +31,14 @@ use std::alloc::Global;
 ///   whose text is the key as it is shown inside a container, where the dict has no such key.
 /// - `StopCells` where the cells are over the limit; then the store is as before.
 /// - `Memory` where a growth was refused, the count of a text's owners is full, or the store holds no more bytes of the texts
-///   of exceptions. Then cells may be used.
+///   of exceptions. Then cells may be used; the limit stays, and no used cell is given back.
 pub fn item(alloc: Global, store: &mut Store, a: &Value, i: &Value) -> Result<Value, OpEnd>
     requires a { IsSound store.old.heap a.now }
-    ensures plain { (steps : ℕ) → Meets result (state_of store.new steps) (item a.now i.now (state_of store.old steps)) }
+    ensures plain { (steps : ℕ) → Meets result (state_of store.new steps)
+        (item a.now i.now (state_of store.old steps)) }
     ensures same { store.new.heap ≡ store.old.heap }
     ensures sound { IfOk result (λ v. IsSound store.new.heap v) }
+    ensures counters { KeepsCounters store.old store.new }
 {
     match a {
         Value::Rock(rock) => rock_item(alloc, store, rock, i),
@@ -47,9 +51,11 @@ pub fn item(alloc: Global, store: &mut Store, a: &Value, i: &Value) -> Result<Va
 }
 
 fn rock_item(alloc: Global, store: &mut Store, rock: &Rock, i: &Value) -> Result<Value, OpEnd>
-    ensures plain { (steps : ℕ) → Meets result (state_of store.new steps) (rock_item rock.now i.now (state_of store.old steps)) }
+    ensures plain { (steps : ℕ) → Meets result (state_of store.new steps)
+        (rock_item rock.now i.now (state_of store.old steps)) }
     ensures same { store.new.heap ≡ store.old.heap }
     ensures sound { IfOk result (λ v. IsSound store.new.heap v) }
+    ensures counters { KeepsCounters store.old store.new }
 {
     match rock {
         Rock::Text(text) => text_item(alloc, store, text, i),
@@ -58,9 +64,11 @@ fn rock_item(alloc: Global, store: &mut Store, rock: &Rock, i: &Value) -> Result
 }
 
 fn text_item(alloc: Global, store: &mut Store, text: &Text, i: &Value) -> Result<Value, OpEnd>
-    ensures plain { (steps : ℕ) → Meets result (state_of store.new steps) (on_found (place_named (length text.now) i.now) (state_of store.old steps) (character_at text.now)) }
+    ensures plain { (steps : ℕ) → Meets result (state_of store.new steps)
+        (on_found (place_named (length text.now) i.now) (state_of store.old steps) (character_at text.now)) }
     ensures same { store.new.heap ≡ store.old.heap }
     ensures sound { IfOk result (λ v. IsSound store.new.heap v) }
+    ensures counters { KeepsCounters store.old store.new }
 {
     match place_named(text.len(), i) {
         Ok(place) => character_at(alloc, store, text, place),
@@ -69,9 +77,11 @@ fn text_item(alloc: Global, store: &mut Store, text: &Text, i: &Value) -> Result
 }
 
 fn character_at(alloc: Global, store: &mut Store, text: &Text, place: usize) -> Result<Value, OpEnd>
-    ensures plain { (steps : ℕ) → Meets result (state_of store.new steps) (character_at text.now place (state_of store.old steps)) }
+    ensures plain { (steps : ℕ) → Meets result (state_of store.new steps)
+        (character_at text.now place (state_of store.old steps)) }
     ensures same { store.new.heap ≡ store.old.heap }
     ensures sound { IfOk result (λ v. IsSound store.new.heap v) }
+    ensures counters { KeepsCounters store.old store.new }
 {
     match character_of(text, place) {
         Some(letter) => new_character(alloc, store, letter),
@@ -82,9 +92,12 @@ fn character_at(alloc: Global, store: &mut Store, text: &Text, place: usize) -> 
 #[inline(always)]
 fn object_item(alloc: Global, store: &mut Store, at: Oid, i: &Value) -> Result<Value, OpEnd>
     requires held { IsHeld store.old.heap at }
-    ensures plain { (steps : ℕ) → Meets result (state_of store.new steps) (option_map_or (λ c. content_item c i.now (state_of store.old steps)) (content_at store.old.heap at) (no_items (state_of store.old steps))) }
+    ensures plain { (steps : ℕ) → Meets result (state_of store.new steps)
+        (option_map_or (λ c. content_item c i.now (state_of store.old steps)) (content_at store.old.heap at)
+        (no_items (state_of store.old steps))) }
     ensures same { store.new ≡ store.old }
     ensures sound { IfOk result (λ v. IsSound store.new.heap v) }
+    ensures counters { KeepsCounters store.old store.new }
 {
     match store.object(at) {
         Object::List(elements) => elements_item(alloc, elements.as_slice(), i),
@@ -112,9 +125,12 @@ fn elements_item(alloc: Global, elements: &[Value], i: &Value) -> Result<Value, 
 /// The value at a key of a dict.
 fn dict_item(alloc: Global, store: &mut Store, at: Oid, i: &Value) -> Result<Value, OpEnd>
     requires held { IsHeld store.old.heap at }
-    ensures plain { (steps : ℕ) → Meets result (state_of store.new steps) (on_found (key_named i.now) (state_of store.old steps) (λ r s. option_map_or (λ e. gives e.1 s) (entry_of store.old.heap at r) (missing_key r s))) }
+    ensures plain { (steps : ℕ) → Meets result (state_of store.new steps)
+        (on_found (key_named i.now) (state_of store.old steps)
+        (λ r s. option_map_or (λ e. gives e.1 s) (entry_of store.old.heap at r) (missing_key r s))) }
     ensures same { store.new ≡ store.old }
     ensures sound { IfOk result (λ v. IsSound store.new.heap v) }
+    ensures counters { KeepsCounters store.old store.new }
 {
     match i {
         Value::Rock(rock) => entry_item(alloc, store, at, rock),
@@ -124,9 +140,12 @@ fn dict_item(alloc: Global, store: &mut Store, at: Oid, i: &Value) -> Result<Val
 
 fn entry_item(alloc: Global, store: &mut Store, at: Oid, rock: &Rock) -> Result<Value, OpEnd>
     requires held { IsHeld store.old.heap at }
-    ensures plain { (steps : ℕ) → Meets result (state_of store.new steps) (on_found (key_named (Value.Rock rock.now)) (state_of store.old steps) (λ r s. option_map_or (λ e. gives e.1 s) (entry_of store.old.heap at r) (missing_key r s))) }
+    ensures plain { (steps : ℕ) → Meets result (state_of store.new steps)
+        (on_found (key_named (Value.Rock rock.now)) (state_of store.old steps)
+        (λ r s. option_map_or (λ e. gives e.1 s) (entry_of store.old.heap at r) (missing_key r s))) }
     ensures same { store.new ≡ store.old }
     ensures sound { IfOk result (λ v. IsSound store.new.heap v) }
+    ensures counters { KeepsCounters store.old store.new }
 {
     let Some(key) = key_of(rock)? else {
         return Err(Refusal::Key.end(alloc));

@@ -1,6 +1,7 @@
 //! The characters of a text, by place.
 
-ghost use Rattle.std.specs.Prelude.{◌≡◌, ◌<◌, ◌≤◌, ◌^◌, chars, encode_utf8_all, length, slice_get, string_bytes, IfOk, IfSome};
+ghost use Rattle.std.specs.Prelude.{◌≡◌, ◌<◌, ◌≤◌, ◌^◌, chars, encode_utf8_all, length, slice_get, string_bytes, IfOk};
+ghost use Rattle.std.specs.Prelude.{IfSome};
 ghost use Rattle.rp_items.specs.SliceView.{AreWithin, taken};
 
 use crate::spans::Places;

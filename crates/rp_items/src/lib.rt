@@ -1,5 +1,5 @@
 //! Items and slices: reading, storing and deleting, on values whose access decisions have been made.
-#![tactic(auto)]
+#![tactic(auto, using(rp_store::proofs::Shapes::goes_on))]
 
 mod item_writers;
 mod items;
@@ -12,5 +12,6 @@ mod spans;
 
 pub use item_writers::{del_item, set_item};
 pub use items::item;
+pub use missing::missing_key;
 pub use slices::slice;
 pub use spans::SliceParts;

@@ -1,6 +1,7 @@
 //! The end of an operation on a key that is missing.
 
 ghost use Rattle.std.specs.Prelude.{◌≡◌, IfOk};
+ghost use Rattle.rp_store.specs.Counters.{KeepsCounters};
 ghost use Rattle.rp_ops.specs.Outcome.{Raises};
 ghost use Rattle.rp_show.specs.Shown.{shown_inside};
 
@@ -12,9 +13,10 @@ use std::alloc::Global;
 /// The end of an operation on a key that a dict does not have; `Memory` where there is none for its text, or the store
 /// holds no more bytes of such texts.
 #[inline(never)]
-pub(crate) fn missing_key(alloc: Global, store: &mut Store, rock: &Rock) -> OpEnd
+pub fn missing_key(alloc: Global, store: &mut Store, rock: &Rock) -> OpEnd
     ensures raises { Raises result (record { kind = Kind.KeyError; text = shown_inside rock.now }) }
     ensures same { store.new ≡ store.old }
+    ensures counters { KeepsCounters store.old store.new }
 {
     match key_text(alloc, store, rock) {
         Ok(text) => OpEnd::Raised(Raised {

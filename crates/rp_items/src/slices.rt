@@ -2,15 +2,15 @@
 
 #![tactic(auto, using(rp_store::proofs::Shapes::goes_on))]
 
-ghost use Rattle.std.specs.Prelude.{◌≡◌, ◌≢◌, ◌+◌, ◌<◌, ◌≤◌, ◌^◌, ℕ, List, [], length, pos, IfErr, IfOk, OnErr, OnOk};
+ghost use Rattle.std.specs.Prelude.{◌≡◌, ◌≢◌, ◌+◌, ◌<◌, ◌≤◌, ◌^◌, ℕ, List, [], length, pos, IfOk, OnErr};
 ghost use Rattle.std.specs.Option.{option_map_or};
 ghost use Rattle.rp_base.specs.declared.value.Side.{Side};
+ghost use Rattle.rp_store.specs.Counters.{KeepsCounters};
 ghost use Rattle.rp_store.specs.Heap.{IsHeld, Owned, content_at};
 ghost use Rattle.rp_store.specs.Kept.{AreSound, Holds, IsSound};
 ghost use Rattle.rp_store.specs.Object.{content_of};
 ghost use Rattle.rp_store.specs.Parts.{IsScope};
 ghost use Rattle.rp_store.specs.Shape.{KeepsShape};
-ghost use Rattle.rp_store.specs.Store.{IsOver};
 ghost use Rattle.rp_ops.specs.Binary.{new_object, new_text};
 ghost use Rattle.rp_ops.specs.Outcome.{Meets, on_found, state_of};
 ghost use Rattle.rp_ops.specs.View.{held_by, sequence_of};
@@ -21,7 +21,7 @@ use crate::lending::lent;
 use crate::letters::{letters_at, run_of};
 use crate::spans::{Places, SliceParts, Span, places_of, span_named};
 use rp_base::{Memory, Oid, OpEnd, Rock, Text, Value};
-use rp_ops::{Refusal, Sequence, elements_at, new_object, new_text};
+use rp_ops::{Refusal, Sequence, check_room, elements_at, new_object, new_text};
 use rp_store::{Object, Store};
 use std::alloc::Global;
 
@@ -37,8 +37,8 @@ use std::alloc::Global;
 /// - `Raised` with `TypeError`, whose text is `item` where `a` is no text, list or tuple, or `index` where a part is
 ///   neither a number nor a truth value nor None, or with `ValueError` and the text `slice`, where the step is 0.
 /// - `StopCells` where the cells are over the limit; then the store is as before.
-/// - `Memory` where a growth was refused, or the count of a text's owners is full. Then cells may be used, and no object is
-///   made.
+/// - `Memory` where a growth was refused, or the count of a text's owners is full. Then cells may be used, no used cell is
+///   given back, the limit stays, and no object is made.
 pub fn slice(
     alloc: Global,
     store: &mut Store,
@@ -46,10 +46,12 @@ pub fn slice(
     parts: SliceParts<'_>,
 ) -> Result<Value, OpEnd>
     requires a { IsSound store.old.heap a.now }
-    ensures plain { (steps : ℕ) → Meets result (state_of store.new steps) (slice a.now parts.entry.from.now parts.entry.to.now parts.entry.step.now (state_of store.old steps)) }
+    ensures plain { (steps : ℕ) → Meets result (state_of store.new steps)
+        (slice a.now parts.entry.from.now parts.entry.to.now parts.entry.step.now (state_of store.old steps)) }
     ensures sound { IfOk result (λ v. IsSound store.new.heap v) }
     ensures same { OnErr result (store.new.heap ≡ store.old.heap) }
     ensures shape { KeepsShape store.old.heap store.new.heap }
+    ensures counters { KeepsCounters store.old store.new }
 {
     match a {
         Value::Rock(rock) => rock_slice(alloc, store, rock, parts),
@@ -67,9 +69,12 @@ fn rock_slice(
     rock: &Rock,
     parts: SliceParts<'_>,
 ) -> Result<Value, OpEnd>
-    ensures plain { (steps : ℕ) → Meets result (state_of store.new steps) (rock_slice rock.now (span_named parts.entry.from.now parts.entry.to.now parts.entry.step.now) (state_of store.old steps)) }
+    ensures plain { (steps : ℕ) → Meets result (state_of store.new steps)
+        (rock_slice rock.now (span_named parts.entry.from.now parts.entry.to.now parts.entry.step.now)
+        (state_of store.old steps)) }
     ensures same { store.new.heap ≡ store.old.heap }
     ensures sound { IfOk result (λ v. IsSound store.new.heap v) }
+    ensures counters { KeepsCounters store.old store.new }
 {
     match rock {
         Rock::Text(text) => text_slice(alloc, store, text, parts),
@@ -88,9 +93,12 @@ fn text_slice(
     text: &Text,
     parts: SliceParts<'_>,
 ) -> Result<Value, OpEnd>
-    ensures plain { (steps : ℕ) → Meets result (state_of store.new steps) (on_found (span_named parts.entry.from.now parts.entry.to.now parts.entry.step.now) (state_of store.old steps) (λ p s. new_text (sliced p text.now) s)) }
+    ensures plain { (steps : ℕ) → Meets result (state_of store.new steps)
+        (on_found (span_named parts.entry.from.now parts.entry.to.now parts.entry.step.now) (state_of store.old steps)
+        (λ p s. new_text (sliced p text.now) s)) }
     ensures same { store.new.heap ≡ store.old.heap }
     ensures sound { IfOk result (λ v. IsSound store.new.heap v) }
+    ensures counters { KeepsCounters store.old store.new }
 {
     match span_named(parts) {
         Ok(span) => sliced_text(alloc, store, text, span),
@@ -100,9 +108,11 @@ fn text_slice(
 
 fn sliced_text(alloc: Global, store: &mut Store, text: &Text, span: Span) -> Result<Value, OpEnd>
     requires { span.step ≢ pos 0 }
-    ensures plain { (steps : ℕ) → Meets result (state_of store.new steps) (new_text (sliced (span_seen span) text.now) (state_of store.old steps)) }
+    ensures plain { (steps : ℕ) → Meets result (state_of store.new steps)
+        (new_text (sliced (span_seen span) text.now) (state_of store.old steps)) }
     ensures same { store.new.heap ≡ store.old.heap }
     ensures sound { IfOk result (λ v. IsSound store.new.heap v) }
+    ensures counters { KeepsCounters store.old store.new }
 {
     let places = places_of(text.len(), span);
     if let Some(run) = run_of(text, places) {
@@ -113,21 +123,6 @@ fn sliced_text(alloc: Global, store: &mut Store, text: &Text, span: Span) -> Res
     new_text(alloc, store, taken.as_str())
 }
 
-/// Ends where so many cells are over the limit, before memory is taken for what they pay for.
-///
-/// # Errors
-/// `StopCells` exactly there.
-fn check_room(store: &Store, cells: u64) -> Result<(), OpEnd>
-    ensures within { OnOk result (store.now.used + cells ≤ store.now.limit) }
-    ensures over { OnErr result (IsOver store.now cells) }
-    ensures stopped { IfErr result (λ e. e ≡ OpEnd.StopCells) }
-{
-    if cells > store.limit() - store.used() {
-        return Err(OpEnd::StopCells);
-    }
-    Ok(())
-}
-
 fn object_slice(
     alloc: Global,
     store: &mut Store,
@@ -135,10 +130,13 @@ fn object_slice(
     parts: SliceParts<'_>,
 ) -> Result<Value, OpEnd>
     requires held { IsHeld store.old.heap at }
-    ensures plain { (steps : ℕ) → Meets result (state_of store.new steps) (object_slice at (span_named parts.entry.from.now parts.entry.to.now parts.entry.step.now) (state_of store.old steps)) }
+    ensures plain { (steps : ℕ) → Meets result (state_of store.new steps)
+        (object_slice at (span_named parts.entry.from.now parts.entry.to.now parts.entry.step.now)
+        (state_of store.old steps)) }
     ensures sound { IfOk result (λ v. IsSound store.new.heap v) }
     ensures same { OnErr result (store.new ≡ store.old) }
     ensures shape { KeepsShape store.old.heap store.new.heap }
+    ensures counters { KeepsCounters store.old store.new }
 {
     match store.object(at) {
         Object::List(_) => sequence_slice(alloc, store, Sequence::List, at, parts),
@@ -160,10 +158,14 @@ fn sequence_slice(
     parts: SliceParts<'_>,
 ) -> Result<Value, OpEnd>
     requires held { IsHeld store.old.heap at }
-    ensures plain { (steps : ℕ) → Meets result (state_of store.new steps) (on_found (span_named parts.entry.from.now parts.entry.to.now parts.entry.step.now) (state_of store.old steps) (λ p s. new_object (owner_of at (state_of store.old steps)) (sequence_of kind (sliced p (option_map_or held_by (content_at store.old.heap at) []))) s)) }
+    ensures plain { (steps : ℕ) → Meets result (state_of store.new steps)
+        (on_found (span_named parts.entry.from.now parts.entry.to.now parts.entry.step.now) (state_of store.old steps)
+        (λ p s. new_object (owner_of at (state_of store.old steps))
+        (sequence_of kind (sliced p (option_map_or held_by (content_at store.old.heap at) []))) s)) }
     ensures sound { IfOk result (λ v. IsSound store.new.heap v) }
     ensures same { OnErr result (store.new ≡ store.old) }
     ensures shape { KeepsShape store.old.heap store.new.heap }
+    ensures counters { KeepsCounters store.old store.new }
 {
     match span_named(parts) {
         Ok(span) => sliced_sequence(alloc, store, kind, at, span),
@@ -180,10 +182,14 @@ fn sliced_sequence(
 ) -> Result<Value, OpEnd>
     requires held { IsHeld store.old.heap at }
     requires step { span.step ≢ pos 0 }
-    ensures plain { (steps : ℕ) → Meets result (state_of store.new steps) (new_object (owner_of at (state_of store.old steps)) (sequence_of kind (sliced (span_seen span) (option_map_or held_by (content_at store.old.heap at) []))) (state_of store.old steps)) }
+    ensures plain { (steps : ℕ) → Meets result (state_of store.new steps)
+        (new_object (owner_of at (state_of store.old steps))
+        (sequence_of kind (sliced (span_seen span) (option_map_or held_by (content_at store.old.heap at) [])))
+        (state_of store.old steps)) }
     ensures sound { IfOk result (λ v. IsSound store.new.heap v) }
     ensures same { OnErr result (store.new ≡ store.old) }
     ensures shape { KeepsShape store.old.heap store.new.heap }
+    ensures counters { KeepsCounters store.old store.new }
 {
     let places = places_of(elements_at(store, at).len(), span);
     check_room(store, 1 + places.count as u64)?;
@@ -208,7 +214,8 @@ fn taken_values(alloc: Global, values: &[Value], places: Places) -> Result<Vec<V
 /// A list or a tuple of these elements.
 fn sequence(kind: Sequence, elements: Vec<Value>) -> Object
     ensures content { content_of result ≡ sequence_of kind elements.items }
-    ensures holds { (heap : List Owned) (owner : Side) → AreSound heap elements.items → Holds heap owner (content_of result) }
+    ensures holds { (heap : List Owned) (owner : Side) → AreSound heap elements.items
+        → Holds heap owner (content_of result) }
     ensures value { ¬ IsScope (content_of result) }
 {
     match kind {

@@ -1,6 +1,7 @@
 //! Why declarations are not run, and the line that tells it.
 
-ghost use Rattle.std.specs.Prelude.{◌≡◌, ◌++◌, IfOk, IfSome, IsTrue, Some, chars, map, nat_lt, option_map, string_bytes};
+ghost use Rattle.std.specs.Prelude.{◌≡◌, ◌++◌, IfOk, IfSome, IsTrue, Some, chars, map, nat_lt, option_map};
+ghost use Rattle.std.specs.Prelude.{string_bytes};
 ghost use Rattle.std.specs.List.{list_all, list_any};
 ghost use Rattle.rp_decl.specs.Consistency.{unknown};
 ghost use Rattle.rp_decl.specs.Faults.{line_of};
@@ -71,7 +72,9 @@ fn line(alloc: Global, words: &str, which: &str) -> Result<String, Memory>
 /// The least exposed name in byte order that is that of no declared class or object.
 fn least_unbound(decl: &Decl, names: &Names) -> Option<Name>
     requires held { IsHeldBy names.now decl.now }
-    ensures least { option_map (name_text names.now) result ≡ least (unknown (global_names (declarations_view names.now decl.now)) (map (name_text names.now) decl.now.expose)) }
+    ensures least { option_map (name_text names.now) result
+        ≡ least (unknown (global_names (declarations_view names.now decl.now))
+        (map (name_text names.now) decl.now.expose)) }
     ensures held { IfSome result (IsHeld names.now) }
 {
     let mut least = None;
@@ -87,7 +90,8 @@ fn least_unbound(decl: &Decl, names: &Names) -> Option<Name>
 fn lesser(names: &Names, least: Option<Name>, name: Name) -> Name
     requires least_held { IfSome least (IsHeld names.now) }
     requires name_held { IsHeld names.now name }
-    ensures lesser { Some (name_text names.now result) ≡ lesser_of (option_map (name_text names.now) least) (Some (name_text names.now name)) }
+    ensures lesser { Some (name_text names.now result)
+        ≡ lesser_of (option_map (name_text names.now) least) (Some (name_text names.now name)) }
     ensures held { IsHeld names.now result }
 {
     let Some(least) = least else {

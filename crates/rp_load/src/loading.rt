@@ -67,7 +67,8 @@ fn place_classes(
     classes: &[ClassDecl],
     store: &mut Store,
 ) -> Result<(), Memory>
-    ensures placed { OnOk result (store.new ≡ record store.old { heap = store.old.heap ++ map class_owned classes.now }) }
+    ensures placed { OnOk result (store.new
+        ≡ record store.old { heap = store.old.heap ++ map class_owned classes.now }) }
 {
     for class in classes {
         let class = Object::Class {
@@ -90,7 +91,8 @@ fn place_objects(
 ) -> Result<(), Memory>
     requires apart { All (λ o. IsDistinct same_name (keys_of o.fields.items)) objects.now }
     requires classes { AreClassed store.old.heap classes.now objects.now }
-    ensures placed { OnOk result (store.new ≡ record store.old { heap = store.old.heap ++ map (object_owned classes.now) objects.now }) }
+    ensures placed { OnOk result (store.new
+        ≡ record store.old { heap = store.old.heap ++ map (object_owned classes.now) objects.now }) }
 {
     for object in objects {
         let instance = Object::Instance {

@@ -22,9 +22,13 @@ use std::alloc::Global;
 pub(crate) fn exposed(alloc: Global, world: &World) -> Result<Dict<Name, Value>, Memory>
     requires loaded { IsLoaded world.now }
     requires script { 0 < world.now.running.session }
-    ensures exposed { IfOk result (λ vs. variables_view world.now.names vs ≡ fold (expose (declarations_view world.now.names world.now.decl) world.now.running.session) [] (map (name_text world.now.names) world.now.decl.expose)) }
+    ensures exposed { IfOk result (λ vs. variables_view world.now.names vs
+        ≡ fold (expose (declarations_view world.now.names world.now.decl) world.now.running.session) []
+        (map (name_text world.now.names) world.now.decl.expose)) }
     ensures held { IfOk result (λ vs. All (λ v. IsHeld world.now.names v.0) vs) }
-    ensures safe { IfOk result (λ vs. AreSafe (heap_view world.now.names world.now.store.heap) world.now.running.session (variables_view world.now.names vs)) }
+    ensures safe { IfOk result (λ vs. AreSafe
+        (heap_view world.now.names world.now.store.heap) world.now.running.session
+        (variables_view world.now.names vs)) }
 {
     let mut variables = Dict::new(alloc, world.names.seed());
     for name in world.decl.expose() {
@@ -39,10 +43,14 @@ fn expose(variables: &mut Dict<Name, Value>, world: &World, name: Name) -> Resul
     requires script { 0 < world.now.running.session }
     requires name { IsHeld world.now.names name }
     requires held { All (λ v. IsHeld world.now.names v.0) variables.old }
-    requires safe { AreSafe (heap_view world.now.names world.now.store.heap) world.now.running.session (variables_view world.now.names variables.old) }
-    ensures bound { OnOk result (variables_view world.now.names variables.new ≡ expose (declarations_view world.now.names world.now.decl) world.now.running.session (variables_view world.now.names variables.old) (name_text world.now.names name)) }
+    requires safe { AreSafe (heap_view world.now.names world.now.store.heap) world.now.running.session
+        (variables_view world.now.names variables.old) }
+    ensures bound { OnOk result (variables_view world.now.names variables.new
+        ≡ expose (declarations_view world.now.names world.now.decl) world.now.running.session
+        (variables_view world.now.names variables.old) (name_text world.now.names name)) }
     ensures held { OnOk result (All (λ v. IsHeld world.now.names v.0) variables.new) }
-    ensures safe { OnOk result (AreSafe (heap_view world.now.names world.now.store.heap) world.now.running.session (variables_view world.now.names variables.new)) }
+    ensures safe { OnOk result (AreSafe (heap_view world.now.names world.now.store.heap) world.now.running.session
+        (variables_view world.now.names variables.new)) }
 {
     if let Some(at) = global_place(&world.decl, name) {
         let object = take(&world.store, Value::Ref(at), Side(world.running.session));
@@ -53,7 +61,8 @@ fn expose(variables: &mut Dict<Name, Value>, world: &World, name: Name) -> Resul
 
 /// The place of the declared class or object with a name.
 fn global_place(decl: &Decl, name: Name) -> Option<Oid>
-    ensures { option_map (λ (at : Oid). at.0) result ≡ position (same_name name) (map (λ c. c.name) decl.now.classes ++ map (λ o. o.name) decl.now.objects) }
+    ensures { option_map (λ (at : Oid). at.0) result
+        ≡ position (same_name name) (map (λ c. c.name) decl.now.classes ++ map (λ o. o.name) decl.now.objects) }
 {
     let classes = decl.classes();
     if let Some(place) = class_place(classes, name) {

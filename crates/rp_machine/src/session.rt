@@ -9,7 +9,8 @@ ghost use Rattle.rp_decl.specs.Places.{IsHeld};
 ghost use Rattle.rp_decl.specs.View.{declarations_view, name_text};
 ghost use Rattle.rp_proxy.specs.Held.{IsValueHeld};
 ghost use Rattle.rp_trail.specs.View.{trail_view};
-ghost use Rattle.rp_machine.specs.Meaning.{attribute_of, decide, eval, exec, field_at, first_state, on_value, print_value, read_name, run_script};
+ghost use Rattle.rp_machine.specs.Meaning.{attribute_of, decide, eval, exec, field_at, first_state, on_value};
+ghost use Rattle.rp_machine.specs.Meaning.{print_value, read_name, run_script};
 ghost use Rattle.rp_machine.specs.Store.{AreSafe, IsPlaced, IsSafe};
 ghost use Rattle.rp_machine.specs.World.{Ends, IsBegun, SameSetting};
 
@@ -77,7 +78,8 @@ impl Session {
     fn cross(&mut self, value: Value, name: Name) -> Result<Value, OpEnd>
         requires placed { IsPlaced self.old.state.heap value }
         requires held { IsHeld self.old.names name }
-        ensures meaning { Ends result (decide self.old.declarations value (name_text self.old.names name) self.old.state) self.new.state }
+        ensures meaning { Ends result (decide self.old.declarations value
+            (name_text self.old.names name) self.old.state) self.new.state }
         ensures same { IfOk result (λ v. v ≡ value) }
         ensures setting { SameSetting self.old self.new }
     {
@@ -92,7 +94,9 @@ impl Session {
     fn attribute(&mut self, value: Value, name: Name) -> Result<Value, OpEnd>
         requires placed { IsPlaced self.old.state.heap value }
         requires held { IsHeld self.old.names name }
-        ensures meaning { Ends result (on_value (decide self.old.declarations value (name_text self.old.names name) self.old.state) (λ v s. attribute_of v (name_text self.old.names name) s)) self.new.state }
+        ensures meaning { Ends result (on_value
+            (decide self.old.declarations value (name_text self.old.names name) self.old.state)
+            (λ v s. attribute_of v (name_text self.old.names name) s)) self.new.state }
         ensures safe { IfOk result (IsSafe self.new.state.heap self.new.state.session) }
         ensures setting { SameSetting self.old self.new }
     {
@@ -104,7 +108,8 @@ impl Session {
     fn read_attribute(&self, value: &Value, name: Name) -> Result<Value, OpEnd>
         requires placed { IsPlaced self.now.state.heap value.now }
         requires held { IsHeld self.now.names name }
-        ensures meaning { Ends result (attribute_of value.now (name_text self.now.names name) self.now.state) self.now.state }
+        ensures meaning { Ends result (attribute_of value.now
+            (name_text self.now.names name) self.now.state) self.now.state }
         ensures safe { IfOk result (IsSafe self.now.state.heap self.now.state.session) }
     {
         match value {
@@ -141,7 +146,8 @@ impl Session {
     /// The exception of the kind with a name as its text.
     fn raised(&self, kind: Kind, name: Name) -> Result<OpEnd, Memory>
         requires held { IsHeld self.now.names name }
-        ensures { IfOk result (λ end. end ≡ OpEnd.Raised (record { kind = kind; text = name_text self.now.names name })) }
+        ensures { IfOk result (λ end. end
+            ≡ OpEnd.Raised (record { kind = kind; text = name_text self.now.names name })) }
     {
         Ok(OpEnd::Raised(Raised {
             kind,
@@ -153,7 +159,8 @@ impl Session {
     fn eval(&mut self, expression: Expr) -> Result<Value, OpEnd>
         requires guarded { is_guarded_expression expression ≡ true }
         requires held { IsExpressionHeld self.old.names expression }
-        ensures meaning { Ends result (eval self.old.declarations (expression_view self.old.names expression) self.old.state) self.new.state }
+        ensures meaning { Ends result (eval self.old.declarations
+            (expression_view self.old.names expression) self.old.state) self.new.state }
         ensures safe { IfOk result (IsSafe self.new.state.heap self.new.state.session) }
         ensures setting { SameSetting self.old self.new }
     {
@@ -182,7 +189,8 @@ impl Session {
     pub fn statement(&mut self, statement: &Stmt) -> Result<Value, OpEnd>
         requires guarded { is_guarded statement.now ≡ true }
         requires held { IsStatementHeld self.old.names statement.now }
-        ensures meaning { Ends result (exec self.old.declarations (statement_view self.old.names statement.now) self.old.state) self.new.state }
+        ensures meaning { Ends result (exec self.old.declarations
+            (statement_view self.old.names statement.now) self.old.state) self.new.state }
         ensures setting { SameSetting self.old self.new }
         ensures safe { AreSafe self.new.state.heap self.new.state.session self.new.state.variables }
     {
@@ -195,7 +203,8 @@ impl Session {
     fn run(&mut self, statement: &Stmt) -> Result<Value, OpEnd>
         requires guarded { is_guarded statement.now ≡ true }
         requires held { IsStatementHeld self.old.names statement.now }
-        ensures meaning { Ends result (exec self.old.declarations (statement_view self.old.names statement.now) self.old.state) self.new.state }
+        ensures meaning { Ends result (exec self.old.declarations
+            (statement_view self.old.names statement.now) self.old.state) self.new.state }
         ensures setting { SameSetting self.old self.new }
     {
         match statement {
@@ -207,7 +216,8 @@ impl Session {
     fn assign(&mut self, name: Name, expression: Expr) -> Result<Value, OpEnd>
         requires guarded { is_guarded_expression expression ≡ true }
         requires held { IsStatementHeld self.old.names (Stmt.Assign name expression) }
-        ensures meaning { Ends result (exec self.old.declarations (statement_view self.old.names (Stmt.Assign name expression)) self.old.state) self.new.state }
+        ensures meaning { Ends result (exec self.old.declarations
+            (statement_view self.old.names (Stmt.Assign name expression)) self.old.state) self.new.state }
         ensures setting { SameSetting self.old self.new }
     {
         let value = self.eval(expression)?;
@@ -218,7 +228,8 @@ impl Session {
     fn print(&mut self, expression: Expr) -> Result<Value, OpEnd>
         requires guarded { is_guarded_expression expression ≡ true }
         requires held { IsStatementHeld self.old.names (Stmt.Print expression) }
-        ensures meaning { Ends result (exec self.old.declarations (statement_view self.old.names (Stmt.Print expression)) self.old.state) self.new.state }
+        ensures meaning { Ends result (exec self.old.declarations
+            (statement_view self.old.names (Stmt.Print expression)) self.old.state) self.new.state }
         ensures setting { SameSetting self.old self.new }
     {
         // The names begin with the words of operations.
@@ -252,7 +263,8 @@ impl Session {
     /// growth was refused.
     pub fn finish(&mut self, script: &Compiled) -> Result<Value, OpEnd>
         requires held { All (IsStatementHeld self.old.names) script.now }
-        ensures meaning { Ends result (run_script self.old.declarations (map (statement_view self.old.names) script.now) self.old.state) self.new.state }
+        ensures meaning { Ends result (run_script self.old.declarations
+            (map (statement_view self.old.names) script.now) self.old.state) self.new.state }
         ensures setting { SameSetting self.old self.new }
         ensures safe { AreSafe self.new.state.heap self.new.state.session self.new.state.variables }
     {

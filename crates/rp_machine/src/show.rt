@@ -21,7 +21,8 @@ use std::alloc::Global;
 pub(crate) fn line_of(alloc: Global, world: &World, value: &Value) -> Result<Printed, Memory>
     requires loaded { IsLoaded world.now }
     requires held { IsValueHeld world.now.store.heap value.now }
-    ensures { IfOk result (λ line. line ≡ shown (heap_view world.now.names world.now.store.heap) value.now ++ codes "\n") }
+    ensures { IfOk result (λ line. line ≡ shown (heap_view world.now.names world.now.store.heap) value.now
+        ++ codes "\n") }
 {
     let mut line = Printed::new(alloc);
     add_value(alloc, &mut line, world, value)?;

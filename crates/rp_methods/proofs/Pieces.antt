@@ -1,10 +1,10 @@
 -- Pieces of texts, cut at one place after another.
-use Rattle.std.proofs.Common.{◌≡◌, ℕ, zero, suc, pred, ◌+◌, ◌-◌, ◌<◌, ◌≤◌, Bool, true, false, List, [], ◌∷◌, ◌++◌, append_assoc, append-nil, chars, encode_utf8_all, length, take, drop, Option, Some, None, option_map, if◌then◌else◌, refl, sym, ap, subst, ◌∙◌, arith}
+use Rattle.std.proofs.Common.{◌≡◌, ℕ, zero, suc, pred, ◌+◌, ◌-◌, ◌<◌, Bool, true, false, List, [], ◌∷◌, ◌++◌, append_assoc, append-nil, chars, encode_utf8_all, length, take, drop, Option, Some, None, option_map, if◌then◌else◌, refl, sym, ap, ◌∙◌, arith}
 use Rattle.std.specs.Str.{IsUtf8}
 use Rattle.std.specs.Str.Pattern.{FindsText, MatchBeginsAt}
 use Rattle.std.proofs.Math.Seq.{drop-append_seam}
 use Rattle.std.proofs.lemmas.List.{take-append-drop}
-use Rattle.std.proofs.lemmas.Str.{IsUtf8-drop, IsUtf8-take, chars-append, encodes-append, encodes-chars, length-le-encodes}
+use Rattle.std.proofs.lemmas.Str.{IsUtf8-take, chars-append, encodes-append, encodes-chars, length-le-encodes}
 use Rattle.rp_compare.specs.Membership.{begins}
 use Rattle.rp_methods.specs.Texts.{joined, pieces, pieces_after, place_in, preceded, with_first}
 use Rattle.rp_methods.proofs.Cuts.{begins-front, place-found, place-missing}

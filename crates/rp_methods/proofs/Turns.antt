@@ -15,7 +15,7 @@ use Rattle.rp_base.specs.declared.value.Side.{Side}
 use Rattle.rp_store.specs.Object as object
 use Rattle.rp_store.specs.Store.{Cells, IsOver}
 use Rattle.rp_ops.specs.Binary.{new_text}
-use Rattle.rp_ops.specs.Outcome.{Meets, Outcome, State, ends, gives, no_cell, state_of, with_used}
+use Rattle.rp_ops.specs.Outcome.{Meets, Outcome, State, ends, gives, no_cell, state_of}
 use Rattle.rp_ops.proofs.CallerLemmas.{charged-over, charged-within, used}
 use Rattle.rp_methods.specs.Dicts.{next_object, with_added}
 use Rattle.rp_methods.specs.Texts.{joined, letters_of, preceded, text_in, text_value, texts_listed}

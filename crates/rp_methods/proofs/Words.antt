@@ -1,5 +1,5 @@
 -- The words of a text, taken off its front one after another.
-use Rattle.std.proofs.Common.{◌≡◌, ℕ, zero, suc, ◌<◌, Bool, true, false, not, ◌&&◌, List, [], ◌∷◌, ◌++◌, append_assoc, append-nil, chars, encode_utf8, encode_utf8_all, length, length-append, if◌then◌else◌, refl, sym, ap, subst, ◌∙◌, arith}
+use Rattle.std.proofs.Common.{◌≡◌, ℕ, ◌<◌, Bool, true, false, not, List, [], ◌∷◌, ◌++◌, append_assoc, append-nil, chars, encode_utf8, encode_utf8_all, length, length-append, refl, sym, ap, ◌∙◌, arith}
 use lib.Utf8.{scalar, scalars}
 use Rattle.std.specs.Char.{is_not_whitespace, is_whitespace}
 use Rattle.std.specs.List.{filter}

@@ -1,6 +1,6 @@
 -- The methods of texts (Python Standard Library, Text Sequence Type). Other way: a text is the list of its characters, a part of it is sought at one place
 -- after another, and pieces are lists. The code searches and cuts bytes by the searches of std, and builds strings.
-use Rattle.std.specs.Prelude.{ℕ, zero, suc, ◌+◌, ◌-◌, nat_le, negsuc, Bool, true, false, ◌&&◌, List, [], ◌∷◌, ◌++◌, length, map, reverse, encode_utf8_all, Option, Some, None, is_some, option_map, if◌then◌else◌}
+use Rattle.std.specs.Prelude.{ℕ, zero, suc, ◌+◌, ◌-◌, nat_le, negsuc, Bool, ◌&&◌, List, [], ◌∷◌, ◌++◌, length, map, reverse, encode_utf8_all, Option, Some, None, is_some, option_map, if◌then◌else◌}
 use Rattle.std.specs.Char.{is_whitespace}
 use Rattle.std.specs.List.{concat, filter, list_all}
 use Rattle.std.specs.Option.{option_map_or}

@@ -3,7 +3,8 @@ ghost use Rattle.std.specs.Prelude.{◌≡◌};
 ghost use Rattle.std.specs.Option.{option_map_or};
 ghost use Rattle.rp_store.specs.Heap.{IsHeld, content_at};
 ghost use Rattle.rp_store.specs.Kept.{IsSound};
-ghost use Rattle.rp_methods.specs.Counts.{between, content_receiver, counts_of, dict_counts, just, list_counts, method_takes, receiver_of, rock_receiver, takes, text_counts, tuple_counts};
+ghost use Rattle.rp_methods.specs.Counts.{between, content_receiver, counts_of, dict_counts, just, list_counts};
+ghost use Rattle.rp_methods.specs.Counts.{method_takes, receiver_of, rock_receiver, takes, text_counts, tuple_counts};
 
 use rp_base::{NativeId, Oid, Rock, Value};
 use rp_store::{Object, Store};

@@ -3,6 +3,7 @@
 
 ghost use Rattle.std.specs.Prelude.{◌≡◌, ℕ, List, slice_get, IfOk, IfSome, OnErr};
 ghost use Rattle.std.specs.Option.{option_copied, option_map_or};
+ghost use Rattle.rp_store.specs.Counters.{KeepsCounters};
 ghost use Rattle.rp_store.specs.Heap.{IsHeld, Names, Owned};
 ghost use Rattle.rp_store.specs.Kept.{AreSound, IsSound};
 ghost use Rattle.rp_store.specs.Parts.{IsDict};
@@ -14,9 +15,8 @@ ghost use Rattle.rp_items.specs.Items.{set_item};
 ghost use Rattle.rp_methods.specs.Dicts.{dict_pop, get, get_or, missed, pop_or, set_default, setdefault};
 
 use crate::fault::Fault;
-use crate::missing::missing_key;
 use rp_base::{Oid, OpEnd, Rock, Value};
-use rp_items::set_item;
+use rp_items::{missing_key, set_item};
 use rp_ops::Refusal;
 use rp_store::{Key, Store, key_of};
 use std::alloc::Global;
@@ -64,7 +64,8 @@ fn default_in<'a>(args: &'a [Value], other: &'a Value) -> &'a Value
 fn get_or(alloc: Global, store: &Store, at: Oid, k: &Value, default: &Value) -> Result<Value, OpEnd>
     requires held { IsHeld store.now.heap at }
     requires default { IsSound store.now.heap default.now }
-    ensures plain { (steps : ℕ) → Meets result (state_of store.now steps) (get_or at k.now default.now (state_of store.now steps)) }
+    ensures plain { (steps : ℕ) → Meets result (state_of store.now steps)
+        (get_or at k.now default.now (state_of store.now steps)) }
     ensures sound { IfOk result (λ v. IsSound store.now.heap v) }
 {
     match k {
@@ -82,7 +83,8 @@ fn get_entry(
 ) -> Result<Value, OpEnd>
     requires held { IsHeld store.now.heap at }
     requires default { IsSound store.now.heap default.now }
-    ensures plain { (steps : ℕ) → Meets result (state_of store.now steps) (get_or at (Value.Rock rock.now) default.now (state_of store.now steps)) }
+    ensures plain { (steps : ℕ) → Meets result (state_of store.now steps)
+        (get_or at (Value.Rock rock.now) default.now (state_of store.now steps)) }
     ensures sound { IfOk result (λ v. IsSound store.now.heap v) }
 {
     let Some(key) = key_of(rock)? else {
@@ -105,10 +107,12 @@ pub(crate) fn setdefault(
     requires held { IsHeld store.old.heap at }
     requires dict { Names store.old.heap IsDict at }
     requires args { AreSound store.old.heap args.now }
-    ensures plain { (steps : ℕ) → Meets result (state_of store.new steps) (setdefault at args.now (state_of store.old steps)) }
+    ensures plain { (steps : ℕ) → Meets result (state_of store.new steps)
+        (setdefault at args.now (state_of store.old steps)) }
     ensures sound { IfOk result (λ v. IsSound store.new.heap v) }
     ensures shape { KeepsShape store.old.heap store.new.heap }
     ensures same { OnErr result (store.new ≡ store.old) }
+    ensures counters { KeepsCounters store.old store.new }
 {
     let Some(k) = args.first() else {
         return Err(Fault::Arguments.end(alloc));
@@ -127,10 +131,12 @@ fn set_default(
     requires held { IsHeld store.old.heap at }
     requires dict { Names store.old.heap IsDict at }
     requires default { IsSound store.old.heap default.now }
-    ensures plain { (steps : ℕ) → Meets result (state_of store.new steps) (set_default at k.now default.now (state_of store.old steps)) }
+    ensures plain { (steps : ℕ) → Meets result (state_of store.new steps)
+        (set_default at k.now default.now (state_of store.old steps)) }
     ensures sound { IfOk result (λ v. IsSound store.new.heap v) }
     ensures shape { KeepsShape store.old.heap store.new.heap }
     ensures same { OnErr result (store.new ≡ store.old) }
+    ensures counters { KeepsCounters store.old store.new }
 {
     match k {
         Value::Rock(rock) => set_missing(alloc, store, at, rock, default),
@@ -148,10 +154,12 @@ fn set_missing(
     requires held { IsHeld store.old.heap at }
     requires dict { Names store.old.heap IsDict at }
     requires default { IsSound store.old.heap default.now }
-    ensures plain { (steps : ℕ) → Meets result (state_of store.new steps) (set_default at (Value.Rock rock.now) default.now (state_of store.old steps)) }
+    ensures plain { (steps : ℕ) → Meets result (state_of store.new steps)
+        (set_default at (Value.Rock rock.now) default.now (state_of store.old steps)) }
     ensures sound { IfOk result (λ v. IsSound store.new.heap v) }
     ensures shape { KeepsShape store.old.heap store.new.heap }
     ensures same { OnErr result (store.new ≡ store.old) }
+    ensures counters { KeepsCounters store.old store.new }
 {
     let Some(key) = key_of(rock)? else {
         return Err(Refusal::Key.end(alloc));
@@ -172,10 +180,13 @@ fn set_new(
 ) -> Result<Value, OpEnd>
     requires dict { Names store.old.heap IsDict at }
     requires value { IsSound store.old.heap value.now }
-    ensures plain { (steps : ℕ) → Meets result (state_of store.new steps) (on_value (set_item (Value.Ref at) (Value.Rock rock.now) value.now (state_of store.old steps)) (λ _ s. gives value.now s)) }
+    ensures plain { (steps : ℕ) → Meets result (state_of store.new steps)
+        (on_value (set_item (Value.Ref at) (Value.Rock rock.now) value.now (state_of store.old steps))
+        (λ _ s. gives value.now s)) }
     ensures sound { IfOk result (λ v. IsSound store.new.heap v) }
     ensures shape { KeepsShape store.old.heap store.new.heap }
     ensures same { OnErr result (store.new ≡ store.old) }
+    ensures counters { KeepsCounters store.old store.new }
 {
     let answer = value.copy()?;
     put(alloc, store, at, rock, value)?;
@@ -187,10 +198,12 @@ pub(crate) fn pop(alloc: Global, store: &mut Store, at: Oid, args: &[Value]) -> 
     requires held { IsHeld store.old.heap at }
     requires dict { Names store.old.heap IsDict at }
     requires args { AreSound store.old.heap args.now }
-    ensures plain { (steps : ℕ) → Meets result (state_of store.new steps) (dict_pop at args.now (state_of store.old steps)) }
+    ensures plain { (steps : ℕ) → Meets result (state_of store.new steps)
+        (dict_pop at args.now (state_of store.old steps)) }
     ensures sound { IfOk result (λ v. IsSound store.new.heap v) }
     ensures shape { KeepsShape store.old.heap store.new.heap }
     ensures same { OnErr result (store.new ≡ store.old) }
+    ensures counters { KeepsCounters store.old store.new }
 {
     let Some(k) = args.first() else {
         return Err(Fault::Arguments.end(alloc));
@@ -208,10 +221,12 @@ fn pop_or(
     requires held { IsHeld store.old.heap at }
     requires dict { Names store.old.heap IsDict at }
     requires default { IfSome (option_copied default) (λ v. IsSound store.old.heap v) }
-    ensures plain { (steps : ℕ) → Meets result (state_of store.new steps) (pop_or at k.now (option_copied default.entry) (state_of store.old steps)) }
+    ensures plain { (steps : ℕ) → Meets result (state_of store.new steps)
+        (pop_or at k.now (option_copied default.entry) (state_of store.old steps)) }
     ensures sound { IfOk result (λ v. IsSound store.new.heap v) }
     ensures shape { KeepsShape store.old.heap store.new.heap }
     ensures same { OnErr result (store.new ≡ store.old) }
+    ensures counters { KeepsCounters store.old store.new }
 {
     match k {
         Value::Rock(rock) => pop_entry(alloc, store, at, rock, default),
@@ -229,10 +244,12 @@ fn pop_entry(
     requires held { IsHeld store.old.heap at }
     requires dict { Names store.old.heap IsDict at }
     requires default { IfSome (option_copied default) (λ v. IsSound store.old.heap v) }
-    ensures plain { (steps : ℕ) → Meets result (state_of store.new steps) (pop_or at (Value.Rock rock.now) (option_copied default.entry) (state_of store.old steps)) }
+    ensures plain { (steps : ℕ) → Meets result (state_of store.new steps)
+        (pop_or at (Value.Rock rock.now) (option_copied default.entry) (state_of store.old steps)) }
     ensures sound { IfOk result (λ v. IsSound store.new.heap v) }
     ensures shape { KeepsShape store.old.heap store.new.heap }
     ensures same { OnErr result (store.new ≡ store.old) }
+    ensures counters { KeepsCounters store.old store.new }
 {
     let Some(key) = key_of(rock)? else {
         return Err(Refusal::Key.end(alloc));
@@ -253,9 +270,11 @@ fn missed(
     default: Option<&Value>,
 ) -> Result<Value, OpEnd>
     requires default { IfSome (option_copied default) (λ v. IsSound store.old.heap v) }
-    ensures plain { (steps : ℕ) → Meets result (state_of store.new steps) (missed (option_copied default.entry) rock.now (state_of store.old steps)) }
+    ensures plain { (steps : ℕ) → Meets result (state_of store.new steps)
+        (missed (option_copied default.entry) rock.now (state_of store.old steps)) }
     ensures sound { IfOk result (λ v. IsSound store.new.heap v) }
     ensures same { store.new ≡ store.old }
+    ensures counters { KeepsCounters store.old store.new }
 {
     match default {
         Some(value) => Ok(value.copy()?),
@@ -269,6 +288,7 @@ fn drop_key(store: &mut Store, at: Oid, key: &Key)
     requires dict { Names store.old.heap IsDict at }
     ensures dropped { store.new ≡ written store.old at (without_entry key.now) }
     ensures shape { KeepsShape store.old.heap store.new.heap }
+    ensures counters { KeepsCounters store.old store.new }
 {
     let _removed = store.drop_key(at, key);
 }
@@ -283,9 +303,11 @@ pub(crate) fn put(
 ) -> Result<(), OpEnd>
     requires dict { Names store.old.heap IsDict at }
     requires value { IsSound store.old.heap value.now }
-    ensures plain { (steps : ℕ) → Meets result (state_of store.new steps) (set_item (Value.Ref at) (Value.Rock rock.now) value.now (state_of store.old steps)) }
+    ensures plain { (steps : ℕ) → Meets result (state_of store.new steps)
+        (set_item (Value.Ref at) (Value.Rock rock.now) value.now (state_of store.old steps)) }
     ensures shape { KeepsShape store.old.heap store.new.heap }
     ensures same { OnErr result (store.new ≡ store.old) }
+    ensures counters { KeepsCounters store.old store.new }
 {
     let value = value.copy()?;
     let key = rock.copy()?;

@@ -1,25 +1,27 @@
 //! The entries of dicts as tuples, and as what other dicts take.
 #![tactic(auto, using(rp_store::proofs::Shapes::goes_on))]
 
-ghost use Rattle.std.specs.Prelude.{◌≡◌, ◌+◌, ◌*◌, ◌^◌, ◌<◌, ◌≤◌, ◌++◌, ℕ, List, None, Some, is_some, if◌then◌else◌, [], ◌∷◌, length, map, IfErr, IfOk, IfSome, MatchOption, OnErr, OnOk};
+ghost use Rattle.std.specs.Prelude.{◌≡◌, ◌+◌, ◌*◌, ◌^◌, ◌<◌, ◌≤◌, ◌++◌, ℕ, List, None, Some, is_some, if◌then◌else◌};
+ghost use Rattle.std.specs.Prelude.{[], ◌∷◌, length, IfOk, IfSome, MatchOption, OnOk};
 ghost use Rattle.std.specs.List.{All};
+ghost use Rattle.rp_store.specs.Counters.{KeepsCounters};
 ghost use Rattle.rp_store.specs.Heap.{IsHeld, Names, entry_of};
 ghost use Rattle.rp_store.specs.Kept.{AreSound, IsSound};
 ghost use Rattle.rp_store.specs.Object as object;
 ghost use Rattle.rp_store.specs.Parts.{IsDict};
 ghost use Rattle.rp_store.specs.Shape.{KeepsShape};
-ghost use Rattle.rp_store.specs.Store.{IsOver, added};
+ghost use Rattle.rp_store.specs.Store.{added};
 ghost use Rattle.rp_ops.specs.Outcome.{Meets, charged, gives, state_of};
 ghost use Rattle.rp_ops.specs.View.{handed};
-ghost use Rattle.rp_items.specs.Items.{set_item};
-ghost use Rattle.rp_methods.specs.Dicts.{items, new_keys, pairs, pairs_given, pairs_in, put_all, roomed, tuples_listed, update};
+ghost use Rattle.rp_methods.specs.Dicts.{items, new_keys, pairs, pairs_given, pairs_in, put_all, roomed, tuples_listed};
+ghost use Rattle.rp_methods.specs.Dicts.{update};
 
 use crate::dict_keys::put;
 use crate::fault::Fault;
 use crate::held::dict_at;
 use rp_base::{Memory, Oid, OpEnd, Rock, Side, Value};
 use rp_dict::Dict;
-use rp_ops::{charge_copies, handed};
+use rp_ops::{charge_copies, check_room, handed};
 use rp_store::{Key, Object, Store, key_of};
 use std::alloc::Global;
 
@@ -32,9 +34,11 @@ pub(crate) fn items(
 ) -> Result<Value, OpEnd>
     requires held { IsHeld store.old.heap at }
     requires dict { Names store.old.heap IsDict at }
-    ensures plain { (steps : ℕ) → Meets result (state_of store.new steps) (items at args.now (state_of store.old steps)) }
+    ensures plain { (steps : ℕ) → Meets result (state_of store.new steps)
+        (items at args.now (state_of store.old steps)) }
     ensures sound { IfOk result (λ v. IsSound store.new.heap v) }
     ensures shape { KeepsShape store.old.heap store.new.heap }
+    ensures counters { KeepsCounters store.old store.new }
 {
     let [] = args else {
         return Err(Fault::Arguments.end(alloc));
@@ -48,6 +52,7 @@ fn list_items(alloc: Global, store: &mut Store, at: Oid) -> Result<Value, OpEnd>
     ensures plain { (steps : ℕ) → Meets result (state_of store.new steps) (items at [] (state_of store.old steps)) }
     ensures sound { IfOk result (λ v. IsSound store.new.heap v) }
     ensures shape { KeepsShape store.old.heap store.new.heap }
+    ensures counters { KeepsCounters store.old store.new }
 {
     let entries = pairs_of(alloc, dict_at(store, at), false)?;
     let owner = store.owner(at);
@@ -94,9 +99,11 @@ fn list_pairs(
     entries: &[(Rock, Value)],
 ) -> Result<Value, OpEnd>
     requires { All (λ e. IsSound store.old.heap e.1) entries.now }
-    ensures plain { (steps : ℕ) → Meets result (state_of store.new steps) (charged (1 + length entries.now * 4) (state_of store.old steps) (λ s. tuples_listed side entries.now [] s)) }
+    ensures plain { (steps : ℕ) → Meets result (state_of store.new steps)
+        (charged (1 + length entries.now * 4) (state_of store.old steps) (λ s. tuples_listed side entries.now [] s)) }
     ensures sound { IfOk result (λ v. IsSound store.new.heap v) }
     ensures shape { KeepsShape store.old.heap store.new.heap }
+    ensures counters { KeepsCounters store.old store.new }
 {
     charge_copies(store, 1, entries.len() as u64, 4)?;
     let list = make_pairs(alloc, store, side, entries)?;
@@ -111,9 +118,11 @@ fn make_pairs(
     entries: &[(Rock, Value)],
 ) -> Result<Value, Memory>
     requires { All (λ e. IsSound store.old.heap e.1) entries.now }
-    ensures plain { (steps : ℕ) → IfOk result (λ v. tuples_listed side entries.now [] (state_of store.old steps) ≡ gives v (state_of store.new steps)) }
+    ensures plain { (steps : ℕ) → IfOk result (λ v. tuples_listed side entries.now [] (state_of store.old steps)
+        ≡ gives v (state_of store.new steps)) }
     ensures sound { IfOk result (λ v. IsSound store.new.heap v) }
     ensures shape { KeepsShape store.old.heap store.new.heap }
+    ensures counters { KeepsCounters store.old store.new }
 {
     let made = make_tuples(alloc, store, side, entries)?;
     let at = store.add(side, Object::List(made))?;
@@ -131,9 +140,11 @@ fn make_tuples(
     entries: &[(Rock, Value)],
 ) -> Result<Vec<Value>, Memory>
     requires { All (λ e. IsSound store.old.heap e.1) entries.now }
-    ensures made { (steps : ℕ) → IfOk result (λ v. tuples_listed side entries.now [] (state_of store.old steps) ≡ tuples_listed side [] v.items (state_of store.new steps)) }
+    ensures made { (steps : ℕ) → IfOk result (λ v. tuples_listed side entries.now [] (state_of store.old steps)
+        ≡ tuples_listed side [] v.items (state_of store.new steps)) }
     ensures sound { IfOk result (λ v. AreSound store.new.heap v.items) }
     ensures shape { KeepsShape store.old.heap store.new.heap }
+    ensures counters { KeepsCounters store.old store.new }
 {
     let mut made = Vec::with_capacity(alloc, entries.len())?;
     for (rock, value) in entries {
@@ -156,9 +167,11 @@ fn make_pair(
 ) -> Result<Value, Memory>
     requires { IsSound store.old.heap value.now }
     ensures place { IfOk result (λ v. v ≡ Value.Ref (record { 0 = length store.old.heap })) }
-    ensures added { OnOk result (store.new ≡ added store.old side (object.tuple (Value.Rock rock.now ∷ value.now ∷ []))) }
+    ensures added { OnOk result (store.new
+        ≡ added store.old side (object.tuple (Value.Rock rock.now ∷ value.now ∷ []))) }
     ensures sound { IfOk result (λ v. IsSound store.new.heap v) }
     ensures shape { KeepsShape store.old.heap store.new.heap }
+    ensures counters { KeepsCounters store.old store.new }
 {
     let both = both(alloc, rock, value)?;
     let at = store.add(side, Object::Tuple(both))?;
@@ -189,9 +202,11 @@ pub(crate) fn update(
     requires held { IsHeld store.old.heap at }
     requires dict { Names store.old.heap IsDict at }
     requires args { AreSound store.old.heap args.now }
-    ensures plain { (steps : ℕ) → Meets result (state_of store.new steps) (update at args.now (state_of store.old steps)) }
+    ensures plain { (steps : ℕ) → Meets result (state_of store.new steps)
+        (update at args.now (state_of store.old steps)) }
     ensures sound { IfOk result (λ v. IsSound store.new.heap v) }
     ensures shape { KeepsShape store.old.heap store.new.heap }
+    ensures counters { KeepsCounters store.old store.new }
 {
     let [d] = args else {
         return Err(Fault::Arguments.end(alloc));
@@ -203,9 +218,11 @@ fn update_by(alloc: Global, store: &mut Store, at: Oid, d: &Value) -> Result<Val
     requires held { IsHeld store.old.heap at }
     requires dict { Names store.old.heap IsDict at }
     requires d { IsSound store.old.heap d.now }
-    ensures plain { (steps : ℕ) → Meets result (state_of store.new steps) (update at (d.now ∷ []) (state_of store.old steps)) }
+    ensures plain { (steps : ℕ) → Meets result (state_of store.new steps)
+        (update at (d.now ∷ []) (state_of store.old steps)) }
     ensures sound { IfOk result (λ v. IsSound store.new.heap v) }
     ensures shape { KeepsShape store.old.heap store.new.heap }
+    ensures counters { KeepsCounters store.old store.new }
 {
     let Some(entries) = pairs_given(alloc, store, d)? else {
         return Err(Fault::Argument.end(alloc));
@@ -223,7 +240,8 @@ fn pairs_given(
     d: &Value,
 ) -> Result<Option<Vec<(Rock, Value)>>, Memory>
     requires { IsSound store.now.heap d.now }
-    ensures pairs { IfOk result (λ r. MatchOption r (pairs_given store.now.heap d.now ≡ None) (λ v. pairs_given store.now.heap d.now ≡ Some v.items)) }
+    ensures pairs { IfOk result (λ r. MatchOption r (pairs_given store.now.heap d.now ≡ None)
+        (λ v. pairs_given store.now.heap d.now ≡ Some v.items)) }
     ensures sound { IfOk result (λ r. IfSome r (λ v. All (λ e. IsSound store.now.heap e.1) v.items)) }
 {
     match d {
@@ -240,7 +258,8 @@ fn pairs_at(
     lent: bool,
 ) -> Result<Option<Vec<(Rock, Value)>>, Memory>
     requires { IsHeld store.now.heap at }
-    ensures pairs { IfOk result (λ r. MatchOption r (pairs_in (handed lent) store.now.heap at ≡ None) (λ v. pairs_in (handed lent) store.now.heap at ≡ Some v.items)) }
+    ensures pairs { IfOk result (λ r. MatchOption r (pairs_in (handed lent) store.now.heap at ≡ None)
+        (λ v. pairs_in (handed lent) store.now.heap at ≡ Some v.items)) }
     ensures sound { IfOk result (λ r. IfSome r (λ v. All (λ e. IsSound store.now.heap e.1) v.items)) }
 {
     match store.object(at) {
@@ -268,28 +287,15 @@ fn put_room(
     requires held { IsHeld store.old.heap at }
     requires dict { Names store.old.heap IsDict at }
     requires sound { All (λ e. IsSound store.old.heap e.1) entries.now }
-    ensures plain { (steps : ℕ) → Meets result (state_of store.new steps) (roomed (new_keys store.old.heap at 0 entries.now) (state_of store.old steps) (put_all at entries.now)) }
+    ensures plain { (steps : ℕ) → Meets result (state_of store.new steps)
+        (roomed (new_keys store.old.heap at 0 entries.now) (state_of store.old steps) (put_all at entries.now)) }
     ensures sound { IfOk result (λ v. IsSound store.new.heap v) }
     ensures shape { KeepsShape store.old.heap store.new.heap }
+    ensures counters { KeepsCounters store.old store.new }
 {
     let count = new_keys(store, at, entries)?;
     check_room(store, count as u64)?;
     put_all(alloc, store, at, entries)
-}
-
-/// Ends where so many cells are over the limit.
-///
-/// # Errors
-/// `StopCells` exactly there.
-fn check_room(store: &Store, cells: u64) -> Result<(), OpEnd>
-    ensures within { OnOk result (store.now.used + cells ≤ store.now.limit) }
-    ensures over { OnErr result (IsOver store.now cells) }
-    ensures stopped { IfErr result (λ e. e ≡ OpEnd.StopCells) }
-{
-    if cells > store.limit() - store.used() {
-        return Err(OpEnd::StopCells);
-    }
-    Ok(())
 }
 
 /// How many of the keys a dict does not have.
@@ -340,9 +346,11 @@ fn put_all(
 ) -> Result<Value, OpEnd>
     requires dict { Names store.old.heap IsDict at }
     requires sound { All (λ e. IsSound store.old.heap e.1) entries.now }
-    ensures plain { (steps : ℕ) → Meets result (state_of store.new steps) (put_all at entries.now (state_of store.old steps)) }
+    ensures plain { (steps : ℕ) → Meets result (state_of store.new steps)
+        (put_all at entries.now (state_of store.old steps)) }
     ensures sound { IfOk result (λ v. IsSound store.new.heap v) }
     ensures shape { KeepsShape store.old.heap store.new.heap }
+    ensures counters { KeepsCounters store.old store.new }
 {
     for (rock, value) in entries {
         put(alloc, store, at, rock, value)?;

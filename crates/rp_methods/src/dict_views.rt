@@ -3,6 +3,7 @@
 
 ghost use Rattle.std.specs.Prelude.{◌≡◌, ◌∷◌, ◌++◌, [], ℕ, map, IfOk, OnErr, OnOk};
 ghost use Rattle.rp_dict.specs.Dict.{insert_entry};
+ghost use Rattle.rp_store.specs.Counters.{KeepsCounters};
 ghost use Rattle.rp_store.specs.Key.{same_key};
 ghost use Rattle.rp_store.specs.Heap.{IsHeld, Names};
 ghost use Rattle.rp_store.specs.Kept.{IsSound};
@@ -32,10 +33,12 @@ pub(crate) fn keys(
 ) -> Result<Value, OpEnd>
     requires held { IsHeld store.old.heap at }
     requires dict { Names store.old.heap IsDict at }
-    ensures plain { (steps : ℕ) → Meets result (state_of store.new steps) (keys at args.now (state_of store.old steps)) }
+    ensures plain { (steps : ℕ) → Meets result (state_of store.new steps)
+        (keys at args.now (state_of store.old steps)) }
     ensures sound { IfOk result (λ v. IsSound store.new.heap v) }
     ensures shape { KeepsShape store.old.heap store.new.heap }
     ensures same { OnErr result (store.new ≡ store.old) }
+    ensures counters { KeepsCounters store.old store.new }
 {
     let [] = args else {
         return Err(Fault::Arguments.end(alloc));
@@ -46,10 +49,13 @@ pub(crate) fn keys(
 fn list_keys(alloc: Global, store: &mut Store, at: Oid) -> Result<Value, OpEnd>
     requires held { IsHeld store.old.heap at }
     requires dict { Names store.old.heap IsDict at }
-    ensures plain { (steps : ℕ) → Meets result (state_of store.new steps) (new_object (owner_of at (state_of store.old steps)) (object.list (map key_rock (entries_of store.old.heap at))) (state_of store.old steps)) }
+    ensures plain { (steps : ℕ) → Meets result (state_of store.new steps)
+        (new_object (owner_of at (state_of store.old steps))
+        (object.list (map key_rock (entries_of store.old.heap at))) (state_of store.old steps)) }
     ensures sound { IfOk result (λ v. IsSound store.new.heap v) }
     ensures shape { KeepsShape store.old.heap store.new.heap }
     ensures same { OnErr result (store.new ≡ store.old) }
+    ensures counters { KeepsCounters store.old store.new }
 {
     let keys = keys_of(alloc, dict_at(store, at))?;
     let owner = store.owner(at);
@@ -88,10 +94,12 @@ pub(crate) fn values(
 ) -> Result<Value, OpEnd>
     requires held { IsHeld store.old.heap at }
     requires dict { Names store.old.heap IsDict at }
-    ensures plain { (steps : ℕ) → Meets result (state_of store.new steps) (values at args.now (state_of store.old steps)) }
+    ensures plain { (steps : ℕ) → Meets result (state_of store.new steps)
+        (values at args.now (state_of store.old steps)) }
     ensures sound { IfOk result (λ v. IsSound store.new.heap v) }
     ensures shape { KeepsShape store.old.heap store.new.heap }
     ensures same { OnErr result (store.new ≡ store.old) }
+    ensures counters { KeepsCounters store.old store.new }
 {
     let [] = args else {
         return Err(Fault::Arguments.end(alloc));
@@ -102,10 +110,13 @@ pub(crate) fn values(
 fn list_values(alloc: Global, store: &mut Store, at: Oid) -> Result<Value, OpEnd>
     requires held { IsHeld store.old.heap at }
     requires dict { Names store.old.heap IsDict at }
-    ensures plain { (steps : ℕ) → Meets result (state_of store.new steps) (new_object (owner_of at (state_of store.old steps)) (object.list (map (λ e. e.1.1) (entries_of store.old.heap at))) (state_of store.old steps)) }
+    ensures plain { (steps : ℕ) → Meets result (state_of store.new steps)
+        (new_object (owner_of at (state_of store.old steps))
+        (object.list (map (λ e. e.1.1) (entries_of store.old.heap at))) (state_of store.old steps)) }
     ensures sound { IfOk result (λ v. IsSound store.new.heap v) }
     ensures shape { KeepsShape store.old.heap store.new.heap }
     ensures same { OnErr result (store.new ≡ store.old) }
+    ensures counters { KeepsCounters store.old store.new }
 {
     let values = values_of(alloc, dict_at(store, at))?;
     let owner = store.owner(at);
@@ -144,10 +155,12 @@ pub(crate) fn copy(
 ) -> Result<Value, OpEnd>
     requires held { IsHeld store.old.heap at }
     requires dict { Names store.old.heap IsDict at }
-    ensures plain { (steps : ℕ) → Meets result (state_of store.new steps) (copy at args.now (state_of store.old steps)) }
+    ensures plain { (steps : ℕ) → Meets result (state_of store.new steps)
+        (copy at args.now (state_of store.old steps)) }
     ensures sound { IfOk result (λ v. IsSound store.new.heap v) }
     ensures shape { KeepsShape store.old.heap store.new.heap }
     ensures same { OnErr result (store.new ≡ store.old) }
+    ensures counters { KeepsCounters store.old store.new }
 {
     let [] = args else {
         return Err(Fault::Arguments.end(alloc));
@@ -158,10 +171,13 @@ pub(crate) fn copy(
 fn make_copy(alloc: Global, store: &mut Store, at: Oid) -> Result<Value, OpEnd>
     requires held { IsHeld store.old.heap at }
     requires dict { Names store.old.heap IsDict at }
-    ensures plain { (steps : ℕ) → Meets result (state_of store.new steps) (new_object (owner_of at (state_of store.old steps)) (object.dict (entries_of store.old.heap at)) (state_of store.old steps)) }
+    ensures plain { (steps : ℕ) → Meets result (state_of store.new steps)
+        (new_object (owner_of at (state_of store.old steps)) (object.dict (entries_of store.old.heap at))
+        (state_of store.old steps)) }
     ensures sound { IfOk result (λ v. IsSound store.new.heap v) }
     ensures shape { KeepsShape store.old.heap store.new.heap }
     ensures same { OnErr result (store.new ≡ store.old) }
+    ensures counters { KeepsCounters store.old store.new }
 {
     let entries = copied(alloc, store.seed(), dict_at(store, at))?;
     let owner = store.owner(at);
@@ -200,20 +216,6 @@ fn set_copy(
     ensures { OnOk result (all.new ≡ insert_entry same_key all.old key.now (rock.now, value.now)) }
 {
     let entry = (rock.copy()?, value.copy()?);
-    all.set(key_copy(key)?, entry)?;
+    all.set(key.copy()?, entry)?;
     Ok(())
-}
-
-/// An equal key; its text is shared.
-///
-/// # Errors
-/// `Memory` where the count of the owners of its text is full.
-fn key_copy(key: &Key) -> Result<Key, Memory>
-    ensures { IfOk result (λ k. k ≡ key.now) }
-{
-    Ok(match key {
-        Key::Nil => Key::Nil,
-        Key::Number(n) => Key::Number(*n),
-        Key::Text(text) => Key::Text(text.copy()?),
-    })
 }

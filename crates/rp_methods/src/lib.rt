@@ -1,5 +1,5 @@
 //! The built-in methods of lists, tuples, dicts and texts, on values whose access decisions have been made.
-#![tactic(auto)]
+#![tactic(auto, using(rp_store::proofs::Shapes::goes_on))]
 
 mod counts;
 mod dict_keys;
@@ -10,7 +10,6 @@ mod held;
 mod list_changes;
 mod list_takes;
 mod methods;
-mod missing;
 mod places;
 mod search;
 mod sequences;

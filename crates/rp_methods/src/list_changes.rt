@@ -3,6 +3,7 @@
 
 ghost use Rattle.std.specs.Prelude.{◌≡◌, ◌≤◌, ℕ, length, reverse, IfOk, OnErr};
 ghost use Rattle.std.specs.Option.{option_map_or};
+ghost use Rattle.rp_store.specs.Counters.{KeepsCounters};
 ghost use Rattle.rp_store.specs.Heap.{IsHeld, Names, elements_at};
 ghost use Rattle.rp_store.specs.Kept.{AreSound, IsSound};
 ghost use Rattle.rp_store.specs.Parts.{IsList};
@@ -32,10 +33,12 @@ pub(crate) fn append(
     requires held { IsHeld store.old.heap at }
     requires list { Names store.old.heap IsList at }
     requires args { AreSound store.old.heap args.now }
-    ensures plain { (steps : ℕ) → Meets result (state_of store.new steps) (append at args.now (state_of store.old steps)) }
+    ensures plain { (steps : ℕ) → Meets result (state_of store.new steps)
+        (append at args.now (state_of store.old steps)) }
     ensures sound { IfOk result (λ v. IsSound store.new.heap v) }
     ensures shape { KeepsShape store.old.heap store.new.heap }
     ensures same { OnErr result (store.new ≡ store.old) }
+    ensures counters { KeepsCounters store.old store.new }
 {
     let [x] = args else {
         return Err(Fault::Arguments.end(alloc));
@@ -49,10 +52,12 @@ fn push(store: &mut Store, at: Oid, x: Value) -> Result<Value, OpEnd>
     requires held { IsHeld store.old.heap at }
     requires list { Names store.old.heap IsList at }
     requires x { IsSound store.old.heap x }
-    ensures plain { (steps : ℕ) → Meets result (state_of store.new steps) (grows 1 at (pushed x) (state_of store.old steps)) }
+    ensures plain { (steps : ℕ) → Meets result (state_of store.new steps)
+        (grows 1 at (pushed x) (state_of store.old steps)) }
     ensures sound { IfOk result (λ v. IsSound store.new.heap v) }
     ensures shape { KeepsShape store.old.heap store.new.heap }
     ensures same { OnErr result (store.new ≡ store.old) }
+    ensures counters { KeepsCounters store.old store.new }
 {
     store.push(at, x)?;
     Ok(Value::Rock(Rock::Nil))
@@ -69,11 +74,13 @@ pub(crate) fn extend(
     requires held { IsHeld store.old.heap at }
     requires list { Names store.old.heap IsList at }
     requires args { AreSound store.old.heap args.now }
-    ensures plain { Meets result (state_of store.new meter.new.left) (extend at args.now (state_of store.old meter.old.left)) }
+    ensures plain { Meets result (state_of store.new meter.new.left)
+        (extend at args.now (state_of store.old meter.old.left)) }
     ensures sound { IfOk result (λ v. IsSound store.new.heap v) }
     ensures shape { KeepsShape store.old.heap store.new.heap }
     ensures same { OnErr result (store.new.heap ≡ store.old.heap) }
     ensures fewer { meter.new.left ≤ meter.old.left }
+    ensures counters { KeepsCounters store.old store.new }
 {
     let [w] = args else {
         return Err(Fault::Arguments.end(alloc));
@@ -91,11 +98,13 @@ fn extend_by(
     requires held { IsHeld store.old.heap at }
     requires list { Names store.old.heap IsList at }
     requires w { IsSound store.old.heap w.now }
-    ensures plain { Meets result (state_of store.new meter.new.left) (on_value (elements w.now (state_of store.old meter.old.left)) (λ vs s. grows (length vs) at (extended vs) s)) }
+    ensures plain { Meets result (state_of store.new meter.new.left)
+        (on_value (elements w.now (state_of store.old meter.old.left)) (λ vs s. grows (length vs) at (extended vs) s)) }
     ensures sound { IfOk result (λ v. IsSound store.new.heap v) }
     ensures shape { KeepsShape store.old.heap store.new.heap }
     ensures same { OnErr result (store.new.heap ≡ store.old.heap) }
     ensures fewer { meter.new.left ≤ meter.old.left }
+    ensures counters { KeepsCounters store.old store.new }
 {
     let values = elements(alloc, store, meter, w)?;
     put_last(store, at, values)
@@ -106,10 +115,12 @@ fn put_last(store: &mut Store, at: Oid, values: Vec<Value>) -> Result<Value, OpE
     requires held { IsHeld store.old.heap at }
     requires list { Names store.old.heap IsList at }
     requires values { AreSound store.old.heap values.items }
-    ensures plain { (steps : ℕ) → Meets result (state_of store.new steps) (grows (length values.items) at (extended values.items) (state_of store.old steps)) }
+    ensures plain { (steps : ℕ) → Meets result (state_of store.new steps)
+        (grows (length values.items) at (extended values.items) (state_of store.old steps)) }
     ensures sound { IfOk result (λ v. IsSound store.new.heap v) }
     ensures shape { KeepsShape store.old.heap store.new.heap }
     ensures same { OnErr result (store.new ≡ store.old) }
+    ensures counters { KeepsCounters store.old store.new }
 {
     store.extend(at, values)?;
     Ok(Value::Rock(Rock::Nil))
@@ -125,10 +136,12 @@ pub(crate) fn insert(
     requires held { IsHeld store.old.heap at }
     requires list { Names store.old.heap IsList at }
     requires args { AreSound store.old.heap args.now }
-    ensures plain { (steps : ℕ) → Meets result (state_of store.new steps) (insert at args.now (state_of store.old steps)) }
+    ensures plain { (steps : ℕ) → Meets result (state_of store.new steps)
+        (insert at args.now (state_of store.old steps)) }
     ensures sound { IfOk result (λ v. IsSound store.new.heap v) }
     ensures shape { KeepsShape store.old.heap store.new.heap }
     ensures same { OnErr result (store.new ≡ store.old) }
+    ensures counters { KeepsCounters store.old store.new }
 {
     let [i, x] = args else {
         return Err(Fault::Arguments.end(alloc));
@@ -146,10 +159,13 @@ fn insert_named(
     requires held { IsHeld store.old.heap at }
     requires list { Names store.old.heap IsList at }
     requires x { IsSound store.old.heap x.now }
-    ensures plain { (steps : ℕ) → Meets result (state_of store.new steps) (option_map_or (λ z. insert_at at z x.now (state_of store.old steps)) (index_number i.now) (wrong_argument (state_of store.old steps))) }
+    ensures plain { (steps : ℕ) → Meets result (state_of store.new steps)
+        (option_map_or (λ z. insert_at at z x.now (state_of store.old steps)) (index_number i.now)
+        (wrong_argument (state_of store.old steps))) }
     ensures sound { IfOk result (λ v. IsSound store.new.heap v) }
     ensures shape { KeepsShape store.old.heap store.new.heap }
     ensures same { OnErr result (store.new ≡ store.old) }
+    ensures counters { KeepsCounters store.old store.new }
 {
     let Some(n) = index_number(i) else {
         return Err(Fault::Argument.end(alloc));
@@ -162,10 +178,12 @@ fn insert_at(store: &mut Store, at: Oid, i: i64, x: Value) -> Result<Value, OpEn
     requires held { IsHeld store.old.heap at }
     requires list { Names store.old.heap IsList at }
     requires x { IsSound store.old.heap x }
-    ensures plain { (steps : ℕ) → Meets result (state_of store.new steps) (insert_at at i x (state_of store.old steps)) }
+    ensures plain { (steps : ℕ) → Meets result (state_of store.new steps)
+        (insert_at at i x (state_of store.old steps)) }
     ensures sound { IfOk result (λ v. IsSound store.new.heap v) }
     ensures shape { KeepsShape store.old.heap store.new.heap }
     ensures same { OnErr result (store.new ≡ store.old) }
+    ensures counters { KeepsCounters store.old store.new }
 {
     let place = place_before(list_length(store, at), i);
     insert_before(store, at, place, x)
@@ -177,10 +195,12 @@ fn insert_before(store: &mut Store, at: Oid, place: usize, x: Value) -> Result<V
     requires list { Names store.old.heap IsList at }
     requires place { place ≤ length (elements_at store.old.heap at) }
     requires x { IsSound store.old.heap x }
-    ensures plain { (steps : ℕ) → Meets result (state_of store.new steps) (grows 1 at (inserted place x) (state_of store.old steps)) }
+    ensures plain { (steps : ℕ) → Meets result (state_of store.new steps)
+        (grows 1 at (inserted place x) (state_of store.old steps)) }
     ensures sound { IfOk result (λ v. IsSound store.new.heap v) }
     ensures shape { KeepsShape store.old.heap store.new.heap }
     ensures same { OnErr result (store.new ≡ store.old) }
+    ensures counters { KeepsCounters store.old store.new }
 {
     store.insert(at, place, x)?;
     Ok(Value::Rock(Rock::Nil))
@@ -195,10 +215,12 @@ pub(crate) fn reverse(
 ) -> Result<Value, OpEnd>
     requires held { IsHeld store.old.heap at }
     requires list { Names store.old.heap IsList at }
-    ensures plain { (steps : ℕ) → Meets result (state_of store.new steps) (reversed at args.now (state_of store.old steps)) }
+    ensures plain { (steps : ℕ) → Meets result (state_of store.new steps)
+        (reversed at args.now (state_of store.old steps)) }
     ensures sound { IfOk result (λ v. IsSound store.new.heap v) }
     ensures shape { KeepsShape store.old.heap store.new.heap }
     ensures same { OnErr result (store.new ≡ store.old) }
+    ensures counters { KeepsCounters store.old store.new }
 {
     let [] = args else {
         return Err(Fault::Arguments.end(alloc));

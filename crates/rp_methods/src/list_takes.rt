@@ -3,6 +3,7 @@
 
 ghost use Rattle.std.specs.Prelude.{◌≡◌, ◌<◌, ℕ, length, IfOk, OnErr};
 ghost use Rattle.std.specs.Option.{option_map_or};
+ghost use Rattle.rp_store.specs.Counters.{KeepsCounters};
 ghost use Rattle.rp_store.specs.Heap.{IsHeld, Names, elements_at};
 ghost use Rattle.rp_store.specs.Kept.{IsSound};
 ghost use Rattle.rp_store.specs.Parts.{IsList};
@@ -27,6 +28,7 @@ pub(crate) fn pop(alloc: Global, store: &mut Store, at: Oid, args: &[Value]) -> 
     ensures sound { IfOk result (λ v. IsSound store.new.heap v) }
     ensures shape { KeepsShape store.old.heap store.new.heap }
     ensures same { OnErr result (store.new ≡ store.old) }
+    ensures counters { KeepsCounters store.old store.new }
 {
     match args {
         [] => pop_at(alloc, store, at, -1),
@@ -38,10 +40,13 @@ pub(crate) fn pop(alloc: Global, store: &mut Store, at: Oid, args: &[Value]) -> 
 fn pop_named(alloc: Global, store: &mut Store, at: Oid, i: &Value) -> Result<Value, OpEnd>
     requires held { IsHeld store.old.heap at }
     requires list { Names store.old.heap IsList at }
-    ensures plain { (steps : ℕ) → Meets result (state_of store.new steps) (option_map_or (λ z. pop_at at z (state_of store.old steps)) (index_number i.now) (wrong_argument (state_of store.old steps))) }
+    ensures plain { (steps : ℕ) → Meets result (state_of store.new steps)
+        (option_map_or (λ z. pop_at at z (state_of store.old steps)) (index_number i.now)
+        (wrong_argument (state_of store.old steps))) }
     ensures sound { IfOk result (λ v. IsSound store.new.heap v) }
     ensures shape { KeepsShape store.old.heap store.new.heap }
     ensures same { OnErr result (store.new ≡ store.old) }
+    ensures counters { KeepsCounters store.old store.new }
 {
     match index_number(i) {
         Some(n) => pop_at(alloc, store, at, n),
@@ -56,6 +61,7 @@ fn pop_at(alloc: Global, store: &mut Store, at: Oid, i: i64) -> Result<Value, Op
     ensures sound { IfOk result (λ v. IsSound store.new.heap v) }
     ensures shape { KeepsShape store.old.heap store.new.heap }
     ensures same { OnErr result (store.new ≡ store.old) }
+    ensures counters { KeepsCounters store.old store.new }
 {
     match place_within(list_length(store, at), i) {
         Ok(place) => Ok(take_out(store, at, place)),
@@ -67,9 +73,11 @@ fn pop_at(alloc: Global, store: &mut Store, at: Oid, i: i64) -> Result<Value, Op
 fn take_out(store: &mut Store, at: Oid, place: usize) -> Value
     requires held { IsHeld store.old.heap at }
     requires place { place < length (elements_at store.old.heap at) }
-    ensures plain { (steps : ℕ) → taken_out at place (state_of store.old steps) ≡ gives result (state_of store.new steps) }
+    ensures plain { (steps : ℕ) → taken_out at place (state_of store.old steps)
+        ≡ gives result (state_of store.new steps) }
     ensures sound { IsSound store.new.heap result }
     ensures shape { KeepsShape store.old.heap store.new.heap }
+    ensures counters { KeepsCounters store.old store.new }
 {
     store.kept();
     store.remove_at(at, place)

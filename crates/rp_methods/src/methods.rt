@@ -1,7 +1,8 @@
 //! Calls of built-in methods.
 #![tactic(auto, using(rp_store::proofs::Shapes::goes_on))]
 
-ghost use Rattle.std.specs.Prelude.{◌≡◌, ◌≤◌, ℕ, IfOk};
+ghost use Rattle.std.specs.Prelude.{◌≤◌, ℕ, IfOk};
+ghost use Rattle.rp_store.specs.Counters.{KeepsCounters};
 ghost use Rattle.rp_store.specs.Heap.{IsHeld, Names};
 ghost use Rattle.rp_store.specs.Kept.{AreSound, IsSound};
 ghost use Rattle.rp_store.specs.Parts.{IsDict, IsList};
@@ -42,7 +43,7 @@ use std::alloc::Global;
 ///   walking or comparing an argument raises.
 /// - `StopSteps` where no step is left, `StopCells` where the cells are over the limit.
 /// - `Memory` where a growth was refused, there is none for the text of an exception, or the count of a text's owners is
-///   full.
+///   full. Then cells may be used; the limit stays, and no used cell is given back.
 pub fn call_method(
     alloc: Global,
     store: &mut Store,
@@ -55,10 +56,12 @@ pub fn call_method(
 ) -> Result<Value, OpEnd>
     requires receiver { IsSound store.old.heap receiver.now }
     requires args { AreSound store.old.heap args.now }
-    ensures plain { Meets result (state_of store.new meter.new.left) (method side receiver.now id args.now (state_of store.old meter.old.left)) }
+    ensures plain { Meets result (state_of store.new meter.new.left)
+        (method side receiver.now id args.now (state_of store.old meter.old.left)) }
     ensures sound { IfOk result (λ v. IsSound store.new.heap v) }
     ensures shape { KeepsShape store.old.heap store.new.heap }
     ensures fewer { meter.new.left ≤ meter.old.left }
+    ensures counters { KeepsCounters store.old store.new }
 {
     match counts_of(receiver_of(store, receiver), id) {
         Some(counts) => {
@@ -83,10 +86,12 @@ fn method_of(
 ) -> Result<Value, OpEnd>
     requires receiver { IsSound store.old.heap receiver.now }
     requires args { AreSound store.old.heap args.now }
-    ensures plain { Meets result (state_of store.new meter.new.left) (method_of side receiver.now id args.now (state_of store.old meter.old.left)) }
+    ensures plain { Meets result (state_of store.new meter.new.left)
+        (method_of side receiver.now id args.now (state_of store.old meter.old.left)) }
     ensures sound { IfOk result (λ v. IsSound store.new.heap v) }
     ensures shape { KeepsShape store.old.heap store.new.heap }
     ensures fewer { meter.new.left ≤ meter.old.left }
+    ensures counters { KeepsCounters store.old store.new }
 {
     match receiver {
         Value::Rock(rock) => rock_method(alloc, store, meter, side, rock, id, args),
@@ -105,10 +110,12 @@ fn object_method(
 ) -> Result<Value, OpEnd>
     requires held { IsHeld store.old.heap at }
     requires args { AreSound store.old.heap args.now }
-    ensures plain { Meets result (state_of store.new meter.new.left) (object_method at id args.now (state_of store.old meter.old.left)) }
+    ensures plain { Meets result (state_of store.new meter.new.left)
+        (object_method at id args.now (state_of store.old meter.old.left)) }
     ensures sound { IfOk result (λ v. IsSound store.new.heap v) }
     ensures shape { KeepsShape store.old.heap store.new.heap }
     ensures fewer { meter.new.left ≤ meter.old.left }
+    ensures counters { KeepsCounters store.old store.new }
 {
     match store.object(at) {
         Object::List(_) => list_method(alloc, store, meter, at, id, args),
@@ -129,10 +136,12 @@ fn list_method(
     requires held { IsHeld store.old.heap at }
     requires list { Names store.old.heap IsList at }
     requires args { AreSound store.old.heap args.now }
-    ensures plain { Meets result (state_of store.new meter.new.left) (list_method at id args.now (state_of store.old meter.old.left)) }
+    ensures plain { Meets result (state_of store.new meter.new.left)
+        (list_method at id args.now (state_of store.old meter.old.left)) }
     ensures sound { IfOk result (λ v. IsSound store.new.heap v) }
     ensures shape { KeepsShape store.old.heap store.new.heap }
     ensures fewer { meter.new.left ≤ meter.old.left }
+    ensures counters { KeepsCounters store.old store.new }
 {
     match id {
         NativeId::Append => append(alloc, store, at, args),
@@ -156,7 +165,8 @@ fn tuple_method(
     args: &[Value],
 ) -> Result<Value, OpEnd>
     requires { IsHeld store.now.heap at }
-    ensures plain { Meets result (state_of store.now meter.new.left) (tuple_method at id args.now (state_of store.now meter.old.left)) }
+    ensures plain { Meets result (state_of store.now meter.new.left)
+        (tuple_method at id args.now (state_of store.now meter.old.left)) }
     ensures sound { IfOk result (λ v. IsSound store.now.heap v) }
     ensures fewer { meter.new.left ≤ meter.old.left }
 {
@@ -177,9 +187,11 @@ fn dict_method(
     requires held { IsHeld store.old.heap at }
     requires dict { Names store.old.heap IsDict at }
     requires args { AreSound store.old.heap args.now }
-    ensures plain { (steps : ℕ) → Meets result (state_of store.new steps) (dict_method at id args.now (state_of store.old steps)) }
+    ensures plain { (steps : ℕ) → Meets result (state_of store.new steps)
+        (dict_method at id args.now (state_of store.old steps)) }
     ensures sound { IfOk result (λ v. IsSound store.new.heap v) }
     ensures shape { KeepsShape store.old.heap store.new.heap }
+    ensures counters { KeepsCounters store.old store.new }
 {
     match id {
         NativeId::Get => get(alloc, store, at, args),
@@ -204,10 +216,12 @@ fn rock_method(
     args: &[Value],
 ) -> Result<Value, OpEnd>
     requires args { AreSound store.old.heap args.now }
-    ensures plain { Meets result (state_of store.new meter.new.left) (rock_method side rock.now id args.now (state_of store.old meter.old.left)) }
+    ensures plain { Meets result (state_of store.new meter.new.left)
+        (rock_method side rock.now id args.now (state_of store.old meter.old.left)) }
     ensures sound { IfOk result (λ v. IsSound store.new.heap v) }
     ensures shape { KeepsShape store.old.heap store.new.heap }
     ensures fewer { meter.new.left ≤ meter.old.left }
+    ensures counters { KeepsCounters store.old store.new }
 {
     match rock {
         Rock::Text(text) => text_method(alloc, store, meter, side, text, id, args),
@@ -225,10 +239,12 @@ fn text_method(
     args: &[Value],
 ) -> Result<Value, OpEnd>
     requires args { AreSound store.old.heap args.now }
-    ensures plain { Meets result (state_of store.new meter.new.left) (text_method side text.now id args.now (state_of store.old meter.old.left)) }
+    ensures plain { Meets result (state_of store.new meter.new.left)
+        (text_method side text.now id args.now (state_of store.old meter.old.left)) }
     ensures sound { IfOk result (λ v. IsSound store.new.heap v) }
     ensures shape { KeepsShape store.old.heap store.new.heap }
     ensures fewer { meter.new.left ≤ meter.old.left }
+    ensures counters { KeepsCounters store.old store.new }
 {
     match id {
         NativeId::Join => join(alloc, store, meter, text, args),

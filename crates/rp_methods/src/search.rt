@@ -18,7 +18,8 @@ pub(crate) fn place_of(
     elements: &[Value],
     a: &Value,
 ) -> Result<usize, OpEnd>
-    ensures plain { Meets result (state_of store.now meter.new.left) (sought 0 a.now elements.now (state_of store.now meter.old.left)) }
+    ensures plain { Meets result (state_of store.now meter.new.left)
+        (sought 0 a.now elements.now (state_of store.now meter.old.left)) }
     ensures within { IfOk result (λ p. p < length elements.now) }
     ensures fewer { meter.new.left ≤ meter.old.left }
 {
@@ -39,7 +40,8 @@ pub(crate) fn count_of(
     elements: &[Value],
     a: &Value,
 ) -> Result<usize, OpEnd>
-    ensures plain { Meets result (state_of store.now meter.new.left) (counted 0 a.now elements.now (state_of store.now meter.old.left)) }
+    ensures plain { Meets result (state_of store.now meter.new.left)
+        (counted 0 a.now elements.now (state_of store.now meter.old.left)) }
     ensures within { IfOk result (λ n. n ≤ length elements.now) }
     ensures fewer { meter.new.left ≤ meter.old.left }
 {

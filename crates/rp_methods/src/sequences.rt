@@ -2,6 +2,7 @@
 #![tactic(auto, using(rp_store::proofs::Shapes::goes_on))]
 
 ghost use Rattle.std.specs.Prelude.{◌≡◌, ◌<◌, ◌≤◌, length, IfOk, OnErr};
+ghost use Rattle.rp_store.specs.Counters.{KeepsCounters};
 ghost use Rattle.rp_store.specs.Heap.{IsHeld, Names, elements_at};
 ghost use Rattle.rp_store.specs.Kept.{IsSound};
 ghost use Rattle.rp_store.specs.Parts.{IsList};
@@ -28,7 +29,8 @@ pub(crate) fn index(
     args: &[Value],
 ) -> Result<Value, OpEnd>
     requires { IsHeld store.now.heap at }
-    ensures plain { Meets result (state_of store.now meter.new.left) (index at args.now (state_of store.now meter.old.left)) }
+    ensures plain { Meets result (state_of store.now meter.new.left)
+        (index at args.now (state_of store.now meter.old.left)) }
     ensures sound { IfOk result (λ v. IsSound store.now.heap v) }
     ensures fewer { meter.new.left ≤ meter.old.left }
 {
@@ -45,7 +47,8 @@ fn index_in(
     elements: &[Value],
     x: &Value,
 ) -> Result<Value, OpEnd>
-    ensures plain { Meets result (state_of store.now meter.new.left) (on_value (sought 0 x.now elements.now (state_of store.now meter.old.left)) (λ n s. gives (number n) s)) }
+    ensures plain { Meets result (state_of store.now meter.new.left)
+        (on_value (sought 0 x.now elements.now (state_of store.now meter.old.left)) (λ n s. gives (number n) s)) }
     ensures sound { IfOk result (λ v. IsSound store.now.heap v) }
     ensures fewer { meter.new.left ≤ meter.old.left }
 {
@@ -62,7 +65,8 @@ pub(crate) fn count(
     args: &[Value],
 ) -> Result<Value, OpEnd>
     requires { IsHeld store.now.heap at }
-    ensures plain { Meets result (state_of store.now meter.new.left) (count at args.now (state_of store.now meter.old.left)) }
+    ensures plain { Meets result (state_of store.now meter.new.left)
+        (count at args.now (state_of store.now meter.old.left)) }
     ensures sound { IfOk result (λ v. IsSound store.now.heap v) }
     ensures fewer { meter.new.left ≤ meter.old.left }
 {
@@ -79,7 +83,8 @@ fn count_in(
     elements: &[Value],
     x: &Value,
 ) -> Result<Value, OpEnd>
-    ensures plain { Meets result (state_of store.now meter.new.left) (on_value (counted 0 x.now elements.now (state_of store.now meter.old.left)) (λ n s. gives (number n) s)) }
+    ensures plain { Meets result (state_of store.now meter.new.left)
+        (on_value (counted 0 x.now elements.now (state_of store.now meter.old.left)) (λ n s. gives (number n) s)) }
     ensures sound { IfOk result (λ v. IsSound store.now.heap v) }
     ensures fewer { meter.new.left ≤ meter.old.left }
 {
@@ -97,11 +102,13 @@ pub(crate) fn remove(
 ) -> Result<Value, OpEnd>
     requires held { IsHeld store.old.heap at }
     requires list { Names store.old.heap IsList at }
-    ensures plain { Meets result (state_of store.new meter.new.left) (remove at args.now (state_of store.old meter.old.left)) }
+    ensures plain { Meets result (state_of store.new meter.new.left)
+        (remove at args.now (state_of store.old meter.old.left)) }
     ensures sound { IfOk result (λ v. IsSound store.new.heap v) }
     ensures shape { KeepsShape store.old.heap store.new.heap }
     ensures same { OnErr result (store.new ≡ store.old) }
     ensures fewer { meter.new.left ≤ meter.old.left }
+    ensures counters { KeepsCounters store.old store.new }
 {
     let [x] = args else {
         return Err(Fault::Arguments.end(alloc));
@@ -118,11 +125,14 @@ fn remove_first(
 ) -> Result<Value, OpEnd>
     requires held { IsHeld store.old.heap at }
     requires list { Names store.old.heap IsList at }
-    ensures plain { Meets result (state_of store.new meter.new.left) (on_value (sought 0 x.now (elements_at store.old.heap at) (state_of store.old meter.old.left)) (λ p s. gives none (with_change s at (without_element p)))) }
+    ensures plain { Meets result (state_of store.new meter.new.left)
+        (on_value (sought 0 x.now (elements_at store.old.heap at) (state_of store.old meter.old.left))
+        (λ p s. gives none (with_change s at (without_element p)))) }
     ensures sound { IfOk result (λ v. IsSound store.new.heap v) }
     ensures shape { KeepsShape store.old.heap store.new.heap }
     ensures same { OnErr result (store.new ≡ store.old) }
     ensures fewer { meter.new.left ≤ meter.old.left }
+    ensures counters { KeepsCounters store.old store.new }
 {
     let place = place_of(alloc, store, meter, list_at(store, at), x)?;
     drop_at(store, at, place);
@@ -135,6 +145,7 @@ fn drop_at(store: &mut Store, at: Oid, place: usize)
     requires place { place < length (elements_at store.old.heap at) }
     ensures dropped { store.new ≡ written store.old at (without_element place) }
     ensures shape { KeepsShape store.old.heap store.new.heap }
+    ensures counters { KeepsCounters store.old store.new }
 {
     let _removed = store.remove_at(at, place);
 }

@@ -1,8 +1,10 @@
 //! The methods of texts that make a list of texts.
 #![tactic(auto, using(rp_store::proofs::Shapes::goes_on))]
 
-ghost use Rattle.std.specs.Prelude.{◌≡◌, ◌≤◌, ◌<◌, ◌+◌, ◌++◌, ◌∷◌, [], ℕ, chars, encode_utf8_all, length, map, IfNone, IfOk, IfSome, OnOk};
+ghost use Rattle.std.specs.Prelude.{◌≡◌, ◌<◌, ◌+◌, ◌++◌, ◌∷◌, [], ℕ, chars, encode_utf8_all, length, map, IfNone, IfOk};
+ghost use Rattle.std.specs.Prelude.{IfSome, OnOk};
 ghost use Rattle.std.specs.List.{concat};
+ghost use Rattle.rp_store.specs.Counters.{KeepsCounters};
 ghost use Rattle.rp_store.specs.Kept.{AreSound, IsSound};
 ghost use Rattle.rp_store.specs.Object as object;
 ghost use Rattle.rp_store.specs.Shape.{KeepsShape};
@@ -28,9 +30,11 @@ pub(crate) fn split(
     text: &Text,
     args: &[Value],
 ) -> Result<Value, OpEnd>
-    ensures plain { (steps : ℕ) → Meets result (state_of store.new steps) (split side text.now args.now (state_of store.old steps)) }
+    ensures plain { (steps : ℕ) → Meets result (state_of store.new steps)
+        (split side text.now args.now (state_of store.old steps)) }
     ensures sound { IfOk result (λ v. IsSound store.new.heap v) }
     ensures shape { KeepsShape store.old.heap store.new.heap }
+    ensures counters { KeepsCounters store.old store.new }
 {
     match args {
         [] => split_words(alloc, store, side, text),
@@ -46,9 +50,11 @@ fn split_value(
     text: &Text,
     part: &Value,
 ) -> Result<Value, OpEnd>
-    ensures plain { (steps : ℕ) → Meets result (state_of store.new steps) (on_text part.now (state_of store.old steps) (λ u s. split_by side text.now u s)) }
+    ensures plain { (steps : ℕ) → Meets result (state_of store.new steps)
+        (on_text part.now (state_of store.old steps) (λ u s. split_by side text.now u s)) }
     ensures sound { IfOk result (λ v. IsSound store.new.heap v) }
     ensures shape { KeepsShape store.old.heap store.new.heap }
+    ensures counters { KeepsCounters store.old store.new }
 {
     match text_of(part) {
         Some(part) => split_by(alloc, store, side, text, part),
@@ -63,9 +69,11 @@ fn split_by(
     text: &Text,
     part: &Text,
 ) -> Result<Value, OpEnd>
-    ensures plain { (steps : ℕ) → Meets result (state_of store.new steps) (split_by side text.now part.now (state_of store.old steps)) }
+    ensures plain { (steps : ℕ) → Meets result (state_of store.new steps)
+        (split_by side text.now part.now (state_of store.old steps)) }
     ensures sound { IfOk result (λ v. IsSound store.new.heap v) }
     ensures shape { KeepsShape store.old.heap store.new.heap }
+    ensures counters { KeepsCounters store.old store.new }
 {
     if !is_some(part) {
         return Err(Fault::Empty.end(alloc));
@@ -81,18 +89,22 @@ fn split_some(
     part: &Text,
 ) -> Result<Value, OpEnd>
     requires { 0 < length part.now }
-    ensures plain { (steps : ℕ) → Meets result (state_of store.new steps) (texts_listed side (pieces part.now text.now) (state_of store.old steps)) }
+    ensures plain { (steps : ℕ) → Meets result (state_of store.new steps)
+        (texts_listed side (pieces part.now text.now) (state_of store.old steps)) }
     ensures sound { IfOk result (λ v. IsSound store.new.heap v) }
     ensures shape { KeepsShape store.old.heap store.new.heap }
+    ensures counters { KeepsCounters store.old store.new }
 {
     let values = pieces_of(alloc, text.as_str(), part.as_str())?;
     list_texts(store, side, values)
 }
 
 fn split_words(alloc: Global, store: &mut Store, side: Side, text: &Text) -> Result<Value, OpEnd>
-    ensures plain { (steps : ℕ) → Meets result (state_of store.new steps) (texts_listed side (words text.now) (state_of store.old steps)) }
+    ensures plain { (steps : ℕ) → Meets result (state_of store.new steps)
+        (texts_listed side (words text.now) (state_of store.old steps)) }
     ensures sound { IfOk result (λ v. IsSound store.new.heap v) }
     ensures shape { KeepsShape store.old.heap store.new.heap }
+    ensures counters { KeepsCounters store.old store.new }
 {
     let values = words_of(alloc, text.as_str())?;
     list_texts(store, side, values)
@@ -143,9 +155,11 @@ fn push_text(alloc: Global, all: &mut Vec<Value>, text: &str) -> Result<(), Memo
 /// A list of texts of a side, for its cells and a cell for each of their bytes.
 fn list_texts(store: &mut Store, side: Side, values: Vec<Value>) -> Result<Value, OpEnd>
     requires { values.items ≡ map text_value (map letters_of values.items) }
-    ensures plain { (steps : ℕ) → Meets result (state_of store.new steps) (texts_listed side (map letters_of values.items) (state_of store.old steps)) }
+    ensures plain { (steps : ℕ) → Meets result (state_of store.new steps)
+        (texts_listed side (map letters_of values.items) (state_of store.old steps)) }
     ensures sound { IfOk result (λ v. IsSound store.new.heap v) }
     ensures shape { KeepsShape store.old.heap store.new.heap }
+    ensures counters { KeepsCounters store.old store.new }
 {
     let Some(bytes) = bytes_within(values.as_slice(), room_in(store)) else {
         return Err(OpEnd::StopCells);
@@ -158,9 +172,12 @@ fn list_texts(store: &mut Store, side: Side, values: Vec<Value>) -> Result<Value
 /// A list of a side, whose cells are used already.
 fn add_list(store: &mut Store, side: Side, values: Vec<Value>) -> Result<Value, Memory>
     requires { AreSound store.old.heap values.items }
-    ensures plain { (steps : ℕ) → IfOk result (λ v. gives (next_object (state_of store.old steps)) (with_added side (object.list values.items) (state_of store.old steps)) ≡ gives v (state_of store.new steps)) }
+    ensures plain { (steps : ℕ) → IfOk result
+        (λ v. gives (next_object (state_of store.old steps))
+        (with_added side (object.list values.items) (state_of store.old steps)) ≡ gives v (state_of store.new steps)) }
     ensures sound { IfOk result (λ v. IsSound store.new.heap v) }
     ensures shape { KeepsShape store.old.heap store.new.heap }
+    ensures counters { KeepsCounters store.old store.new }
 {
     let at = store.add(side, Object::List(values))?;
     Ok(Value::Ref(at))

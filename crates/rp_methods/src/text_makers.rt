@@ -1,6 +1,8 @@
 //! The methods of texts that make a text.
 
-ghost use Rattle.std.specs.Prelude.{◌≡◌, ◌≤◌, ◌<◌, ◌+◌, ◌++◌, ℕ, List, chars, encode_utf8_all, length, map, string_bytes, IfNone, IfOk, IfSome, OnOk};
+ghost use Rattle.std.specs.Prelude.{◌≡◌, ◌≤◌, ◌<◌, ◌+◌, ◌++◌, ℕ, List, chars, encode_utf8_all, length, map};
+ghost use Rattle.std.specs.Prelude.{string_bytes, IfNone, IfOk, IfSome, OnOk};
+ghost use Rattle.rp_store.specs.Counters.{KeepsCounters};
 ghost use Rattle.rp_store.specs.Heap.{Owned};
 ghost use Rattle.std.specs.Bool.{MatchBool};
 ghost use Rattle.std.specs.List.{list_all};
@@ -9,7 +11,8 @@ ghost use Rattle.rp_store.specs.Kept.{AreSound, IsSound};
 ghost use Rattle.rp_ops.specs.Outcome.{Meets, on_value, state_of};
 ghost use Rattle.rp_ops.specs.Walk.{elements};
 ghost use Rattle.rp_ops.specs.Binary.{new_text};
-ghost use Rattle.rp_methods.specs.Texts.{is_text, join, joined, joined_all, letters_of, on_text, pieces, preceded, replace, replace_text, strip};
+ghost use Rattle.rp_methods.specs.Texts.{is_text, join, joined, joined_all, letters_of, on_text, pieces, preceded};
+ghost use Rattle.rp_methods.specs.Texts.{replace, replace_text, strip};
 
 use crate::fault::Fault;
 use crate::text_pieces::cut;
@@ -26,9 +29,11 @@ pub(crate) fn strip(
     text: &Text,
     args: &[Value],
 ) -> Result<Value, OpEnd>
-    ensures plain { (steps : ℕ) → Meets result (state_of store.new steps) (strip text.now args.now (state_of store.old steps)) }
+    ensures plain { (steps : ℕ) → Meets result (state_of store.new steps)
+        (strip text.now args.now (state_of store.old steps)) }
     ensures same { store.new.heap ≡ store.old.heap }
     ensures sound { (heap : List Owned) → IfOk result (λ v. IsSound heap v) }
+    ensures counters { KeepsCounters store.old store.new }
 {
     let [] = args else {
         return Err(Fault::Arguments.end(alloc));
@@ -52,10 +57,12 @@ pub(crate) fn join(
     args: &[Value],
 ) -> Result<Value, OpEnd>
     requires { AreSound store.old.heap args.now }
-    ensures plain { Meets result (state_of store.new meter.new.left) (join text.now args.now (state_of store.old meter.old.left)) }
+    ensures plain { Meets result (state_of store.new meter.new.left)
+        (join text.now args.now (state_of store.old meter.old.left)) }
     ensures same { store.new.heap ≡ store.old.heap }
     ensures sound { (heap : List Owned) → IfOk result (λ v. IsSound heap v) }
     ensures fewer { meter.new.left ≤ meter.old.left }
+    ensures counters { KeepsCounters store.old store.new }
 {
     let [w] = args else {
         return Err(Fault::Arguments.end(alloc));
@@ -71,19 +78,23 @@ fn join_walked(
     w: &Value,
 ) -> Result<Value, OpEnd>
     requires { IsSound store.old.heap w.now }
-    ensures plain { Meets result (state_of store.new meter.new.left) (on_value (elements w.now (state_of store.old meter.old.left)) (λ vs s. joined_all text.now vs s)) }
+    ensures plain { Meets result (state_of store.new meter.new.left)
+        (on_value (elements w.now (state_of store.old meter.old.left)) (λ vs s. joined_all text.now vs s)) }
     ensures same { store.new.heap ≡ store.old.heap }
     ensures sound { (heap : List Owned) → IfOk result (λ v. IsSound heap v) }
     ensures fewer { meter.new.left ≤ meter.old.left }
+    ensures counters { KeepsCounters store.old store.new }
 {
     let values = elements(alloc, store, meter, w)?;
     join_all(alloc, store, text, values.as_slice())
 }
 
 fn join_all(alloc: Global, store: &mut Store, text: &Text, values: &[Value]) -> Result<Value, OpEnd>
-    ensures plain { (steps : ℕ) → Meets result (state_of store.new steps) (joined_all text.now values.now (state_of store.old steps)) }
+    ensures plain { (steps : ℕ) → Meets result (state_of store.new steps)
+        (joined_all text.now values.now (state_of store.old steps)) }
     ensures same { store.new.heap ≡ store.old.heap }
     ensures sound { (heap : List Owned) → IfOk result (λ v. IsSound heap v) }
+    ensures counters { KeepsCounters store.old store.new }
 {
     if !are_texts(values) {
         return Err(Fault::Argument.end(alloc));
@@ -111,9 +122,11 @@ fn join_texts(
     text: &Text,
     values: &[Value],
 ) -> Result<Value, OpEnd>
-    ensures plain { (steps : ℕ) → Meets result (state_of store.new steps) (new_text (joined text.now (map letters_of values.now)) (state_of store.old steps)) }
+    ensures plain { (steps : ℕ) → Meets result (state_of store.new steps)
+        (new_text (joined text.now (map letters_of values.now)) (state_of store.old steps)) }
     ensures same { store.new.heap ≡ store.old.heap }
     ensures sound { (heap : List Owned) → IfOk result (λ v. IsSound heap v) }
+    ensures counters { KeepsCounters store.old store.new }
 {
     let room = room_in(store);
     let Some(made) = joined(alloc, text, values, room)? else {
@@ -139,8 +152,10 @@ fn joined(
     values: &[Value],
     room: u64,
 ) -> Result<Option<String>, Memory>
-    ensures joined { IfOk result (λ r. IfSome r (λ s. string_bytes s ≡ encode_utf8_all (joined between.now (map letters_of values.now)))) }
-    ensures over { IfOk result (λ r. IfNone r (room < length (encode_utf8_all (joined between.now (map letters_of values.now))))) }
+    ensures joined { IfOk result (λ r. IfSome r (λ s. string_bytes s
+        ≡ encode_utf8_all (joined between.now (map letters_of values.now)))) }
+    ensures over { IfOk result (λ r. IfNone r
+        (room < length (encode_utf8_all (joined between.now (map letters_of values.now))))) }
 {
     let Some((first, others)) = values.split_first() else {
         return Ok(Some(String::new(alloc)));
@@ -162,7 +177,9 @@ fn push_others(
     others: &[Value],
     room: u64,
 ) -> Result<bool, Memory>
-    ensures { IfOk result (λ all_put. MatchBool all_put (string_bytes all.new ≡ string_bytes all.old ++ encode_utf8_all (preceded between.now (map letters_of others.now))) (room < length (string_bytes all.old ++ encode_utf8_all (preceded between.now (map letters_of others.now))))) }
+    ensures { IfOk result (λ all_put. MatchBool all_put (string_bytes all.new
+        ≡ string_bytes all.old ++ encode_utf8_all (preceded between.now (map letters_of others.now)))
+        (room < length (string_bytes all.old ++ encode_utf8_all (preceded between.now (map letters_of others.now))))) }
 {
     for value in others {
         push_next(all, between, value)?;
@@ -178,7 +195,8 @@ fn push_others(
 /// # Errors
 /// `Memory` where a growth was refused.
 fn push_next(all: &mut String, between: &Text, value: &Value) -> Result<(), Memory>
-    ensures { OnOk result (string_bytes all.new ≡ string_bytes all.old ++ encode_utf8_all (between.now ++ letters_of value.now)) }
+    ensures { OnOk result (string_bytes all.new
+        ≡ string_bytes all.old ++ encode_utf8_all (between.now ++ letters_of value.now)) }
 {
     all.push_str(bytes(between))?;
     all.push_str(bytes_of(value))?;
@@ -192,9 +210,11 @@ pub(crate) fn replace(
     text: &Text,
     args: &[Value],
 ) -> Result<Value, OpEnd>
-    ensures plain { (steps : ℕ) → Meets result (state_of store.new steps) (replace text.now args.now (state_of store.old steps)) }
+    ensures plain { (steps : ℕ) → Meets result (state_of store.new steps)
+        (replace text.now args.now (state_of store.old steps)) }
     ensures same { store.new.heap ≡ store.old.heap }
     ensures sound { (heap : List Owned) → IfOk result (λ v. IsSound heap v) }
+    ensures counters { KeepsCounters store.old store.new }
 {
     let [from, to] = args else {
         return Err(Fault::Arguments.end(alloc));
@@ -209,9 +229,11 @@ fn replace_values(
     from: &Value,
     to: &Value,
 ) -> Result<Value, OpEnd>
-    ensures plain { (steps : ℕ) → Meets result (state_of store.new steps) (on_text from.now (state_of store.old steps) (λ a s. on_text to.now s (λ b s. replace_text text.now a b s))) }
+    ensures plain { (steps : ℕ) → Meets result (state_of store.new steps)
+        (on_text from.now (state_of store.old steps) (λ a s. on_text to.now s (λ b s. replace_text text.now a b s))) }
     ensures same { store.new.heap ≡ store.old.heap }
     ensures sound { (heap : List Owned) → IfOk result (λ v. IsSound heap v) }
+    ensures counters { KeepsCounters store.old store.new }
 {
     let Some(from) = text_of(from) else {
         return Err(Fault::Argument.end(alloc));
@@ -229,9 +251,11 @@ fn replace_text(
     from: &Text,
     to: &Text,
 ) -> Result<Value, OpEnd>
-    ensures plain { (steps : ℕ) → Meets result (state_of store.new steps) (replace_text text.now from.now to.now (state_of store.old steps)) }
+    ensures plain { (steps : ℕ) → Meets result (state_of store.new steps)
+        (replace_text text.now from.now to.now (state_of store.old steps)) }
     ensures same { store.new.heap ≡ store.old.heap }
     ensures sound { (heap : List Owned) → IfOk result (λ v. IsSound heap v) }
+    ensures counters { KeepsCounters store.old store.new }
 {
     if !is_some(from) {
         return Err(Fault::Empty.end(alloc));
@@ -247,9 +271,11 @@ fn replace_some(
     to: &Text,
 ) -> Result<Value, OpEnd>
     requires { 0 < length from.now }
-    ensures plain { (steps : ℕ) → Meets result (state_of store.new steps) (new_text (joined to.now (pieces from.now text.now)) (state_of store.old steps)) }
+    ensures plain { (steps : ℕ) → Meets result (state_of store.new steps)
+        (new_text (joined to.now (pieces from.now text.now)) (state_of store.old steps)) }
     ensures same { store.new.heap ≡ store.old.heap }
     ensures sound { (heap : List Owned) → IfOk result (λ v. IsSound heap v) }
+    ensures counters { KeepsCounters store.old store.new }
 {
     let room = room_in(store);
     let Some(made) = replaced(alloc, text.as_str(), from.as_str(), to.as_str(), room)? else {
@@ -270,8 +296,10 @@ fn replaced(
     room: u64,
 ) -> Result<Option<String>, Memory>
     requires { 0 < length (chars from.now) }
-    ensures replaced { IfOk result (λ r. IfSome r (λ s. string_bytes s ≡ encode_utf8_all (joined (chars to.now) (pieces (chars from.now) (chars text.now))))) }
-    ensures over { IfOk result (λ r. IfNone r (room < length (encode_utf8_all (joined (chars to.now) (pieces (chars from.now) (chars text.now)))))) }
+    ensures replaced { IfOk result (λ r. IfSome r (λ s. string_bytes s
+        ≡ encode_utf8_all (joined (chars to.now) (pieces (chars from.now) (chars text.now))))) }
+    ensures over { IfOk result (λ r. IfNone r
+        (room < length (encode_utf8_all (joined (chars to.now) (pieces (chars from.now) (chars text.now)))))) }
 {
     let mut all = String::new(alloc);
     let mut rest = text;

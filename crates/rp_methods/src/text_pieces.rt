@@ -17,7 +17,8 @@ use std::alloc::Global;
 /// What stands before the first place of a part in a text, and what stands behind it.
 pub(crate) fn cut<'a>(text: &'a str, part: &str) -> Option<(&'a str, &'a str)>
     requires { 0 < length (chars part.now) }
-    ensures cut { MatchOption result (pieces (chars part.now) (chars text.now) ≡ chars text.now ∷ []) (λ p. pieces (chars part.now) (chars text.now) ≡ chars p.0.now ∷ pieces (chars part.now) (chars p.1.now)) }
+    ensures cut { MatchOption result (pieces (chars part.now) (chars text.now) ≡ chars text.now ∷ [])
+        (λ p. pieces (chars part.now) (chars text.now) ≡ chars p.0.now ∷ pieces (chars part.now) (chars p.1.now)) }
     ensures shorter { IfSome result (λ p. length p.0.now + length p.1.now < length text.now) }
     ensures utf8 { IfSome result (λ p. IsUtf8 p.0.now × IsUtf8 p.1.now) }
 {
@@ -31,7 +32,8 @@ pub(crate) fn cut<'a>(text: &'a str, part: &str) -> Option<(&'a str, &'a str)>
 fn cut_at<'a>(text: &'a str, part: &str, at: usize) -> (&'a str, &'a str)
     requires part { 0 < length (chars part.now) }
     requires found { MatchBeginsAt (FindsText part.now) text.now at }
-    ensures cut { pieces (chars part.now) (chars text.now) ≡ chars result.0.now ∷ pieces (chars part.now) (chars result.1.now) }
+    ensures cut { pieces (chars part.now) (chars text.now)
+        ≡ chars result.0.now ∷ pieces (chars part.now) (chars result.1.now) }
     ensures shorter { length result.0.now + length result.1.now < length text.now }
     ensures utf8 { IsUtf8 result.0.now × IsUtf8 result.1.now }
 {

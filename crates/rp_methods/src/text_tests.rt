@@ -1,6 +1,7 @@
 //! The methods of texts that make no text.
 
-ghost use Rattle.std.specs.Prelude.{◌≡◌, ◌<◌, ◌≤◌, ◌&&◌, List, chars, encode_utf8_all, length, take, pos, FitsSigned, IfOk, IfSome, IsTrue, SomeIff};
+ghost use Rattle.std.specs.Prelude.{◌≡◌, ◌<◌, ◌≤◌, ◌&&◌, List, chars, encode_utf8_all, length, take, pos, FitsSigned};
+ghost use Rattle.std.specs.Prelude.{IfOk, IfSome, IsTrue, SomeIff};
 ghost use Rattle.std.specs.Int.{w64};
 ghost use Rattle.std.specs.Str.{IsCharBoundary};
 ghost use Rattle.std.specs.List.{list_all};
@@ -11,7 +12,8 @@ ghost use Rattle.rp_ops.specs.Operand.{is_some_element};
 ghost use Rattle.rp_ops.specs.Outcome.{Meets, State};
 ghost use Rattle.rp_compare.specs.Membership.{begins};
 ghost use Rattle.rp_methods.specs.Lists.{number};
-ghost use Rattle.rp_methods.specs.Texts.{ends, endswith, find, is_digit, isdigit, letters_of, place_in, place_number, rock_text, startswith, text_in};
+ghost use Rattle.rp_methods.specs.Texts.{ends, endswith, find, is_digit, isdigit, letters_of, place_in, place_number};
+ghost use Rattle.rp_methods.specs.Texts.{rock_text, startswith, text_in};
 
 use crate::fault::Fault;
 use rp_base::{Memory, OpEnd, Rock, Text, Value};

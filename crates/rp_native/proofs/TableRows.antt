@@ -2,10 +2,10 @@
 use Rattle.std.proofs.Common.{◌≡◌, ℕ, zero, suc, ◌+◌, ◌-◌, ◌*◌, ◌<◌, ◌≤◌, ◌^◌, min, List, [], ◌∷◌, ◌++◌, append_assoc, append-nil, length, map, Result, Ok, Err, IsErrAnd, pos, refl, sym, ap, subst, ◌∙◌, arith}
 use Rattle.std.specs.declared.alloc.Global.{Global}
 use Rattle.std.specs.declared.vec.Vec.{Vec}
-use Rattle.std.specs.List.{All, range_with_len, sum_by}
+use Rattle.std.specs.List.{All, sum_by}
 use Rattle.std.proofs.Math.Nat.{mul-le-mul_left}
 use Rattle.std.proofs.lemmas.List.{length-append, length-map, map-append}
-use Rattle.std.proofs.lemmas.List.Elements.{All-append, All-cons, All-head, All-map, All-nil, All-tail, All-weaker}
+use Rattle.std.proofs.lemmas.List.Elements.{All-append, All-cons, All-head, All-nil, All-tail}
 use Rattle.std.proofs.lemmas.List.FromFn.{map-range_with_len_more}
 use Rattle.std.proofs.lemmas.List.Sums.{sum_by-cons}
 use Rattle.rp_base.specs.declared.value.OpEnd.{OpEnd}
@@ -20,7 +20,7 @@ use Rattle.rp_store.specs.Object as object
 use Rattle.rp_store.specs.Object.{Content}
 use Rattle.rp_store.specs.Store.{Cells, IsOver, added}
 use Rattle.rp_ops.specs.Growth.{Gains}
-use Rattle.rp_ops.specs.Outcome.{Meets, Outcome, State, charged, ends, gives, no_cell, state_of}
+use Rattle.rp_ops.specs.Outcome.{Meets, ends, gives, no_cell, state_of}
 use Rattle.rp_ops.proofs.CallerLemmas.{charged-over, charged-within, used}
 use Rattle.rp_native.specs.Objects.{IsContainer, IsContainerOf}
 use Rattle.rp_native.specs.Tables.{makes_table, numbered, references, table, table_cells, tuple_of, with_table, with_tuples}

@@ -1,18 +1,14 @@
 -- Values that are all numbers or all texts are ordered by their keys.
-use Rattle.std.proofs.Common.{◌≡◌, ℤ, int_lt, pos, Bool, true, false, cond, ◌||◌, List, encode_utf8_all, refl, sym, ap, ◌∙◌}
+use Rattle.std.proofs.Common.{◌≡◌, ℤ, int_lt, pos, Bool, true, false, cond, ◌||◌, List, encode_utf8_all, refl}
 use Rattle.std.specs.Cmp.{IsStrictWeakOrder}
-use Rattle.std.specs.Cmp.Lexicographic.{slice_cmp}
 use Rattle.std.specs.List.{list_all}
-use Rattle.std.specs.Option.{option_map_or}
-use Rattle.std.specs.Ordering.{int_cmp, is_lt, nat_cmp, ordering_then}
+use Rattle.std.specs.Ordering.{int_cmp, is_lt, ordering_then}
 use Rattle.std.specs.declared.cmp.Ordering.TheVariants.{Less, Equal, Greater}
 use Rattle.std.proofs.lemmas.Cmp.{int_cmp_total, nat_list_cmp_total, on_total, then_total}
 use Rattle.std.proofs.lemmas.List.MinMax.{ranks_by}
 use Rattle.rp_base.specs.declared.value.Rock.TheVariants as rock
 use Rattle.rp_base.specs.declared.value.Value.{Value}
 use Rattle.rp_base.specs.declared.value.Value.TheVariants as value
-use Rattle.rp_ops.specs.Keys.{index_number}
-use Rattle.rp_compare.specs.Order.{less, numbers_less}
 use Rattle.rp_native.specs.Extremes.{have_order, is_less, is_text}
 use Rattle.rp_native.specs.OrderSteps.{goes_first, number_key, text_key}
 use Rattle.rp_native.specs.Sorted.{in_order}

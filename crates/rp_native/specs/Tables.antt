@@ -1,6 +1,6 @@
 -- Lists of tuples (Python Standard Library, Built-in Functions: enumerate and zip). The list and its tuples are charged together, before any is made. Other
 -- way: the tuples and the list stand behind the heap as one list of objects; the code adds one after another.
-use Rattle.std.specs.Prelude.{ℕ, ℤ, pos, ◌+◌, List, [], ◌∷◌, ◌++◌, length, map, sum_by}
+use Rattle.std.specs.Prelude.{ℕ, pos, ◌+◌, List, [], ◌∷◌, ◌++◌, length, map, sum_by}
 use Rattle.std.specs.List.{range_with_len}
 use Rattle.rp_base.specs.declared.value.Rock.TheVariants as rock
 use Rattle.rp_base.specs.declared.value.Side.{Side}

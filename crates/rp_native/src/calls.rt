@@ -1,5 +1,6 @@
 //! Calls of the built-in functions.
 ghost use Rattle.std.specs.Prelude.{◌≡◌, ◌≤◌, ℕ, List, IfOk, IsTrue};
+ghost use Rattle.rp_store.specs.Counters.{KeepsCounters};
 ghost use Rattle.rp_store.specs.Heap.{Owned};
 ghost use Rattle.rp_store.specs.Kept.{AreSound, IsSound};
 ghost use Rattle.rp_store.specs.Shape.{KeepsShape};
@@ -44,7 +45,7 @@ use std::slice;
 /// - `Raised` with `OverflowError` and the text `int`, where a number is outside 64 bits, and with what showing raises.
 /// - `StopSteps` where no step is left, `StopCells` where the cells are over the limit.
 /// - `Memory` where a growth was refused, there is none for the text of the exception, or the count of a text's owners
-///   is full.
+///   is full. Then cells may be used; the limit stays, and no used cell is given back.
 pub fn call_native(
     alloc: Global,
     store: &mut Store,
@@ -56,11 +57,13 @@ pub fn call_native(
 ) -> Result<Value, OpEnd>
     requires called_here { IsTrue (is_called_here id) }
     requires sound { AreSound store.old.heap args.now }
-    ensures plain { Meets result (state_of store.new meter.new.left) (function names.now side id args.now (state_of store.old meter.old.left)) }
+    ensures plain { Meets result (state_of store.new meter.new.left)
+        (function names.now side id args.now (state_of store.old meter.old.left)) }
     ensures sound { IfOk result (λ v. IsSound store.new.heap v) }
     ensures grown { Gains (IsContainerOf side) store.old.heap store.new.heap }
     ensures shape { KeepsShape store.old.heap store.new.heap }
     ensures fewer { meter.new.left ≤ meter.old.left }
+    ensures counters { KeepsCounters store.old store.new }
 {
     if !is_function(id) {
         return Err(Fault::Call.end(alloc));
@@ -85,10 +88,12 @@ fn none_given(
     side: Side,
     id: NativeId,
 ) -> Result<Value, OpEnd>
-    ensures plain { Meets result (state_of store.new meter.new.left) (none_given side id (state_of store.old meter.old.left)) }
+    ensures plain { Meets result (state_of store.new meter.new.left)
+        (none_given side id (state_of store.old meter.old.left)) }
     ensures sound { IfOk result (λ v. IsSound store.new.heap v) }
     ensures grown { Gains (IsContainerOf side) store.old.heap store.new.heap }
     ensures fewer { meter.new.left ≤ meter.old.left }
+    ensures counters { KeepsCounters store.old store.new }
 {
     match id {
         NativeId::List => new_container(store, side, Object::List(Vec::new(alloc))),
@@ -103,7 +108,7 @@ fn none_given(
 }
 
 /// A function of one argument.
-#[tactic(auto, using(crate::proofs::Growths::growths))]
+#[tactic(auto, using(rp_store::proofs::Shapes::goes_on, crate::proofs::Growths::growths))]
 fn one_given(
     alloc: Global,
     store: &mut Store,
@@ -114,10 +119,12 @@ fn one_given(
     value: &Value,
 ) -> Result<Value, OpEnd>
     requires sound { IsSound store.old.heap value.now }
-    ensures plain { Meets result (state_of store.new meter.new.left) (one_given names.now side id value.now (state_of store.old meter.old.left)) }
+    ensures plain { Meets result (state_of store.new meter.new.left)
+        (one_given names.now side id value.now (state_of store.old meter.old.left)) }
     ensures sound { IfOk result (λ v. IsSound store.new.heap v) }
     ensures grown { Gains (IsContainerOf side) store.old.heap store.new.heap }
     ensures fewer { meter.new.left ≤ meter.old.left }
+    ensures counters { KeepsCounters store.old store.new }
 {
     match id {
         NativeId::Len => len(alloc, store, value),
@@ -141,7 +148,7 @@ fn one_given(
 }
 
 /// A function of two arguments or more.
-#[tactic(auto, using(crate::proofs::Growths::growths))]
+#[tactic(auto, using(rp_store::proofs::Shapes::goes_on, crate::proofs::Growths::growths))]
 fn more_given(
     alloc: Global,
     store: &mut Store,
@@ -151,10 +158,12 @@ fn more_given(
     args: &[Value],
 ) -> Result<Value, OpEnd>
     requires sound { AreSound store.old.heap args.now }
-    ensures plain { Meets result (state_of store.new meter.new.left) (more_given side id args.now (state_of store.old meter.old.left)) }
+    ensures plain { Meets result (state_of store.new meter.new.left)
+        (more_given side id args.now (state_of store.old meter.old.left)) }
     ensures sound { IfOk result (λ v. IsSound store.new.heap v) }
     ensures grown { Gains (IsContainerOf side) store.old.heap store.new.heap }
     ensures fewer { meter.new.left ≤ meter.old.left }
+    ensures counters { KeepsCounters store.old store.new }
 {
     match id {
         NativeId::Min => chosen(alloc, Extreme::Least, args),
@@ -180,10 +189,12 @@ fn text_of(
     names: &Names,
     value: &Value,
 ) -> Result<Value, OpEnd>
-    ensures plain { Meets result (state_of store.new meter.new.left) (str names.now value.now (state_of store.old meter.old.left)) }
+    ensures plain { Meets result (state_of store.new meter.new.left)
+        (str names.now value.now (state_of store.old meter.old.left)) }
     ensures same { store.new.heap ≡ store.old.heap }
     ensures sound { (heap : List Owned) → IfOk result (λ v. IsSound heap v) }
     ensures fewer { meter.new.left ≤ meter.old.left }
+    ensures counters { KeepsCounters store.old store.new }
 {
     let text = show(alloc, store, meter, names, value)?;
     Ok(Value::Rock(Rock::Text(text)))

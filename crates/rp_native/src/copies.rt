@@ -2,6 +2,7 @@
 ghost use Rattle.std.specs.Prelude.{◌≡◌, ◌≤◌, ℕ, map, All, IfOk, IfSome, OnErr, OnOk};
 ghost use Rattle.std.specs.Option.{option_map};
 ghost use Rattle.rp_dict.specs.Dict.{insert_entry};
+ghost use Rattle.rp_store.specs.Counters.{KeepsCounters};
 ghost use Rattle.rp_store.specs.Heap.{IsHeld};
 ghost use Rattle.rp_store.specs.Kept.{IsEntry, IsSound};
 ghost use Rattle.rp_store.specs.Key.{same_key};
@@ -37,11 +38,13 @@ pub(crate) fn sequence_copy(
     value: &Value,
 ) -> Result<Value, OpEnd>
     requires sound { IsSound store.old.heap value.now }
-    ensures plain { Meets result (state_of store.new meter.new.left) (sequence_copy side kind value.now (state_of store.old meter.old.left)) }
+    ensures plain { Meets result (state_of store.new meter.new.left)
+        (sequence_copy side kind value.now (state_of store.old meter.old.left)) }
     ensures sound { IfOk result (λ v. IsSound store.new.heap v) }
     ensures grown { Gains (IsContainerOf side) store.old.heap store.new.heap }
     ensures same { OnErr result (store.new.heap ≡ store.old.heap) }
     ensures fewer { meter.new.left ≤ meter.old.left }
+    ensures counters { KeepsCounters store.old store.new }
 {
     let values = elements(alloc, store, meter, value)?;
     new_container(store, side, sequence(kind, values))
@@ -62,10 +65,12 @@ pub(crate) fn dict_copy(
     value: &Value,
 ) -> Result<Value, OpEnd>
     requires sound { IsSound store.old.heap value.now }
-    ensures plain { (steps : ℕ) → Meets result (state_of store.new steps) (dict_copy side value.now (state_of store.old steps)) }
+    ensures plain { (steps : ℕ) → Meets result (state_of store.new steps)
+        (dict_copy side value.now (state_of store.old steps)) }
     ensures sound { IfOk result (λ v. IsSound store.new.heap v) }
     ensures grown { Gains (IsContainerOf side) store.old.heap store.new.heap }
     ensures same { OnErr result (store.new ≡ store.old) }
+    ensures counters { KeepsCounters store.old store.new }
 {
     match value {
         Value::Rock(_) => Err(Fault::Argument.end(alloc)),
@@ -82,10 +87,12 @@ fn object_copy(
     lent: bool,
 ) -> Result<Value, OpEnd>
     requires held { IsHeld store.old.heap at }
-    ensures plain { (steps : ℕ) → Meets result (state_of store.new steps) (object_copy side lent at (state_of store.old steps)) }
+    ensures plain { (steps : ℕ) → Meets result (state_of store.new steps)
+        (object_copy side lent at (state_of store.old steps)) }
     ensures sound { IfOk result (λ v. IsSound store.new.heap v) }
     ensures grown { Gains (IsContainerOf side) store.old.heap store.new.heap }
     ensures same { OnErr result (store.new ≡ store.old) }
+    ensures counters { KeepsCounters store.old store.new }
 {
     let Some(entries) = entries_copied(alloc, store, at, lent)? else {
         return Err(Fault::Argument.end(alloc));
@@ -148,16 +155,6 @@ fn put(
     ensures { OnOk result (copy.new ≡ insert_entry same_key copy.old key.now (rock.now, handed lent value.now)) }
 {
     let entry = (rock.copy()?, handed(value, lent)?);
-    copy.set(copied_key(key)?, entry)?;
+    copy.set(key.copy()?, entry)?;
     Ok(())
-}
-
-fn copied_key(key: &Key) -> Result<Key, Memory>
-    ensures { IfOk result (λ k. k ≡ key.now) }
-{
-    Ok(match key {
-        Key::Nil => Key::Nil,
-        Key::Number(number) => Key::Number(*number),
-        Key::Text(text) => Key::Text(text.copy()?),
-    })
 }

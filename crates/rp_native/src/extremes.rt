@@ -2,6 +2,7 @@
 ghost use Rattle.std.specs.Prelude.{◌≡◌, ◌≤◌, List, false, IfOk};
 ghost use Rattle.std.specs.List.{list_all};
 ghost use Rattle.std.specs.Option.{option_map_or};
+ghost use Rattle.rp_store.specs.Counters.{KeepsCounters};
 ghost use Rattle.rp_store.specs.Heap.{Owned};
 ghost use Rattle.rp_store.specs.Kept.{AreSound, IsSound};
 ghost use Rattle.rp_ops.specs.Outcome.{Meets, State, state_of};
@@ -39,10 +40,12 @@ pub(crate) fn extreme_of(
     value: &Value,
 ) -> Result<Value, OpEnd>
     requires sound { IsSound store.old.heap value.now }
-    ensures plain { Meets result (state_of store.new meter.new.left) (extreme which value.now (state_of store.old meter.old.left)) }
+    ensures plain { Meets result (state_of store.new meter.new.left)
+        (extreme which value.now (state_of store.old meter.old.left)) }
     ensures same { store.new.heap ≡ store.old.heap }
     ensures sound { IfOk result (λ v. IsSound store.new.heap v) }
     ensures fewer { meter.new.left ≤ meter.old.left }
+    ensures counters { KeepsCounters store.old store.new }
 {
     let values = elements(alloc, store, meter, value)?;
     chosen(alloc, which, values.as_slice())

@@ -1,14 +1,12 @@
 //! Numbers: lengths, absolute values, and the numbers of texts.
 ghost use Rattle.std.specs.Prelude.{◌≡◌, List, ℕ, ℤ, pos, unsigned_abs, FitsSigned, IfOk, SomeIff};
 ghost use Rattle.std.specs.Int.{w64};
-ghost use Rattle.std.specs.Option.{option_map};
 ghost use Rattle.rp_store.specs.Heap.{Owned};
 ghost use Rattle.rp_store.specs.Kept.{IsSound};
 ghost use Rattle.rp_ops.specs.Keys.{index_number};
 ghost use Rattle.rp_ops.specs.Operand.{number_of as operand_number, rock_operand};
 ghost use Rattle.rp_ops.specs.Outcome.{Meets, State, state_of};
-ghost use Rattle.rp_native.specs.Faults.{fails};
-ghost use Rattle.rp_native.specs.Numbers.{abs, len, length_of, number_found, number_given};
+ghost use Rattle.rp_native.specs.Numbers.{abs, len, length_of, number_given};
 
 use crate::fault::Fault;
 use rp_base::{OpEnd, Rock, Value};

@@ -1,5 +1,6 @@
 //! New lists, tuples and dicts.
 ghost use Rattle.std.specs.Prelude.{◌≡◌, ℕ, List, IfOk, OnErr};
+ghost use Rattle.rp_store.specs.Counters.{KeepsCounters};
 ghost use Rattle.rp_store.specs.Heap.{Owned};
 ghost use Rattle.rp_store.specs.Kept.{AreSound, Holds, IsSound};
 ghost use Rattle.rp_store.specs.Object.{content_of};
@@ -20,10 +21,12 @@ use rp_store::{Object, Store};
 pub(crate) fn new_container(store: &mut Store, side: Side, object: Object) -> Result<Value, OpEnd>
     requires holds { Holds store.old.heap side (content_of object) }
     requires container { IsContainer (content_of object) }
-    ensures plain { (steps : ℕ) → Meets result (state_of store.new steps) (makes_object side (content_of object) (state_of store.old steps)) }
+    ensures plain { (steps : ℕ) → Meets result (state_of store.new steps)
+        (makes_object side (content_of object) (state_of store.old steps)) }
     ensures sound { IfOk result (λ v. IsSound store.new.heap v) }
     ensures grown { Gains (IsContainerOf side) store.old.heap store.new.heap }
     ensures same { OnErr result (store.new ≡ store.old) }
+    ensures counters { KeepsCounters store.old store.new }
 {
     new_object(store, side, object)
 }
@@ -31,7 +34,8 @@ pub(crate) fn new_container(store: &mut Store, side: Side, object: Object) -> Re
 /// A list or a tuple of these elements.
 pub(crate) fn sequence(kind: Sequence, elements: Vec<Value>) -> Object
     ensures content { content_of result ≡ sequence_of kind elements.items }
-    ensures holds { (heap : List Owned) (owner : Side) → AreSound heap elements.items → Holds heap owner (content_of result) }
+    ensures holds { (heap : List Owned) (owner : Side) → AreSound heap elements.items
+        → Holds heap owner (content_of result) }
     ensures container { IsContainer (content_of result) }
 {
     match kind {

@@ -4,6 +4,7 @@ ghost use Rattle.rp_ops.specs.Outcome.{Meets, state_of};
 ghost use Rattle.rp_show.specs.Show.{followed, printed, show};
 ghost use Rattle.rp_show.specs.ShowView.{Writes, added};
 ghost use Rattle.rp_native.specs.Print.{argument, further, print_line};
+ghost use Rattle.rp_store.specs.Counters.{KeepsCounters};
 
 use rp_base::{Meter, Names, OpEnd, Printed, Rock, Text, Value};
 use rp_ops::charge;
@@ -28,9 +29,11 @@ pub fn print_line(
     names: &Names,
     args: &[Value],
 ) -> Result<Text, OpEnd>
-    ensures plain { Meets result (state_of store.new meter.new.left) (print_line names.now args.now (state_of store.old meter.old.left)) }
+    ensures plain { Meets result (state_of store.new meter.new.left)
+        (print_line names.now args.now (state_of store.old meter.old.left)) }
     ensures same { store.new.heap ≡ store.old.heap }
     ensures fewer { meter.new.left ≤ meter.old.left }
+    ensures counters { KeepsCounters store.old store.new }
 {
     let mut line = Printed::new(alloc);
     print_arguments(alloc, store, meter, names, args, &mut line)?;
@@ -46,9 +49,11 @@ fn print_arguments(
     line: &mut Printed,
 ) -> Result<(), OpEnd>
     requires empty { line.old ≡ [] }
-    ensures plain { Writes result line.new (state_of store.new meter.new.left) (print_line names.now args.now (state_of store.old meter.old.left)) }
+    ensures plain { Writes result line.new (state_of store.new meter.new.left)
+        (print_line names.now args.now (state_of store.old meter.old.left)) }
     ensures same { store.new.heap ≡ store.old.heap }
     ensures fewer { meter.new.left ≤ meter.old.left }
+    ensures counters { KeepsCounters store.old store.new }
 {
     let Some((first, rest)) = args.split_first() else {
         return print_text(store, "\n", line);
@@ -66,9 +71,11 @@ fn print_further(
     args: &[Value],
     line: &mut Printed,
 ) -> Result<(), OpEnd>
-    ensures plain { Writes result line.new (state_of store.new meter.new.left) (added line.old (further names.now args.now (state_of store.old meter.old.left))) }
+    ensures plain { Writes result line.new (state_of store.new meter.new.left)
+        (added line.old (further names.now args.now (state_of store.old meter.old.left))) }
     ensures same { store.new.heap ≡ store.old.heap }
     ensures fewer { meter.new.left ≤ meter.old.left }
+    ensures counters { KeepsCounters store.old store.new }
 {
     for value in args {
         print_behind(alloc, store, meter, names, value, line)?;
@@ -85,9 +92,12 @@ fn print_behind(
     value: &Value,
     line: &mut Printed,
 ) -> Result<(), OpEnd>
-    ensures plain { Writes result line.new (state_of store.new meter.new.left) (added line.old (followed (printed (codes " ") (state_of store.old meter.old.left)) (argument names.now value.now))) }
+    ensures plain { Writes result line.new (state_of store.new meter.new.left)
+        (added line.old (followed (printed (codes " ") (state_of store.old meter.old.left))
+        (argument names.now value.now))) }
     ensures same { store.new.heap ≡ store.old.heap }
     ensures fewer { meter.new.left ≤ meter.old.left }
+    ensures counters { KeepsCounters store.old store.new }
 {
     print_text(store, " ", line)?;
     print_argument(alloc, store, meter, names, value, line)
@@ -101,9 +111,11 @@ fn print_argument(
     value: &Value,
     line: &mut Printed,
 ) -> Result<(), OpEnd>
-    ensures plain { Writes result line.new (state_of store.new meter.new.left) (added line.old (argument names.now value.now (state_of store.old meter.old.left))) }
+    ensures plain { Writes result line.new (state_of store.new meter.new.left)
+        (added line.old (argument names.now value.now (state_of store.old meter.old.left))) }
     ensures same { store.new.heap ≡ store.old.heap }
     ensures fewer { meter.new.left ≤ meter.old.left }
+    ensures counters { KeepsCounters store.old store.new }
 {
     match value {
         Value::Rock(rock) => match rock {
@@ -128,9 +140,11 @@ fn print_shown(
     value: &Value,
     line: &mut Printed,
 ) -> Result<(), OpEnd>
-    ensures plain { Writes result line.new (state_of store.new meter.new.left) (added line.old (show names.now value.now (state_of store.old meter.old.left))) }
+    ensures plain { Writes result line.new (state_of store.new meter.new.left)
+        (added line.old (show names.now value.now (state_of store.old meter.old.left))) }
     ensures same { store.new.heap ≡ store.old.heap }
     ensures fewer { meter.new.left ≤ meter.old.left }
+    ensures counters { KeepsCounters store.old store.new }
 {
     let text = show(alloc, store, meter, names, value)?;
     line.add(text.as_str())?;
@@ -142,8 +156,10 @@ fn print_shown(
 /// # Errors
 /// `StopCells` at the first character that does not fit, and `Memory` where a growth was refused.
 fn print_text(store: &mut Store, text: &str, line: &mut Printed) -> Result<(), OpEnd>
-    ensures plain { (steps : ℕ) → Writes result line.new (state_of store.new steps) (added line.old (printed (chars text.now) (state_of store.old steps))) }
+    ensures plain { (steps : ℕ) → Writes result line.new (state_of store.new steps)
+        (added line.old (printed (chars text.now) (state_of store.old steps))) }
     ensures same { store.new.heap ≡ store.old.heap }
+    ensures counters { KeepsCounters store.old store.new }
 {
     charge_text(store, text)?;
     line.add(text)?;
@@ -151,8 +167,10 @@ fn print_text(store: &mut Store, text: &str, line: &mut Printed) -> Result<(), O
 }
 
 fn charge_text(store: &mut Store, text: &str) -> Result<(), OpEnd>
-    ensures plain { (steps : ℕ) → Writes result (chars text.now) (state_of store.new steps) (printed (chars text.now) (state_of store.old steps)) }
+    ensures plain { (steps : ℕ) → Writes result (chars text.now) (state_of store.new steps)
+        (printed (chars text.now) (state_of store.old steps)) }
     ensures same { store.new.heap ≡ store.old.heap }
+    ensures counters { KeepsCounters store.old store.new }
 {
     for letter in text.chars() {
         charge(store, letter.len_utf8() as u64)?;

@@ -1,10 +1,11 @@
 //! Ranges of numbers.
-ghost use Rattle.std.specs.Prelude.{◌≡◌, ◌≢◌, ◌∷◌, [], ◌+◌, ◌<◌, ◌+ℤ◌, ◌*◌, ◌*ℤ◌, ℕ, List, pos, unsigned_abs, FitsSigned, IfErr, IfOk, OnErr, SomeIff};
+ghost use Rattle.std.specs.Prelude.{◌≡◌, ◌≢◌, ◌∷◌, [], ◌+◌, ◌<◌, ◌+ℤ◌, ◌*◌, ◌*ℤ◌, ℕ, List, pos, unsigned_abs};
+ghost use Rattle.std.specs.Prelude.{FitsSigned, IfOk, OnErr, SomeIff};
 ghost use Rattle.std.specs.Int.{w64};
+ghost use Rattle.rp_store.specs.Counters.{KeepsCounters};
 ghost use Rattle.rp_store.specs.Heap.{Owned};
 ghost use Rattle.rp_store.specs.Kept.{AreSound, IsSound};
 ghost use Rattle.rp_store.specs.Object.{list};
-ghost use Rattle.rp_store.specs.Store.{IsOver};
 ghost use Rattle.rp_ops.specs.Binary.{new_object as makes_object};
 ghost use Rattle.rp_ops.specs.Growth.{Gains};
 ghost use Rattle.rp_ops.specs.Outcome.{Meets, state_of};
@@ -17,6 +18,7 @@ use crate::fault::Fault;
 use crate::numbers::number_of;
 use crate::objects::new_container;
 use rp_base::{Memory, OpEnd, Rock, Side, Value};
+use rp_ops::check_room;
 use rp_store::{Object, Store};
 use std::alloc::Global;
 
@@ -43,10 +45,12 @@ pub(crate) fn range(
     side: Side,
     args: &[Value],
 ) -> Result<Value, OpEnd>
-    ensures plain { (steps : ℕ) → Meets result (state_of store.new steps) (range side args.now (state_of store.old steps)) }
+    ensures plain { (steps : ℕ) → Meets result (state_of store.new steps)
+        (range side args.now (state_of store.old steps)) }
     ensures sound { IfOk result (λ v. IsSound store.new.heap v) }
     ensures grown { Gains (IsContainerOf side) store.old.heap store.new.heap }
     ensures same { OnErr result (store.new ≡ store.old) }
+    ensures counters { KeepsCounters store.old store.new }
 {
     listed(alloc, store, side, bounds_of(args))
 }
@@ -58,10 +62,12 @@ pub(crate) fn range_to(
     side: Side,
     to: &Value,
 ) -> Result<Value, OpEnd>
-    ensures plain { (steps : ℕ) → Meets result (state_of store.new steps) (range side (to.now ∷ []) (state_of store.old steps)) }
+    ensures plain { (steps : ℕ) → Meets result (state_of store.new steps)
+        (range side (to.now ∷ []) (state_of store.old steps)) }
     ensures sound { IfOk result (λ v. IsSound store.new.heap v) }
     ensures grown { Gains (IsContainerOf side) store.old.heap store.new.heap }
     ensures same { OnErr result (store.new ≡ store.old) }
+    ensures counters { KeepsCounters store.old store.new }
 {
     listed(
         alloc,
@@ -78,10 +84,12 @@ fn listed(
     bounds: Result<Bounds, Fault>,
 ) -> Result<Value, OpEnd>
     requires step { IfOk bounds (λ b. b.step ≢ pos 0) }
-    ensures plain { (steps : ℕ) → Meets result (state_of store.new steps) (listed side bounds (state_of store.old steps)) }
+    ensures plain { (steps : ℕ) → Meets result (state_of store.new steps)
+        (listed side bounds (state_of store.old steps)) }
     ensures sound { IfOk result (λ v. IsSound store.new.heap v) }
     ensures grown { Gains (IsContainerOf side) store.old.heap store.new.heap }
     ensures same { OnErr result (store.new ≡ store.old) }
+    ensures counters { KeepsCounters store.old store.new }
 {
     match bounds {
         Ok(bounds) => new_range(alloc, store, side, bounds),
@@ -124,28 +132,16 @@ fn with_step(from: i64, to: i64, step: i64) -> Result<Bounds, Fault>
 
 fn new_range(alloc: Global, store: &mut Store, side: Side, bounds: Bounds) -> Result<Value, OpEnd>
     requires step { bounds.step ≢ pos 0 }
-    ensures plain { (steps : ℕ) → Meets result (state_of store.new steps) (makes_object side (list (numbers bounds)) (state_of store.old steps)) }
+    ensures plain { (steps : ℕ) → Meets result (state_of store.new steps)
+        (makes_object side (list (numbers bounds)) (state_of store.old steps)) }
     ensures sound { IfOk result (λ v. IsSound store.new.heap v) }
     ensures grown { Gains (IsContainerOf side) store.old.heap store.new.heap }
     ensures same { OnErr result (store.new ≡ store.old) }
+    ensures counters { KeepsCounters store.old store.new }
 {
-    check_room(store, count(bounds))?;
+    check_room(store, count(bounds).saturating_add(1))?;
     let numbers = numbers(alloc, bounds)?;
     new_container(store, side, Object::List(numbers))
-}
-
-/// Ends where the cells of a list of so many elements are over the limit, before memory is taken for them.
-///
-/// # Errors
-/// `StopCells` exactly there.
-fn check_room(store: &Store, count: u64) -> Result<(), OpEnd>
-    ensures over { OnErr result (IsOver store.now (1 + count)) }
-    ensures stopped { IfErr result (λ e. e ≡ OpEnd.StopCells) }
-{
-    if count >= store.limit() - store.used() {
-        return Err(OpEnd::StopCells);
-    }
-    Ok(())
 }
 
 /// How many numbers there are before the last bound is reached.

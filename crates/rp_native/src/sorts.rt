@@ -1,5 +1,6 @@
 //! Sorted lists.
 ghost use Rattle.std.specs.Prelude.{◌≡◌, ◌≤◌, ℕ, List, encode_utf8_all, true, IfOk, OnErr};
+ghost use Rattle.rp_store.specs.Counters.{KeepsCounters};
 ghost use Rattle.rp_store.specs.Heap.{Owned};
 ghost use Rattle.rp_store.specs.Kept.{AreSound, IsSound};
 ghost use Rattle.rp_ops.specs.Growth.{Gains};
@@ -38,11 +39,13 @@ pub(crate) fn sorted(
     value: &Value,
 ) -> Result<Value, OpEnd>
     requires sound { IsSound store.old.heap value.now }
-    ensures plain { Meets result (state_of store.new meter.new.left) (sorted side value.now (state_of store.old meter.old.left)) }
+    ensures plain { Meets result (state_of store.new meter.new.left)
+        (sorted side value.now (state_of store.old meter.old.left)) }
     ensures sound { IfOk result (λ v. IsSound store.new.heap v) }
     ensures grown { Gains (IsContainerOf side) store.old.heap store.new.heap }
     ensures same { OnErr result (store.new.heap ≡ store.old.heap) }
     ensures fewer { meter.new.left ≤ meter.old.left }
+    ensures counters { KeepsCounters store.old store.new }
 {
     let values = elements(alloc, store, meter, value)?;
     sorted_list(alloc, store, side, values)
@@ -55,10 +58,12 @@ fn sorted_list(
     values: Vec<Value>,
 ) -> Result<Value, OpEnd>
     requires sound { AreSound store.old.heap values.items }
-    ensures plain { (steps : ℕ) → Meets result (state_of store.new steps) (sorted_list side values.items (state_of store.old steps)) }
+    ensures plain { (steps : ℕ) → Meets result (state_of store.new steps)
+        (sorted_list side values.items (state_of store.old steps)) }
     ensures sound { IfOk result (λ v. IsSound store.new.heap v) }
     ensures grown { Gains (IsContainerOf side) store.old.heap store.new.heap }
     ensures same { OnErr result (store.new ≡ store.old) }
+    ensures counters { KeepsCounters store.old store.new }
 {
     if !have_order(values.as_slice()) {
         return Err(Fault::Argument.end(alloc));

@@ -1,6 +1,5 @@
 //! The whole numbers that texts spell.
-ghost use Rattle.std.specs.Prelude.{◌≡◌, List, ℕ, ℤ, Option, neg_ℤ, option_map, pos, FitsSigned, IfOk, SomeIff};
-ghost use Rattle.std.specs.Int.{w64};
+ghost use Rattle.std.specs.Prelude.{◌≡◌, List, ℕ, Option, neg_ℤ, option_map, pos, IfOk};
 ghost use Rattle.rp_store.specs.Heap.{Owned};
 ghost use Rattle.rp_store.specs.Kept.{IsSound};
 ghost use Rattle.rp_ops.specs.Outcome.{Meets, State};
@@ -56,7 +55,8 @@ fn number_spelled(alloc: Global, bytes: &[u8]) -> Result<Value, OpEnd>
 
 /// The number of digits that are held at the greatest number of 64 bits.
 fn above_zero(alloc: Global, number: Option<u64>) -> Result<Value, OpEnd>
-    ensures plain { (n : Option ℕ) (s : State) → number ≡ option_map saturated n → Meets result s (number_found Fault.Digits (option_map (λ n. pos n) n) s) }
+    ensures plain { (n : Option ℕ) (s : State) → number ≡ option_map saturated n
+        → Meets result s (number_found Fault.Digits (option_map (λ n. pos n) n) s) }
     ensures sound { (heap : List Owned) → IfOk result (λ v. IsSound heap v) }
 {
     match number {
@@ -67,7 +67,8 @@ fn above_zero(alloc: Global, number: Option<u64>) -> Result<Value, OpEnd>
 
 /// The same, of the number below zero.
 fn below_zero(alloc: Global, number: Option<u64>) -> Result<Value, OpEnd>
-    ensures plain { (n : Option ℕ) (s : State) → number ≡ option_map saturated n → Meets result s (number_found Fault.Digits (option_map (λ n. neg_ℤ (pos n)) n) s) }
+    ensures plain { (n : Option ℕ) (s : State) → number ≡ option_map saturated n
+        → Meets result s (number_found Fault.Digits (option_map (λ n. neg_ℤ (pos n)) n) s) }
     ensures sound { (heap : List Owned) → IfOk result (λ v. IsSound heap v) }
 {
     match number {

@@ -1,6 +1,6 @@
 //! Sums of what is walked.
-ghost use Rattle.std.specs.Prelude.{◌≡◌, ◌∷◌, ◌≤◌, Err, IfErr, ◌+ℤ◌, List, ℤ, filter_map, is_some, pos, FitsSigned, IfOk, SomeIff};
-ghost use Rattle.std.specs.Int.{w64};
+ghost use Rattle.std.specs.Prelude.{◌≡◌, ◌∷◌, ◌≤◌, Err, IfErr, ◌+ℤ◌, List, ℤ, filter_map, is_some, pos, IfOk};
+ghost use Rattle.rp_store.specs.Counters.{KeepsCounters};
 ghost use Rattle.rp_store.specs.Heap.{Owned};
 ghost use Rattle.rp_store.specs.Kept.{IsSound};
 ghost use Rattle.rp_ops.specs.Binary.{number_value};
@@ -31,10 +31,12 @@ pub(crate) fn sum(
     value: &Value,
 ) -> Result<Value, OpEnd>
     requires sound { IsSound store.old.heap value.now }
-    ensures plain { Meets result (state_of store.new meter.new.left) (sum value.now (state_of store.old meter.old.left)) }
+    ensures plain { Meets result (state_of store.new meter.new.left)
+        (sum value.now (state_of store.old meter.old.left)) }
     ensures same { store.new.heap ≡ store.old.heap }
     ensures sound { (heap : List Owned) → IfOk result (λ v. IsSound heap v) }
     ensures fewer { meter.new.left ≤ meter.old.left }
+    ensures counters { KeepsCounters store.old store.new }
 {
     let values = elements(alloc, store, meter, value)?;
     sum_of(alloc, values.as_slice())
@@ -65,7 +67,8 @@ fn is_number(value: &Value) -> bool
 
 /// The sum of the numbers among values.
 fn summed(alloc: Global, values: &[Value]) -> Result<Value, OpEnd>
-    ensures plain { (s : State) → Meets result s (number_value (summed (pos 0) (filter_map index_number values.now)) s) }
+    ensures plain { (s : State) → Meets result s
+        (number_value (summed (pos 0) (filter_map index_number values.now)) s) }
     ensures sound { (heap : List Owned) → IfOk result (λ v. IsSound heap v) }
 {
     let mut total = 0;
@@ -80,8 +83,10 @@ fn summed(alloc: Global, values: &[Value]) -> Result<Value, OpEnd>
 /// # Errors
 /// `Raised` with `OverflowError`, where the sum is outside 64 bits; `Memory` where there is none for its text.
 fn with_number(alloc: Global, total: i64, value: &Value) -> Result<i64, OpEnd>
-    ensures goes { IfOk result (λ sum. (vs : List Value) → summed total (filter_map index_number (value.now ∷ vs)) ≡ summed sum (filter_map index_number vs)) }
-    ensures fails { IfErr result (λ e. (vs : List Value) (s : State) → Meets {A = Value} (Err e) s (number_value (summed total (filter_map index_number (value.now ∷ vs))) s)) }
+    ensures goes { IfOk result (λ sum. (vs : List Value) → summed total (filter_map index_number (value.now ∷ vs))
+        ≡ summed sum (filter_map index_number vs)) }
+    ensures fails { IfErr result (λ e. (vs : List Value) (s : State)
+        → Meets {A = Value} (Err e) s (number_value (summed total (filter_map index_number (value.now ∷ vs))) s)) }
 {
     match number_of(value) {
         Some(n) => fitted_sum(alloc, total, n),

@@ -1,5 +1,6 @@
 //! Lists of tuples.
 ghost use Rattle.std.specs.Prelude.{◌≡◌, ◌∷◌, ◌+◌, ◌≤◌, [], ℕ, length, pos, All, IfOk, OnOk};
+ghost use Rattle.rp_store.specs.Counters.{KeepsCounters};
 ghost use Rattle.rp_store.specs.Kept.{AreSound, IsSound};
 ghost use Rattle.rp_ops.specs.Growth.{Gains};
 ghost use Rattle.rp_ops.specs.Outcome.{Meets, state_of};
@@ -28,10 +29,12 @@ pub(crate) fn enumerate(
     value: &Value,
 ) -> Result<Value, OpEnd>
     requires sound { IsSound store.old.heap value.now }
-    ensures plain { Meets result (state_of store.new meter.new.left) (enumerate side value.now (state_of store.old meter.old.left)) }
+    ensures plain { Meets result (state_of store.new meter.new.left)
+        (enumerate side value.now (state_of store.old meter.old.left)) }
     ensures sound { IfOk result (λ v. IsSound store.new.heap v) }
     ensures grown { Gains (IsContainerOf side) store.old.heap store.new.heap }
     ensures fewer { meter.new.left ≤ meter.old.left }
+    ensures counters { KeepsCounters store.old store.new }
 {
     let values = elements(alloc, store, meter, value)?;
     let rows = numbered(alloc, values)?;
@@ -83,9 +86,11 @@ pub(crate) fn new_table(
 ) -> Result<Value, OpEnd>
     requires width { All (λ row. length row ≡ width) (rows_of rows.items) }
     requires sound { All (AreSound store.old.heap) (rows_of rows.items) }
-    ensures plain { (steps : ℕ) → Meets result (state_of store.new steps) (table side (rows_of rows.items) (state_of store.old steps)) }
+    ensures plain { (steps : ℕ) → Meets result (state_of store.new steps)
+        (table side (rows_of rows.items) (state_of store.old steps)) }
     ensures sound { IfOk result (λ v. IsSound store.new.heap v) }
     ensures grown { Gains (IsContainerOf side) store.old.heap store.new.heap }
+    ensures counters { KeepsCounters store.old store.new }
 {
     let cells = (width as u64).saturating_add(2);
     charge_copies(store, 1, rows.len() as u64, cells)?;
@@ -105,9 +110,11 @@ fn add_table(
 ) -> Result<Value, Memory>
     requires sound { All (AreSound store.old.heap) (rows_of rows.items) }
     ensures made { OnOk result (store.new ≡ with_table side (rows_of rows.items) store.old) }
-    ensures place { IfOk result (λ v. v ≡ Value.Ref (record { 0 = length store.old.heap + length (rows_of rows.items) })) }
+    ensures place { IfOk result (λ v. v ≡ Value.Ref
+        (record { 0 = length store.old.heap + length (rows_of rows.items) })) }
     ensures sound { IfOk result (λ v. IsSound store.new.heap v) }
     ensures grown { Gains (IsContainerOf side) store.old.heap store.new.heap }
+    ensures counters { KeepsCounters store.old store.new }
 {
     let tuples = add_tuples(alloc, store, side, rows)?;
     let at = store.add(side, Object::List(tuples))?;
@@ -129,6 +136,7 @@ fn add_tuples(
     ensures places { IfOk result (λ v. v.items ≡ references (length store.old.heap) (length (rows_of rows.items))) }
     ensures sound { IfOk result (λ v. AreSound store.new.heap v.items) }
     ensures grown { Gains (IsContainerOf side) store.old.heap store.new.heap }
+    ensures counters { KeepsCounters store.old store.new }
 {
     let mut tuples = Vec::with_capacity(alloc, rows.len())?;
     for row in rows {

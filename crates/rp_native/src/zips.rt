@@ -1,5 +1,6 @@
 //! Several values walked side by side.
 ghost use Rattle.std.specs.Prelude.{◌≡◌, ◌∷◌, ◌++◌, ◌≤◌, [], List, ℕ, fold, length, map, min, All, IfOk, OnOk};
+ghost use Rattle.rp_store.specs.Counters.{KeepsCounters};
 ghost use Rattle.rp_store.specs.Heap.{Owned};
 ghost use Rattle.rp_store.specs.Kept.{AreSound, IsSound};
 ghost use Rattle.rp_ops.specs.Growth.{Gains};
@@ -35,10 +36,12 @@ pub(crate) fn zip(
     args: &[Value],
 ) -> Result<Value, OpEnd>
     requires sound { AreSound store.old.heap args.now }
-    ensures plain { Meets result (state_of store.new meter.new.left) (zip side args.now (state_of store.old meter.old.left)) }
+    ensures plain { Meets result (state_of store.new meter.new.left)
+        (zip side args.now (state_of store.old meter.old.left)) }
     ensures sound { IfOk result (λ v. IsSound store.new.heap v) }
     ensures grown { Gains (IsContainerOf side) store.old.heap store.new.heap }
     ensures fewer { meter.new.left ≤ meter.old.left }
+    ensures counters { KeepsCounters store.old store.new }
 {
     let mut walks = walks(alloc, store, args)?;
     let count = shortest(store, args);
@@ -103,11 +106,13 @@ fn rows(
     count: usize,
 ) -> Result<Vec<Vec<Value>>, OpEnd>
     requires held { All (IsWalkHeld store.old.heap) walks.old }
-    ensures plain { Meets (rows_given result) (state_of store.new meter.new.left) (rows count walks.old (state_of store.old meter.old.left)) }
+    ensures plain { Meets (rows_given result) (state_of store.new meter.new.left)
+        (rows count walks.old (state_of store.old meter.old.left)) }
     ensures same { store.new.heap ≡ store.old.heap }
     ensures width { IfOk result (λ rows. All (λ row. length row ≡ length walks.old) (rows_of rows.items)) }
     ensures sound { IfOk result (λ rows. All (AreSound store.new.heap) (rows_of rows.items)) }
     ensures fewer { meter.new.left ≤ meter.old.left }
+    ensures counters { KeepsCounters store.old store.new }
 {
     let mut rows = Vec::new(alloc);
     for _ in 0..count {
@@ -125,13 +130,15 @@ fn next_row(
     walks: &mut [Cursor],
 ) -> Result<Vec<Value>, OpEnd>
     requires held { All (IsWalkHeld store.old.heap) walks.old }
-    ensures plain { Meets (row_given walks.new result) (state_of store.new meter.new.left) (stepped (state_of store.old meter.old.left) (row walks.old)) }
+    ensures plain { Meets (row_given walks.new result) (state_of store.new meter.new.left)
+        (stepped (state_of store.old meter.old.left) (row walks.old)) }
     ensures same { store.new.heap ≡ store.old.heap }
     ensures held { All (IsWalkHeld store.new.heap) walks.new }
     ensures count { length walks.new ≡ length walks.old }
     ensures width { IfOk result (λ row. length row.items ≡ length walks.old) }
     ensures sound { IfOk result (λ row. AreSound store.new.heap row.items) }
     ensures fewer { meter.new.left ≤ meter.old.left }
+    ensures counters { KeepsCounters store.old store.new }
 {
     step(meter)?;
     row(alloc, store, walks)
@@ -140,12 +147,14 @@ fn next_row(
 /// The next element of every walk.
 fn row(alloc: Global, store: &mut Store, walks: &mut [Cursor]) -> Result<Vec<Value>, OpEnd>
     requires held { All (IsWalkHeld store.old.heap) walks.old }
-    ensures plain { (steps : ℕ) → Meets (row_given walks.new result) (state_of store.new steps) (row walks.old (state_of store.old steps)) }
+    ensures plain { (steps : ℕ) → Meets (row_given walks.new result) (state_of store.new steps)
+        (row walks.old (state_of store.old steps)) }
     ensures same { store.new.heap ≡ store.old.heap }
     ensures held { All (IsWalkHeld store.new.heap) walks.new }
     ensures count { length walks.new ≡ length walks.old }
     ensures width { IfOk result (λ row. length row.items ≡ length walks.old) }
     ensures sound { IfOk result (λ row. AreSound store.new.heap row.items) }
+    ensures counters { KeepsCounters store.old store.new }
 {
     let mut row = Vec::new(alloc);
     for walk in walks.iter_mut() {
@@ -158,10 +167,12 @@ fn row(alloc: Global, store: &mut Store, walks: &mut [Cursor]) -> Result<Vec<Val
 /// The next element of a walk, for which no step is taken of those that are left.
 fn element(alloc: Global, store: &mut Store, walk: &mut Cursor) -> Result<Value, OpEnd>
     requires held { IsWalkHeld store.old.heap walk.old }
-    ensures plain { (steps : ℕ) → Meets (element_given walk.new result) (state_of store.new steps) (element walk.old (state_of store.old steps)) }
+    ensures plain { (steps : ℕ) → Meets (element_given walk.new result) (state_of store.new steps)
+        (element walk.old (state_of store.old steps)) }
     ensures same { store.new.heap ≡ store.old.heap }
     ensures held { IsWalkHeld store.new.heap walk.new }
     ensures sound { IfOk result (λ v. IsSound store.new.heap v) }
+    ensures counters { KeepsCounters store.old store.new }
 {
     let mut own = Meter { left: 1 };
     match walk.next(alloc, store, &mut own) {

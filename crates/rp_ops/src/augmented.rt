@@ -1,6 +1,7 @@
 //! Augmented assignment: lists grow in place.
 ghost use Rattle.std.specs.Prelude.{◌≡◌, ◌≤◌, ◌-◌, ℕ, [], None, Some, IfOk, OnErr};
 ghost use Rattle.std.specs.Option.{option_map_or};
+ghost use Rattle.rp_store.specs.Counters.{KeepsCounters};
 ghost use Rattle.rp_store.specs.Heap.{IsHeld, Names, content_at};
 ghost use Rattle.rp_store.specs.Kept.{AreSound, IsSound};
 ghost use Rattle.rp_store.specs.Parts.{IsList};
@@ -28,7 +29,7 @@ use std::alloc::Global;
 /// - `StopCells` where the cells of the growth are over the limit.
 ///
 /// After each of them the objects are as before, the list too; what the walk has cost stays used. The steps left never
-/// rise.
+/// rise, the limit of the cells stays, and no used cell is given back.
 pub fn inplace(
     alloc: Global,
     store: &mut Store,
@@ -40,11 +41,13 @@ pub fn inplace(
 ) -> Result<Value, OpEnd>
     requires a { IsSound store.old.heap a.now }
     requires b { IsSound store.old.heap b.now }
-    ensures plain { Meets result (state_of store.new meter.new.left) (inplace side op a.now b.now (state_of store.old meter.old.left)) }
+    ensures plain { Meets result (state_of store.new meter.new.left)
+        (inplace side op a.now b.now (state_of store.old meter.old.left)) }
     ensures sound { IfOk result (λ v. IsSound store.new.heap v) }
     ensures shape { KeepsShape store.old.heap store.new.heap }
     ensures same { OnErr result (store.new.heap ≡ store.old.heap) }
     ensures fewer { meter.new.left ≤ meter.old.left }
+    ensures counters { KeepsCounters store.old store.new }
 {
     match op {
         BinOp::Add => add_inplace(alloc, store, meter, side, a, b),
@@ -63,11 +66,13 @@ fn add_inplace(
 ) -> Result<Value, OpEnd>
     requires a { IsSound store.old.heap a.now }
     requires b { IsSound store.old.heap b.now }
-    ensures plain { Meets result (state_of store.new meter.new.left) (inplace side BinOp.Add a.now b.now (state_of store.old meter.old.left)) }
+    ensures plain { Meets result (state_of store.new meter.new.left)
+        (inplace side BinOp.Add a.now b.now (state_of store.old meter.old.left)) }
     ensures sound { IfOk result (λ v. IsSound store.new.heap v) }
     ensures shape { KeepsShape store.old.heap store.new.heap }
     ensures same { OnErr result (store.new.heap ≡ store.old.heap) }
     ensures fewer { meter.new.left ≤ meter.old.left }
+    ensures counters { KeepsCounters store.old store.new }
 {
     match list_place(store, a) {
         Some(at) => extend(alloc, store, meter, a, at, b),
@@ -85,11 +90,13 @@ fn multiply_inplace(
 ) -> Result<Value, OpEnd>
     requires a { IsSound store.old.heap a.now }
     requires b { IsSound store.old.heap b.now }
-    ensures plain { Meets result (state_of store.new meter.new.left) (inplace side BinOp.Mul a.now b.now (state_of store.old meter.old.left)) }
+    ensures plain { Meets result (state_of store.new meter.new.left)
+        (inplace side BinOp.Mul a.now b.now (state_of store.old meter.old.left)) }
     ensures sound { IfOk result (λ v. IsSound store.new.heap v) }
     ensures shape { KeepsShape store.old.heap store.new.heap }
     ensures same { OnErr result (store.new.heap ≡ store.old.heap) }
     ensures fewer { meter.new.left ≤ meter.old.left }
+    ensures counters { KeepsCounters store.old store.new }
 {
     match list_place(store, a) {
         Some(at) => repeat_in_place(alloc, store, a, at, operand_of(store, b).number()),
@@ -134,11 +141,13 @@ fn extend(
     requires list { Names store.old.heap IsList at }
     requires a { IsSound store.old.heap a.now }
     requires b { IsSound store.old.heap b.now }
-    ensures plain { Meets result (state_of store.new meter.new.left) (extends a.now at b.now (state_of store.old meter.old.left)) }
+    ensures plain { Meets result (state_of store.new meter.new.left)
+        (extends a.now at b.now (state_of store.old meter.old.left)) }
     ensures sound { IfOk result (λ v. IsSound store.new.heap v) }
     ensures shape { KeepsShape store.old.heap store.new.heap }
     ensures same { OnErr result (store.new.heap ≡ store.old.heap) }
     ensures fewer { meter.new.left ≤ meter.old.left }
+    ensures counters { KeepsCounters store.old store.new }
 {
     let same = handed(a, false)?;
     let values = elements(alloc, store, meter, b)?;
@@ -153,10 +162,12 @@ fn put_last(store: &mut Store, same: Value, at: Oid, values: Vec<Value>) -> Resu
     requires list { Names store.old.heap IsList at }
     requires same { IsSound store.old.heap same }
     requires values { AreSound store.old.heap values.items }
-    ensures plain { (steps : ℕ) → Meets result (state_of store.new steps) (grows same at values.items (state_of store.old steps)) }
+    ensures plain { (steps : ℕ) → Meets result (state_of store.new steps)
+        (grows same at values.items (state_of store.old steps)) }
     ensures sound { IfOk result (λ v. IsSound store.new.heap v) }
     ensures shape { KeepsShape store.old.heap store.new.heap }
     ensures same { OnErr result (store.new.heap ≡ store.old.heap) }
+    ensures counters { KeepsCounters store.old store.new }
 {
     store.extend(at, values)?;
     Ok(same)
@@ -178,10 +189,12 @@ fn repeat_in_place(
 ) -> Result<Value, OpEnd>
     requires list { Names store.old.heap IsList at }
     requires a { IsSound store.old.heap a.now }
-    ensures plain { (steps : ℕ) → Meets result (state_of store.new steps) (repeats_list a.now at (option_map_or held_by (content_at store.old.heap at) []) n (state_of store.old steps)) }
+    ensures plain { (steps : ℕ) → Meets result (state_of store.new steps)
+        (repeats_list a.now at (option_map_or held_by (content_at store.old.heap at) []) n (state_of store.old steps)) }
     ensures sound { IfOk result (λ v. IsSound store.new.heap v) }
     ensures shape { KeepsShape store.old.heap store.new.heap }
     ensures same { OnErr result (store.new.heap ≡ store.old.heap) }
+    ensures counters { KeepsCounters store.old store.new }
 {
     match n {
         Some(n) => set_repeated(alloc, store, a, at, n),
@@ -202,10 +215,13 @@ fn set_repeated(
 ) -> Result<Value, OpEnd>
     requires list { Names store.old.heap IsList at }
     requires a { IsSound store.old.heap a.now }
-    ensures plain { (steps : ℕ) → Meets result (state_of store.new steps) (repeats_list a.now at (option_map_or held_by (content_at store.old.heap at) []) (Some n) (state_of store.old steps)) }
+    ensures plain { (steps : ℕ) → Meets result (state_of store.new steps)
+        (repeats_list a.now at (option_map_or held_by (content_at store.old.heap at) []) (Some n)
+        (state_of store.old steps)) }
     ensures sound { IfOk result (λ v. IsSound store.new.heap v) }
     ensures shape { KeepsShape store.old.heap store.new.heap }
     ensures same { OnErr result (store.new.heap ≡ store.old.heap) }
+    ensures counters { KeepsCounters store.old store.new }
 {
     let same = handed(a, false)?;
     let copies = times(n);

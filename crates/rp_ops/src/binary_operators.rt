@@ -1,5 +1,6 @@
 //! The binary operators.
 ghost use Rattle.std.specs.Prelude.{◌≡◌, List, ℕ, IfOk, OnErr};
+ghost use Rattle.rp_store.specs.Counters.{KeepsCounters};
 ghost use Rattle.rp_store.specs.Heap.{Owned};
 ghost use Rattle.rp_store.specs.Kept.{IsSound};
 ghost use Rattle.rp_ops.specs.Binary.{arithmetic, binary, calculated, logical_of, operated, repeats, wrong_operand};
@@ -29,7 +30,8 @@ use std::alloc::Global;
 /// - `StopCells` where the cells are over the limit; then none is used.
 /// - `Memory` where a growth was refused; then cells may be used.
 ///
-/// After each of them the objects are as before, and none is made.
+/// After each of them the objects are as before, and none is made. The limit of the cells stays, and no used cell is
+/// given back, whatever is answered.
 pub fn binary(
     alloc: Global,
     store: &mut Store,
@@ -41,11 +43,13 @@ pub fn binary(
 ) -> Result<Value, OpEnd>
     requires a { IsSound store.old.heap a.now }
     requires b { IsSound store.old.heap b.now }
-    ensures plain { Meets result (state_of store.new meter.new.left) (binary side op a.now b.now (state_of store.old meter.old.left)) }
+    ensures plain { Meets result (state_of store.new meter.new.left)
+        (binary side op a.now b.now (state_of store.old meter.old.left)) }
     ensures sound { IfOk result (λ v. IsSound store.new.heap v) }
     ensures grown { Gains (IsSequenceOf side) store.old.heap store.new.heap }
     ensures same { OnErr result (store.new.heap ≡ store.old.heap) }
     ensures steps { meter.new ≡ meter.old }
+    ensures counters { KeepsCounters store.old store.new }
 {
     if let (Value::Rock(Rock::Int(x)), Value::Rock(Rock::Int(y))) = (a, b) {
         return number_value(alloc, computed(op, *x, *y));
@@ -65,10 +69,12 @@ fn operate(
 ) -> Result<Value, OpEnd>
     requires a { IsSound store.old.heap a.now }
     requires b { IsSound store.old.heap b.now }
-    ensures plain { (steps : ℕ) → Meets result (state_of store.new steps) (binary side op a.now b.now (state_of store.old steps)) }
+    ensures plain { (steps : ℕ) → Meets result (state_of store.new steps)
+        (binary side op a.now b.now (state_of store.old steps)) }
     ensures sound { IfOk result (λ v. IsSound store.new.heap v) }
     ensures grown { Gains (IsSequenceOf side) store.old.heap store.new.heap }
     ensures same { OnErr result (store.new.heap ≡ store.old.heap) }
+    ensures counters { KeepsCounters store.old store.new }
 {
     let x = operand_of(store, a);
     let y = operand_of(store, b);
@@ -88,10 +94,12 @@ fn add(
 ) -> Result<Value, OpEnd>
     requires x { IsOperandHeld store.old.heap x.now }
     requires y { IsOperandHeld store.old.heap y.now }
-    ensures plain { (steps : ℕ) → Meets result (state_of store.new steps) (operated side BinOp.Add (seen store.old.heap x.now) (seen store.old.heap y.now) (state_of store.old steps)) }
+    ensures plain { (steps : ℕ) → Meets result (state_of store.new steps)
+        (operated side BinOp.Add (seen store.old.heap x.now) (seen store.old.heap y.now) (state_of store.old steps)) }
     ensures sound { IfOk result (λ v. IsSound store.new.heap v) }
     ensures grown { Gains (IsSequenceOf side) store.old.heap store.new.heap }
     ensures same { OnErr result (store.new.heap ≡ store.old.heap) }
+    ensures counters { KeepsCounters store.old store.new }
 {
     match (x, y) {
         (Operand::Text(x), Operand::Text(y)) => join_texts(alloc, store, x, y),
@@ -110,10 +118,12 @@ fn multiply(
 ) -> Result<Value, OpEnd>
     requires x { IsOperandHeld store.old.heap x.now }
     requires y { IsOperandHeld store.old.heap y.now }
-    ensures plain { (steps : ℕ) → Meets result (state_of store.new steps) (operated side BinOp.Mul (seen store.old.heap x.now) (seen store.old.heap y.now) (state_of store.old steps)) }
+    ensures plain { (steps : ℕ) → Meets result (state_of store.new steps)
+        (operated side BinOp.Mul (seen store.old.heap x.now) (seen store.old.heap y.now) (state_of store.old steps)) }
     ensures sound { IfOk result (λ v. IsSound store.new.heap v) }
     ensures grown { Gains (IsSequenceOf side) store.old.heap store.new.heap }
     ensures same { OnErr result (store.new.heap ≡ store.old.heap) }
+    ensures counters { KeepsCounters store.old store.new }
 {
     if x.is_sequence() {
         return repeat_operand(alloc, store, side, x, y.number());
@@ -133,10 +143,12 @@ fn repeat_operand(
     n: Option<i64>,
 ) -> Result<Value, OpEnd>
     requires x { IsOperandHeld store.old.heap x.now }
-    ensures plain { (steps : ℕ) → Meets result (state_of store.new steps) (repeats side (seen store.old.heap x.now) n (state_of store.old steps)) }
+    ensures plain { (steps : ℕ) → Meets result (state_of store.new steps)
+        (repeats side (seen store.old.heap x.now) n (state_of store.old steps)) }
     ensures sound { IfOk result (λ v. IsSound store.new.heap v) }
     ensures grown { Gains (IsSequenceOf side) store.old.heap store.new.heap }
     ensures same { OnErr result (store.new.heap ≡ store.old.heap) }
+    ensures counters { KeepsCounters store.old store.new }
 {
     let Some(n) = n else {
         return wrong_operand(alloc);
@@ -151,7 +163,8 @@ fn repeat_operand(
 
 /// On numbers and truth values.
 fn calculate(alloc: Global, op: BinOp, x: &Operand, y: &Operand) -> Result<Value, OpEnd>
-    ensures value { (heap : List Owned) (s : State) → Meets result s (calculated op (seen heap x.now) (seen heap y.now) s) }
+    ensures value { (heap : List Owned) (s : State)
+        → Meets result s (calculated op (seen heap x.now) (seen heap y.now) s) }
     ensures sound { (heap : List Owned) → IfOk result (λ v. IsSound heap v) }
 {
     match logical_of(op, x, y) {

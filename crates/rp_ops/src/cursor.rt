@@ -1,7 +1,9 @@
 //! A walk over a value, one element at a time.
-ghost use Rattle.std.specs.Prelude.{◌≡◌, ◌∷◌, codes, Ok, ◌+◌, ◌<◌, ◌≤◌, ◌^◌, [], List, ℕ, Some, encode_utf8_all, IfNone, IfOk, IfSome, OnErr};
+ghost use Rattle.std.specs.Prelude.{◌≡◌, ◌∷◌, codes, Ok, ◌+◌, ◌<◌, ◌≤◌, ◌^◌, [], List, ℕ, Some, encode_utf8_all};
+ghost use Rattle.std.specs.Prelude.{IfNone, IfOk, IfSome, OnErr};
 ghost use Rattle.std.specs.Str.{IsCharBoundary};
 ghost use Rattle.rp_base.specs.declared.kind.Kind.TheVariants.{TypeError};
+ghost use Rattle.rp_store.specs.Counters.{KeepsCounters};
 ghost use Rattle.rp_store.specs.Heap.{IsHeld, Names, Owned, content_at};
 ghost use Rattle.rp_store.specs.Kept.{IsSound};
 ghost use Rattle.rp_store.specs.Object.{dict};
@@ -9,7 +11,8 @@ ghost use Rattle.rp_store.specs.Parts.{IsDict};
 ghost use Rattle.rp_ops.specs.Numbers.{refused};
 ghost use Rattle.rp_ops.specs.Outcome.{Answers, Meets, state_of};
 ghost use Rattle.rp_ops.specs.Standing.{letters_left};
-ghost use Rattle.rp_ops.specs.Walk.{GivesElements, IsWalkHeld, characters_from, elements_from, keys_from, next_of, object_walk, rock_walk, walk_of, with_cursor};
+ghost use Rattle.rp_ops.specs.Walk.{GivesElements, IsWalkHeld, characters_from, elements_from, keys_from, next_of};
+ghost use Rattle.rp_ops.specs.Walk.{object_walk, rock_walk, walk_of, with_cursor};
 
 use crate::ends::step;
 use crate::operand::{Elements, elements_at};
@@ -153,13 +156,15 @@ impl Cursor {
         meter: &mut Meter,
     ) -> Result<Option<Value>, OpEnd>
         requires held { IsWalkHeld store.old.heap self.old }
-        ensures plain { Meets (with_cursor self.new result) (state_of store.new meter.new.left) (next_of self.old (state_of store.old meter.old.left)) }
+        ensures plain { Meets (with_cursor self.new result) (state_of store.new meter.new.left)
+            (next_of self.old (state_of store.old meter.old.left)) }
         ensures held { IsWalkHeld store.new.heap self.new }
         ensures stays { OnErr result (self.new ≡ self.old) }
         ensures ended { IfOk result (λ found. IfNone found (self.new ≡ self.old)) }
         ensures same { store.new.heap ≡ store.old.heap }
         ensures sound { IfOk result (λ found. IfSome found (λ v. IsSound store.new.heap v)) }
         ensures fewer { meter.new.left ≤ meter.old.left }
+        ensures counters { KeepsCounters store.old store.new }
     {
         match &mut self.standing {
             Standing::Elements { from, next } => next_element(store, meter, *from, next),
@@ -177,7 +182,8 @@ fn next_element(
     next: &mut usize,
 ) -> Result<Option<Value>, OpEnd>
     requires held { IsHeld store.now.heap x.at }
-    ensures plain { Meets (with_cursor (elements_from x.lent x.at next.new) result) (state_of store.now meter.new.left) (next_of (elements_from x.lent x.at next.old) (state_of store.now meter.old.left)) }
+    ensures plain { Meets (with_cursor (elements_from x.lent x.at next.new) result) (state_of store.now meter.new.left)
+        (next_of (elements_from x.lent x.at next.old) (state_of store.now meter.old.left)) }
     ensures stays { OnErr result (next.new ≡ next.old) }
     ensures ended { IfOk result (λ found. IfNone found (next.new ≡ next.old)) }
     ensures sound { IfOk result (λ found. IfSome found (λ v. IsSound store.now.heap v)) }
@@ -204,12 +210,14 @@ fn key_after(
 ) -> Result<Option<Value>, OpEnd>
     requires held { IsHeld store.old.heap at }
     requires dict { Names store.old.heap IsDict at }
-    ensures plain { Meets (with_cursor (keys_from at next.new size) result) (state_of store.new meter.new.left) (next_of (keys_from at next.old size) (state_of store.old meter.old.left)) }
+    ensures plain { Meets (with_cursor (keys_from at next.new size) result) (state_of store.new meter.new.left)
+        (next_of (keys_from at next.old size) (state_of store.old meter.old.left)) }
     ensures same { store.new.heap ≡ store.old.heap }
     ensures stays { OnErr result (next.new ≡ next.old) }
     ensures ended { IfOk result (λ found. IfNone found (next.new ≡ next.old)) }
     ensures sound { (heap : List Owned) → IfOk result (λ found. IfSome found (λ v. IsSound heap v)) }
     ensures fewer { meter.new.left ≤ meter.old.left }
+    ensures counters { KeepsCounters store.old store.new }
 {
     store.seek(at, *next);
     let entries = entries_at(store, at);
@@ -245,13 +253,16 @@ fn next_letter(
     next: &mut usize,
 ) -> Result<Option<Value>, OpEnd>
     requires boundary { IsCharBoundary (encode_utf8_all text.now) next.old }
-    ensures plain { Meets (with_cursor (characters_from (letters_left text.now next.new)) result) (state_of store.new meter.new.left) (next_of (characters_from (letters_left text.now next.old)) (state_of store.old meter.old.left)) }
+    ensures plain { Meets (with_cursor (characters_from (letters_left text.now next.new)) result)
+        (state_of store.new meter.new.left)
+        (next_of (characters_from (letters_left text.now next.old)) (state_of store.old meter.old.left)) }
     ensures boundary { IsCharBoundary (encode_utf8_all text.now) next.new }
     ensures stays { OnErr result (next.new ≡ next.old) }
     ensures ended { IfOk result (λ found. IfNone found (next.new ≡ next.old)) }
     ensures same { store.new.heap ≡ store.old.heap }
     ensures sound { (heap : List Owned) → IfOk result (λ found. IfSome found (λ v. IsSound heap v)) }
     ensures fewer { meter.new.left ≤ meter.old.left }
+    ensures counters { KeepsCounters store.old store.new }
 {
     let Some((letter, after)) = letter_at(text, *next) else {
         return Ok(None);

@@ -1,5 +1,5 @@
 //! The plain operators of the language, on values whose access decisions have been made.
-#![tactic(auto)]
+#![tactic(auto, using(rp_store::proofs::Shapes::goes_on))]
 
 mod augmented;
 mod binary_operators;
@@ -19,7 +19,7 @@ mod words;
 
 pub use augmented::inplace;
 pub use binary_operators::binary;
-pub use cells::{charge, charge_copies};
+pub use cells::{charge, charge_copies, check_room};
 // A crate can name a cursor in a contract only if the types of its fields are exported.
 #[doc(hidden)]
 pub use cursor::Standing;

@@ -1,5 +1,6 @@
 //! New texts and objects, and their cells.
 ghost use Rattle.std.specs.Prelude.{◌≡◌, ◌∷◌, List, [], ℕ, chars, IfOk, OnErr, OnOk};
+ghost use Rattle.rp_store.specs.Counters.{KeepsCounters};
 ghost use Rattle.rp_store.specs.Heap.{Owned};
 ghost use Rattle.rp_store.specs.Kept.{Holds, IsSound};
 ghost use Rattle.rp_store.specs.Object.{content_of};
@@ -19,9 +20,11 @@ use std::alloc::Global;
 /// # Errors
 /// `StopCells` exactly where they are over the limit, `Memory` where a growth was refused.
 pub fn new_text(alloc: Global, store: &mut Store, text: &str) -> Result<Value, OpEnd>
-    ensures plain { (steps : ℕ) → Meets result (state_of store.new steps) (new_text (chars text.now) (state_of store.old steps)) }
+    ensures plain { (steps : ℕ) → Meets result (state_of store.new steps)
+        (new_text (chars text.now) (state_of store.old steps)) }
     ensures same { store.new.heap ≡ store.old.heap }
     ensures sound { (heap : List Owned) → IfOk result (λ v. IsSound heap v) }
+    ensures counters { KeepsCounters store.old store.new }
 {
     charge(store, text.len() as u64)?;
     let text = Text::new(alloc, text)?;
@@ -33,9 +36,11 @@ pub fn new_text(alloc: Global, store: &mut Store, text: &str) -> Result<Value, O
 /// # Errors
 /// As `new_text`.
 pub fn new_character(alloc: Global, store: &mut Store, letter: char) -> Result<Value, OpEnd>
-    ensures plain { (steps : ℕ) → Meets result (state_of store.new steps) (new_text (letter ∷ []) (state_of store.old steps)) }
+    ensures plain { (steps : ℕ) → Meets result (state_of store.new steps)
+        (new_text (letter ∷ []) (state_of store.old steps)) }
     ensures same { store.new.heap ≡ store.old.heap }
     ensures sound { (heap : List Owned) → IfOk result (λ v. IsSound heap v) }
+    ensures counters { KeepsCounters store.old store.new }
 {
     charge(store, letter.len_utf8() as u64)?;
     let text = text_of_character(alloc, letter)?;
@@ -59,11 +64,13 @@ fn text_of_character(alloc: Global, letter: char) -> Result<Text, Memory>
 pub fn new_object(store: &mut Store, side: Side, object: Object) -> Result<Value, OpEnd>
     requires holds { Holds store.old.heap side (content_of object) }
     requires value { ¬ IsScope (content_of object) }
-    ensures plain { (steps : ℕ) → Meets result (state_of store.new steps) (new_object side (content_of object) (state_of store.old steps)) }
+    ensures plain { (steps : ℕ) → Meets result (state_of store.new steps)
+        (new_object side (content_of object) (state_of store.old steps)) }
     ensures made { OnOk result (store.new ≡ made store.old side (content_of object)) }
     ensures sound { IfOk result (λ v. IsSound store.new.heap v) }
     ensures shape { KeepsShape store.old.heap store.new.heap }
     ensures same { OnErr result (store.new ≡ store.old) }
+    ensures counters { KeepsCounters store.old store.new }
 {
     let at = store.make(side, object)?;
     Ok(Value::Ref(at))

@@ -80,7 +80,8 @@ fn rock_operand(rock: &Rock) -> Operand<'_>
 
 fn object_operand<'a>(store: &Store, at: Oid, lent: bool) -> Operand<'a>
     requires { IsHeld store.now.heap at }
-    ensures seen { seen store.now.heap result ≡ option_map_or (object_operand (handed lent)) (content_at store.now.heap at) other }
+    ensures seen { seen store.now.heap result
+        ≡ option_map_or (object_operand (handed lent)) (content_at store.now.heap at) other }
     ensures held { IsOperandHeld store.now.heap result }
 {
     let elements = Elements { at, lent };

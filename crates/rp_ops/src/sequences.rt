@@ -1,6 +1,7 @@
 //! Lists and tuples joined and repeated.
 ghost use Rattle.std.specs.Prelude.{◌≡◌, ◌∷◌, ◌++◌, ◌+◌, [], ℕ, length, IfErr, IfOk, OnErr, OnOk};
 ghost use Rattle.std.specs.List.{repeat};
+ghost use Rattle.rp_store.specs.Counters.{KeepsCounters};
 ghost use Rattle.rp_store.specs.Heap.{IsHeld};
 ghost use Rattle.rp_store.specs.Kept.{AreSound, IsSound};
 ghost use Rattle.rp_store.specs.Object.{content_of};
@@ -48,10 +49,13 @@ pub(crate) fn join(
 ) -> Result<Value, OpEnd>
     requires x { IsHeld store.old.heap x.at }
     requires y { IsHeld store.old.heap y.at }
-    ensures plain { (steps : ℕ) → Meets result (state_of store.new steps) (new_object side (sequence_of kind (elements_of store.old.heap x ++ elements_of store.old.heap y)) (state_of store.old steps)) }
+    ensures plain { (steps : ℕ) → Meets result (state_of store.new steps)
+        (new_object side (sequence_of kind (elements_of store.old.heap x ++ elements_of store.old.heap y))
+        (state_of store.old steps)) }
     ensures sound { IfOk result (λ v. IsSound store.new.heap v) }
     ensures grown { Gains (IsSequenceOf side) store.old.heap store.new.heap }
     ensures same { OnErr result (store.new.heap ≡ store.old.heap) }
+    ensures counters { KeepsCounters store.old store.new }
 {
     let cells = 1 + elements_at(store, x.at).len() + elements_at(store, y.at).len();
     charge(store, cells as u64)?;
@@ -74,10 +78,12 @@ pub(crate) fn repeat(
     n: i64,
 ) -> Result<Value, OpEnd>
     requires x { IsHeld store.old.heap x.at }
-    ensures plain { (steps : ℕ) → Meets result (state_of store.new steps) (new_object side (sequence_of kind (repeated n (elements_of store.old.heap x))) (state_of store.old steps)) }
+    ensures plain { (steps : ℕ) → Meets result (state_of store.new steps)
+        (new_object side (sequence_of kind (repeated n (elements_of store.old.heap x))) (state_of store.old steps)) }
     ensures sound { IfOk result (λ v. IsSound store.new.heap v) }
     ensures grown { Gains (IsSequenceOf side) store.old.heap store.new.heap }
     ensures same { OnErr result (store.new.heap ≡ store.old.heap) }
+    ensures counters { KeepsCounters store.old store.new }
 {
     let copies = times(n);
     let size = elements_at(store, x.at).len();
@@ -112,6 +118,7 @@ pub fn add(
     ensures same { OnErr result (store.new ≡ store.old) }
     ensures sound { IfOk result (λ v. IsSound store.new.heap v) }
     ensures grown { Gains (IsSequenceOf side) store.old.heap store.new.heap }
+    ensures counters { KeepsCounters store.old store.new }
 {
     let at = store.add(side, kind.object(elements))?;
     Ok(Value::Ref(at))

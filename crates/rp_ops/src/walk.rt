@@ -2,13 +2,15 @@
 ghost use Rattle.std.specs.Prelude.{◌≡◌, ◌<◌, ◌≤◌, ◌∷◌, [], List, Some, length, map, IfOk};
 ghost use Rattle.std.specs.Option.{option_map, option_map_or};
 ghost use Rattle.std.specs.List.{slice_get};
+ghost use Rattle.rp_store.specs.Counters.{KeepsCounters};
 ghost use Rattle.rp_store.specs.Heap.{IsHeld, Owned, content_at};
 ghost use Rattle.rp_store.specs.Kept.{AreSound, IsSound};
 ghost use Rattle.rp_store.specs.Store.{Cells};
 ghost use Rattle.rp_ops.specs.Binary.{new_text};
 ghost use Rattle.rp_ops.specs.Outcome.{Meets, State, state_of, stepped};
 ghost use Rattle.rp_ops.specs.View.{elements_of, handed, key_rock};
-ghost use Rattle.rp_ops.specs.Walk.{content_elements, elements, items_of, not_walked, rock_elements, spelled_out, walked};
+ghost use Rattle.rp_ops.specs.Walk.{content_elements, elements, items_of, not_walked, rock_elements, spelled_out};
+ghost use Rattle.rp_ops.specs.Walk.{walked};
 
 use crate::ends::{step, steps};
 use crate::made::new_character;
@@ -29,7 +31,8 @@ use std::alloc::Global;
 /// - `StopSteps` where no step is left for one of them, `StopCells` where the cells of a character are over the limit.
 /// - `Memory` where a growth was refused.
 ///
-/// The objects are as before, and the steps left never rise, whatever is answered.
+/// The objects are as before, the steps left never rise, the limit of the cells stays, and no used cell is given back,
+/// whatever is answered.
 pub fn elements(
     alloc: Global,
     store: &mut Store,
@@ -37,10 +40,12 @@ pub fn elements(
     a: &Value,
 ) -> Result<Vec<Value>, OpEnd>
     requires a { IsSound store.old.heap a.now }
-    ensures plain { Meets (items_of result) (state_of store.new meter.new.left) (elements a.now (state_of store.old meter.old.left)) }
+    ensures plain { Meets (items_of result) (state_of store.new meter.new.left)
+        (elements a.now (state_of store.old meter.old.left)) }
     ensures same { store.new.heap ≡ store.old.heap }
     ensures sound { IfOk result (λ v. AreSound store.new.heap v.items) }
     ensures fewer { meter.new.left ≤ meter.old.left }
+    ensures counters { KeepsCounters store.old store.new }
 {
     match a {
         Value::Rock(rock) => rock_elements(alloc, store, meter, rock),
@@ -55,10 +60,12 @@ fn rock_elements(
     meter: &mut Meter,
     rock: &Rock,
 ) -> Result<Vec<Value>, OpEnd>
-    ensures plain { Meets (items_of result) (state_of store.new meter.new.left) (rock_elements rock.now (state_of store.old meter.old.left)) }
+    ensures plain { Meets (items_of result) (state_of store.new meter.new.left)
+        (rock_elements rock.now (state_of store.old meter.old.left)) }
     ensures same { store.new.heap ≡ store.old.heap }
     ensures sound { (heap : List Owned) → IfOk result (λ v. AreSound heap v.items) }
     ensures fewer { meter.new.left ≤ meter.old.left }
+    ensures counters { KeepsCounters store.old store.new }
 {
     match rock {
         Rock::Text(text) => spelled_out(alloc, store, meter, text),
@@ -78,10 +85,12 @@ fn spelled_out(
     meter: &mut Meter,
     text: &Text,
 ) -> Result<Vec<Value>, OpEnd>
-    ensures plain { Meets (items_of result) (state_of store.new meter.new.left) (spelled_out text.now (state_of store.old meter.old.left)) }
+    ensures plain { Meets (items_of result) (state_of store.new meter.new.left)
+        (spelled_out text.now (state_of store.old meter.old.left)) }
     ensures same { store.new.heap ≡ store.old.heap }
     ensures sound { (heap : List Owned) → IfOk result (λ v. AreSound heap v.items) }
     ensures fewer { meter.new.left ≤ meter.old.left }
+    ensures counters { KeepsCounters store.old store.new }
 {
     let mut letters = Vec::new(alloc);
     for letter in text.as_str().chars() {
@@ -97,10 +106,12 @@ pub(crate) fn next_character(
     meter: &mut Meter,
     letter: char,
 ) -> Result<Value, OpEnd>
-    ensures plain { Meets result (state_of store.new meter.new.left) (stepped (state_of store.old meter.old.left) (new_text (letter ∷ []))) }
+    ensures plain { Meets result (state_of store.new meter.new.left)
+        (stepped (state_of store.old meter.old.left) (new_text (letter ∷ []))) }
     ensures same { store.new.heap ≡ store.old.heap }
     ensures sound { (heap : List Owned) → IfOk result (λ v. IsSound heap v) }
     ensures fewer { meter.new.left ≤ meter.old.left }
+    ensures counters { KeepsCounters store.old store.new }
 {
     step(meter)?;
     new_character(alloc, store, letter)
@@ -114,7 +125,9 @@ fn object_elements(
     lent: bool,
 ) -> Result<Vec<Value>, OpEnd>
     requires held { IsHeld store.now.heap at }
-    ensures plain { Meets (items_of result) (state_of store.now meter.new.left) (option_map_or (λ c. content_elements (handed lent) c (state_of store.now meter.old.left)) (content_at store.now.heap at) (not_walked (state_of store.now meter.old.left))) }
+    ensures plain { Meets (items_of result) (state_of store.now meter.new.left)
+        (option_map_or (λ c. content_elements (handed lent) c (state_of store.now meter.old.left))
+        (content_at store.now.heap at) (not_walked (state_of store.now meter.old.left))) }
     ensures sound { IfOk result (λ v. AreSound store.now.heap v.items) }
     ensures fewer { meter.new.left ≤ meter.old.left }
 {
@@ -133,7 +146,8 @@ fn object_elements(
 /// The elements of a list or tuple.
 fn walked(alloc: Global, store: &Store, meter: &mut Meter, x: Elements) -> Result<Vec<Value>, OpEnd>
     requires held { IsHeld store.now.heap x.at }
-    ensures plain { Meets (items_of result) (state_of store.now meter.new.left) (walked (elements_of store.now.heap x) (state_of store.now meter.old.left)) }
+    ensures plain { Meets (items_of result) (state_of store.now meter.new.left)
+        (walked (elements_of store.now.heap x) (state_of store.now meter.old.left)) }
     ensures sound { IfOk result (λ v. AreSound store.now.heap v.items) }
     ensures fewer { meter.new.left ≤ meter.old.left }
 {
@@ -162,7 +176,8 @@ fn keys(
     meter: &mut Meter,
     entries: &Dict<Key, (Rock, Value)>,
 ) -> Result<Vec<Value>, OpEnd>
-    ensures plain { (store : Cells) → Meets (items_of result) (state_of store meter.new.left) (walked (map key_rock entries.now) (state_of store meter.old.left)) }
+    ensures plain { (store : Cells) → Meets (items_of result) (state_of store meter.new.left)
+        (walked (map key_rock entries.now) (state_of store meter.old.left)) }
     ensures sound { (heap : List Owned) → IfOk result (λ v. AreSound heap v.items) }
     ensures fewer { meter.new.left ≤ meter.old.left }
 {

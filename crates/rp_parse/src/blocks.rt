@@ -32,7 +32,9 @@ fn compound<'a>(
     line: Line,
     form: Found<'a, StmtForm>,
 ) -> Result<&'a [Token], Stop<'a>>
-    ensures { (read : p.Found Form) → Gives (λ x. (w.view_stmt_form x.0, x.1.now)) form.entry read → Gives (λ x. (w.view_stmts found.new.items, x.now)) result (ahead (g.joined (w.view_stmts found.old.items)) (p.compound line read)) }
+    ensures { (read : p.Found Form) → Gives (λ x. (w.view_stmt_form x.0, x.1.now)) form.entry read
+        → Gives (λ x. (w.view_stmts found.new.items, x.now)) result
+        (ahead (g.joined (w.view_stmts found.old.items)) (p.compound line read)) }
 {
     let (form, rest) = form?;
     found.push(stmt(alloc, line, form)?)?;
@@ -48,7 +50,10 @@ fn statement<'a>(
     tokens: &'a [Token],
     setting: Setting<'_>,
 ) -> Result<&'a [Token], Stop<'a>>
-    ensures { Gives (λ x. (w.view_stmts found.new.items, x.now)) result (ahead (g.joined (w.view_stmts found.old.items)) (p.statement_at deep setting.entry.height (context_of setting.entry.context) setting.entry.members (block_at deep setting.entry.height) tokens.now)) }
+    ensures { Gives (λ x. (w.view_stmts found.new.items, x.now)) result
+        (ahead (g.joined (w.view_stmts found.old.items))
+        (p.statement_at deep setting.entry.height (context_of setting.entry.context) setting.entry.members
+        (block_at deep setting.entry.height) tokens.now)) }
 {
     match tokens {
         [] => line(alloc, found, tokens, setting),
@@ -106,7 +111,10 @@ fn statements<'a>(
     tokens: &'a [Token],
     setting: Setting<'_>,
 ) -> Result<&'a [Token], Stop<'a>>
-    ensures { Gives (λ x. (w.view_stmts found.new.items, x.now)) result (ahead (g.joined (w.view_stmts found.old.items)) (p.statements deep setting.entry.height (context_of setting.entry.context) setting.entry.members (block_at deep setting.entry.height) tokens.now)) }
+    ensures { Gives (λ x. (w.view_stmts found.new.items, x.now)) result
+        (ahead (g.joined (w.view_stmts found.old.items))
+        (p.statements deep setting.entry.height (context_of setting.entry.context) setting.entry.members
+        (block_at deep setting.entry.height) tokens.now)) }
 {
     let mut rest = tokens;
     let mut turns = tokens.len() + 1;
@@ -127,7 +135,9 @@ fn statements<'a>(
 #[cycle(statements)]
 #[tactic(auto, unfolding(rp_grammar::specs::StatementReading::indented))]
 fn indented<'a>(alloc: Global, tokens: &'a [Token], setting: Setting<'_>) -> Found<'a, Vec<Stmt>>
-    ensures { Gives (λ x. (w.view_stmts x.0.items, x.1.now)) result (p.indented deep setting.entry.height (context_of setting.entry.context) setting.entry.members (block_at deep setting.entry.height) tokens.now) }
+    ensures { Gives (λ x. (w.view_stmts x.0.items, x.1.now)) result
+        (p.indented deep setting.entry.height (context_of setting.entry.context) setting.entry.members
+        (block_at deep setting.entry.height) tokens.now) }
 {
     let mut found = Vec::new(alloc);
     let rest = match statement(alloc, &mut found, tokens, setting) {
@@ -154,7 +164,9 @@ fn block_inside<'a>(
     tokens: &'a [Token],
     setting: Setting<'_>,
 ) -> Found<'a, Vec<Stmt>>
-    ensures { Gives (λ x. (w.view_stmts x.0.items, x.1.now)) result (p.block_by (first tokens.now) deep setting.entry.height (context_of setting.entry.context) setting.entry.members (block_at deep setting.entry.height) tokens.now) }
+    ensures { Gives (λ x. (w.view_stmts x.0.items, x.1.now)) result
+        (p.block_by (first tokens.now) deep setting.entry.height
+        (context_of setting.entry.context) setting.entry.members (block_at deep setting.entry.height) tokens.now) }
 {
     match tokens {
         [

@@ -16,8 +16,9 @@ use crate::context::{Setting, function_block};
 use crate::fault::Stop;
 use crate::lines::{Found, low_expr, low_list, low_parameters, low_target};
 use crate::look::{is_as, is_elif, is_else, is_except, is_finally, is_left_paren};
+use crate::parameters::Parameters;
 use rp_expr::look::{is_colon, is_in, is_right_paren, skip};
-use rp_expr::{name, parameter_names};
+use rp_expr::name;
 use rp_token::{Token, TokenKind};
 use rp_tree::{Block, Branch, Except, Expr, Stmt, StmtForm, Walk};
 use std::alloc::Global;
@@ -37,7 +38,8 @@ fn suite<'a>(alloc: Global, tokens: &'a [Token], setting: Setting<'_>) -> Found<
 #[cycle(statements)]
 #[tactic(auto, unfolding(rp_grammar::specs::StatementReading::tested), using(rp_tree::proofs::StatementEquations::variants))]
 fn tested<'a>(alloc: Global, tokens: &'a [Token], setting: Setting<'_>) -> Found<'a, Branch>
-    ensures { Gives (λ x. (w.view_branch x.0, x.1.now)) result (p.tested deep setting.entry.height (block_of setting.entry) tokens.now) }
+    ensures { Gives (λ x. (w.view_branch x.0, x.1.now)) result
+        (p.tested deep setting.entry.height (block_of setting.entry) tokens.now) }
 {
     let (test, rest) = low_expr(alloc, tokens, setting.height)?;
     let (body, rest) = suite(alloc, rest, setting)?;
@@ -52,7 +54,9 @@ fn elifs<'a>(
     tokens: &'a [Token],
     setting: Setting<'_>,
 ) -> Found<'a, Vec<Branch>>
-    ensures { Gives (λ x. (w.branches_of (map w.view_branch x.0.items), x.1.now)) result (ahead (with_branch (w.view_branch first)) (p.elifs deep setting.entry.height (block_of setting.entry) tokens.now)) }
+    ensures { Gives (λ x. (w.branches_of (map w.view_branch x.0.items), x.1.now)) result
+        (ahead (with_branch (w.view_branch first))
+        (p.elifs deep setting.entry.height (block_of setting.entry) tokens.now)) }
 {
     let mut found = Vec::with_capacity(alloc, 1)?;
     found.push(first)?;
@@ -81,7 +85,8 @@ fn otherwise<'a>(
     tokens: &'a [Token],
     setting: Setting<'_>,
 ) -> Found<'a, Option<Vec<Stmt>>>
-    ensures { Gives (λ x. (w.view_maybe_stmts x.0, x.1.now)) result (p.maybe_suite p.is_else (block_of setting.entry) tokens.now) }
+    ensures { Gives (λ x. (w.view_maybe_stmts x.0, x.1.now)) result
+        (p.maybe_suite p.is_else (block_of setting.entry) tokens.now) }
 {
     if !is_else(tokens) {
         return Ok((None, tokens));
@@ -100,7 +105,8 @@ fn finally<'a>(
     tokens: &'a [Token],
     setting: Setting<'_>,
 ) -> Found<'a, Option<Vec<Stmt>>>
-    ensures { Gives (λ x. (w.view_maybe_stmts x.0, x.1.now)) result (p.maybe_suite p.is_finally (block_of setting.entry) tokens.now) }
+    ensures { Gives (λ x. (w.view_maybe_stmts x.0, x.1.now)) result
+        (p.maybe_suite p.is_finally (block_of setting.entry) tokens.now) }
 {
     if !is_finally(tokens) {
         return Ok((None, tokens));
@@ -119,7 +125,8 @@ pub fn if_statement<'a>(
     tokens: &'a [Token],
     setting: Setting<'_>,
 ) -> Found<'a, StmtForm>
-    ensures { Gives (λ x. (w.view_stmt_form x.0, x.1.now)) result (p.if_statement deep setting.entry.height (block_of setting.entry) tokens.now) }
+    ensures { Gives (λ x. (w.view_stmt_form x.0, x.1.now)) result
+        (p.if_statement deep setting.entry.height (block_of setting.entry) tokens.now) }
 {
     let (first, rest) = tested(alloc, tokens, setting)?;
     let (branches, rest) = elifs(alloc, first, rest, setting)?;
@@ -135,7 +142,8 @@ pub fn while_statement<'a>(
     tokens: &'a [Token],
     setting: Setting<'_>,
 ) -> Found<'a, StmtForm>
-    ensures { Gives (λ x. (w.view_stmt_form x.0, x.1.now)) result (p.while_statement deep setting.entry.height (block_of setting.entry) tokens.now) }
+    ensures { Gives (λ x. (w.view_stmt_form x.0, x.1.now)) result
+        (p.while_statement deep setting.entry.height (block_of setting.entry) tokens.now) }
 {
     let (Branch { test, body }, rest) = tested(alloc, tokens, setting)?;
     Ok((StmtForm::While(test, body), rest))
@@ -149,7 +157,8 @@ pub fn for_statement<'a>(
     tokens: &'a [Token],
     setting: Setting<'_>,
 ) -> Found<'a, StmtForm>
-    ensures { Gives (λ x. (w.view_stmt_form x.0, x.1.now)) result (p.for_statement deep setting.entry.height (block_of setting.entry) tokens.now) }
+    ensures { Gives (λ x. (w.view_stmt_form x.0, x.1.now)) result
+        (p.for_statement deep setting.entry.height (block_of setting.entry) tokens.now) }
 {
     let (target, rest) = low_target(alloc, tokens, setting.height)?;
     if !is_in(rest) {
@@ -174,7 +183,9 @@ fn named_handler<'a>(
     tokens: &'a [Token],
     setting: Setting<'_>,
 ) -> Found<'a, (Except, bool)>
-    ensures { Gives (λ x. ((w.view_except x.0.0, x.0.1), x.1.now)) result (p.named_handler (first tokens.now) (first (skip tokens.now)) (block_of setting.entry) (v.view_expr kind) tokens.now) }
+    ensures { Gives (λ x. ((w.view_except x.0.0, x.0.1), x.1.now)) result
+        (p.named_handler (first tokens.now) (first (skip tokens.now)) (block_of setting.entry)
+        (v.view_expr kind) tokens.now) }
 {
     if !is_as(tokens) {
         let (body, rest) = suite(alloc, tokens, setting)?;
@@ -203,7 +214,8 @@ fn handler<'a>(
     tokens: &'a [Token],
     setting: Setting<'_>,
 ) -> Found<'a, (Except, bool)>
-    ensures { Gives (λ x. ((w.view_except x.0.0, x.0.1), x.1.now)) result (p.handler deep setting.entry.height (block_of setting.entry) tokens.now) }
+    ensures { Gives (λ x. ((w.view_except x.0.0, x.0.1), x.1.now)) result
+        (p.handler deep setting.entry.height (block_of setting.entry) tokens.now) }
 {
     if is_colon(tokens) {
         let (body, rest) = suite(alloc, tokens, setting)?;
@@ -227,7 +239,9 @@ fn handlers<'a>(
     tokens: &'a [Token],
     setting: Setting<'_>,
 ) -> Found<'a, Vec<Except>>
-    ensures { Gives (λ x. (w.excepts_of (map w.view_except x.0.items), x.1.now)) result (ahead (s.except (w.view_except first)) (p.handlers deep setting.entry.height (block_of setting.entry) handles_all tokens.now)) }
+    ensures { Gives (λ x. (w.excepts_of (map w.view_except x.0.items), x.1.now)) result
+        (ahead (s.except (w.view_except first))
+        (p.handlers deep setting.entry.height (block_of setting.entry) handles_all tokens.now)) }
 {
     let mut found = Vec::with_capacity(alloc, 1)?;
     found.push(first)?;
@@ -259,7 +273,9 @@ fn handled<'a>(
     tokens: &'a [Token],
     setting: Setting<'_>,
 ) -> Found<'a, StmtForm>
-    ensures { Gives (λ x. (w.view_stmt_form x.0, x.1.now)) result (gives.handled setting.entry.height (block_of setting.entry) (handling_of setting.entry) (w.view_stmts body.items) tokens.now) }
+    ensures { Gives (λ x. (w.view_stmt_form x.0, x.1.now)) result
+        (gives.handled setting.entry.height (block_of setting.entry) (handling_of setting.entry)
+        (w.view_stmts body.items) tokens.now) }
 {
     let handling = setting.block(setting.context.with_handler());
     let ((first, handles_all), rest) = handler(alloc, tokens, handling)?;
@@ -284,7 +300,8 @@ fn finished<'a>(
     tokens: &'a [Token],
     setting: Setting<'_>,
 ) -> Found<'a, StmtForm>
-    ensures { Gives (λ x. (w.view_stmt_form x.0, x.1.now)) result (gives.finished (block_of setting.entry) (w.view_stmts body.items) tokens.now) }
+    ensures { Gives (λ x. (w.view_stmt_form x.0, x.1.now)) result
+        (gives.finished (block_of setting.entry) (w.view_stmts body.items) tokens.now) }
 {
     let (last, rest) = suite(alloc, tokens, setting)?;
     let form = StmtForm::Try {
@@ -304,7 +321,9 @@ fn behind_try<'a>(
     tokens: &'a [Token],
     setting: Setting<'_>,
 ) -> Found<'a, StmtForm>
-    ensures { Gives (λ x. (w.view_stmt_form x.0, x.1.now)) result (p.behind_try (first tokens.now) deep setting.entry.height (block_of setting.entry) (handling_of setting.entry) (w.view_stmts body.items) tokens.now) }
+    ensures { Gives (λ x. (w.view_stmt_form x.0, x.1.now)) result
+        (p.behind_try (first tokens.now) deep setting.entry.height (block_of setting.entry) (handling_of setting.entry)
+        (w.view_stmts body.items) tokens.now) }
 {
     match tokens {
         [
@@ -333,7 +352,8 @@ pub fn try_statement<'a>(
     tokens: &'a [Token],
     setting: Setting<'_>,
 ) -> Found<'a, StmtForm>
-    ensures { Gives (λ x. (w.view_stmt_form x.0, x.1.now)) result (p.try_statement deep setting.entry.height (block_of setting.entry) (handling_of setting.entry) tokens.now) }
+    ensures { Gives (λ x. (w.view_stmt_form x.0, x.1.now)) result
+        (p.try_statement deep setting.entry.height (block_of setting.entry) (handling_of setting.entry) tokens.now) }
 {
     let (body, rest) = match suite(alloc, tokens, setting) {
         Ok(found) => found,
@@ -350,7 +370,10 @@ pub fn def_statement<'a>(
     tokens: &'a [Token],
     setting: Setting<'_>,
 ) -> Found<'a, StmtForm>
-    ensures { Gives (λ x. (w.view_stmt_form x.0, x.1.now)) result (p.def_statement deep setting.entry.height (λ ps. block_at deep setting.entry.height (g.in_function ps (context_of setting.entry.context)) false) tokens.now) }
+    ensures { Gives (λ x. (w.view_stmt_form x.0, x.1.now)) result
+        (p.def_statement deep setting.entry.height
+        (λ ps. block_at deep setting.entry.height
+        (g.in_function ps (context_of setting.entry.context)) false) tokens.now) }
 {
     let (name, rest) = name(tokens)?;
     if !is_left_paren(rest) {
@@ -360,8 +383,8 @@ pub fn def_statement<'a>(
     if !is_right_paren(rest) {
         return Err(Stop::Syntax(None));
     }
-    let names = parameter_names(alloc, &parameters)?;
-    let inner = setting.block(function_block(&names, setting.context));
+    let named = Parameters::of(alloc, &parameters)?;
+    let inner = setting.block(function_block(&named, setting.context));
     let (body, rest) = suite(alloc, skip(rest), inner)?;
     Ok((StmtForm::Def(Block(0), name, parameters, body), rest))
 }
@@ -389,7 +412,8 @@ pub fn class_statement<'a>(
     tokens: &'a [Token],
     setting: Setting<'_>,
 ) -> Found<'a, StmtForm>
-    ensures { Gives (λ x. (w.view_stmt_form x.0, x.1.now)) result (p.class_statement (block_of setting.entry) tokens.now) }
+    ensures { Gives (λ x. (w.view_stmt_form x.0, x.1.now)) result
+        (p.class_statement (block_of setting.entry) tokens.now) }
 {
     let (name, rest) = name(tokens)?;
     let rest = bases(rest)?;

@@ -6,7 +6,7 @@ ghost use Rattle.rp_grammar.specs.Statements as g;
 ghost use Rattle.rp_parse.specs.Gives.{context_of};
 
 use crate::fault::Stop;
-use rp_base::Name;
+use crate::parameters::Parameters;
 use rp_tree::Named;
 
 /// What a statement stands in.
@@ -18,8 +18,8 @@ pub struct Context<'c> {
     pub in_handler: bool,
     /// A class, at any depth.
     pub in_class: bool,
-    /// A function, by the names of its parameters.
-    pub function: Option<&'c [Name]>,
+    /// A function, by its parameters.
+    pub function: Option<&'c Parameters>,
 }
 
 impl<'c> Context<'c> {
@@ -66,9 +66,14 @@ impl<'c> Context<'c> {
     }
 }
 
-/// The block of a function whose parameters have these names.
-pub fn function_block<'n>(parameters: &'n [Name], context: Context<'_>) -> Context<'n>
-    ensures { context_of result ≡ record { loop = false; handler = false; class = context.entry.in_class; function = Some parameters.now } }
+/// The block of a function with these parameters.
+pub fn function_block<'n>(parameters: &'n Parameters, context: Context<'_>) -> Context<'n>
+    ensures { context_of result ≡ record {
+      loop = false;
+      handler = false;
+      class = context.entry.in_class;
+      function = Some parameters.now;
+    } }
 {
     Context {
         in_loop: false,
@@ -84,7 +89,7 @@ fn is_free(context: &Context<'_>, named: &Named) -> bool
 {
     match context.function {
         None => true,
-        Some(parameters) => !parameters.contains(&named.name),
+        Some(parameters) => !parameters.have(named.name),
     }
 }
 
@@ -140,7 +145,8 @@ impl<'c> Setting<'c> {
 
     /// The statements of a block of a statement that is no member of a class.
     pub fn no_member<'n>(self, context: Context<'n>) -> Result<Setting<'n>, Stop<'static>>
-        ensures ok { IfOk result (λ x. (self.entry.members ≡ false) × (x.height ≡ self.entry.height) × (context_of x.context ≡ context_of context.entry) × (x.members ≡ false)) }
+        ensures ok { IfOk result (λ x. (self.entry.members ≡ false) × (x.height ≡ self.entry.height)
+            × (context_of x.context ≡ context_of context.entry) × (x.members ≡ false)) }
         ensures err { IfErr result (λ e. (self.entry.members ≡ true) × (e ≡ Stop.Syntax None)) }
     {
         if self.members {

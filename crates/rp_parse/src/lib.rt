@@ -16,6 +16,7 @@ mod context;
 mod fault;
 mod lines;
 mod look;
+mod parameters;
 mod simple_statements;
 
 use blocks::program;
@@ -38,11 +39,13 @@ use std::alloc::Global;
 pub fn parse(alloc: Global, tokens: &[Token]) -> Result<Tree, ParseFault>
     requires shallow { IsWithin 450 0 tokens.now }
     ensures spelled { IfOk result (λ tree. Spells (view_tree tree) tokens.now) }
-    ensures only { (tree : Stmts) → Spells tree tokens.now → MatchResult result (λ t. view_tree t ≡ tree) (λ e. e ≡ ParseFault.Memory) }
+    ensures only { (tree : Stmts) → Spells tree tokens.now
+        → MatchResult result (λ t. view_tree t ≡ tree) (λ e. e ≡ ParseFault.Memory) }
     ensures one { (a b : Stmts) → Spells a tokens.now → Spells b tokens.now → a ≡ b }
     ensures plain { IfOk result (λ tree. HasNoGuards (view_tree tree)) }
     ensures leaves { IfOk result (λ tree. HasLeavesOf tokens.now (view_tree tree)) }
-    ensures syntax { IfErr result (λ e. e ≢ ParseFault.Memory → (front : Tokens) × (rest : Tokens) × (e ≡ ParseFault.Syntax (line_at rest)) × IsLongestGood front rest tokens.now) }
+    ensures syntax { IfErr result (λ e. e ≢ ParseFault.Memory → (front : Tokens) × (rest : Tokens)
+        × (e ≡ ParseFault.Syntax (line_at rest)) × IsLongestGood front rest tokens.now) }
 {
     match program(alloc, tokens) {
         Ok((body, _)) => Ok(Tree { body }),

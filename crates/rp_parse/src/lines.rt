@@ -48,7 +48,8 @@ pub fn low_expr(alloc: Global, tokens: &[Token], most: u8) -> Found<'_, Expr>
 
 /// An expression list of height at most so many.
 pub fn low_list(alloc: Global, tokens: &[Token], most: u8) -> Found<'_, Expr>
-    ensures { Gives (λ x. (v.view_expr x.0, x.1.now)) result (p.within h.expr_height most (read.expr_list deep tokens.now)) }
+    ensures { Gives (λ x. (v.view_expr x.0, x.1.now)) result
+        (p.within h.expr_height most (read.expr_list deep tokens.now)) }
 {
     let (found, rest) = expr_list(alloc, tokens, DEPTH)?;
     if !fits(expr_height(&found), u32::from(most)) {
@@ -59,7 +60,8 @@ pub fn low_list(alloc: Global, tokens: &[Token], most: u8) -> Found<'_, Expr>
 
 /// A target of height at most so many.
 pub fn low_target(alloc: Global, tokens: &[Token], most: u8) -> Found<'_, Target>
-    ensures { Gives (λ x. (v.view_target x.0, x.1.now)) result (p.within h.target_height most (read.target deep tokens.now)) }
+    ensures { Gives (λ x. (v.view_target x.0, x.1.now)) result
+        (p.within h.target_height most (read.target deep tokens.now)) }
 {
     let (found, rest) = target(alloc, tokens, DEPTH)?;
     if !fits(target_height(&found), u32::from(most)) {
@@ -82,7 +84,8 @@ fn parameters(alloc: Global, tokens: &[Token]) -> Read<'_, Params>
 
 /// Parameters whose names differ and whose defaults have height at most so many.
 pub fn low_parameters(alloc: Global, tokens: &[Token], most: u8) -> Found<'_, Params>
-    ensures { Gives (λ x. (v.view_params x.0, x.1.now)) result (p.within h.params_height most (p.parameters deep tokens.now)) }
+    ensures { Gives (λ x. (v.view_params x.0, x.1.now)) result
+        (p.within h.params_height most (p.parameters deep tokens.now)) }
 {
     let (found, rest) = parameters(alloc, tokens)?;
     if !fits(params_height(&found), u32::from(most)) {
@@ -93,7 +96,9 @@ pub fn low_parameters(alloc: Global, tokens: &[Token], most: u8) -> Found<'_, Pa
 
 /// A simple statement of height at most so many.
 fn low_simple<'a>(alloc: Global, tokens: &'a [Token], setting: Setting<'_>) -> Found<'a, Stmt>
-    ensures { Gives (λ x. (w.view_stmt x.0, x.1.now)) result (p.within h.stmt_height (suc setting.entry.height) (p.simple deep (context_of setting.entry.context) tokens.now)) }
+    ensures { Gives (λ x. (w.view_stmt x.0, x.1.now)) result
+        (p.within h.stmt_height (suc setting.entry.height)
+        (p.simple deep (context_of setting.entry.context) tokens.now)) }
 {
     let (found, rest) = simple(alloc, tokens, setting.context)?;
     if !fits(stmt_height(&found), u32::from(setting.height) + 1) {
@@ -130,7 +135,8 @@ fn is_member(stmt: &Stmt) -> bool
 /// A simple statement; in the block of a class, a member.
 #[tactic(auto, unfolding(rp_grammar::specs::StatementReading::simple_at))]
 fn simple_at<'a>(alloc: Global, tokens: &'a [Token], setting: Setting<'_>) -> Found<'a, Stmt>
-    ensures { Gives (λ x. (w.view_stmt x.0, x.1.now)) result (p.simple_at deep setting.entry.height (context_of setting.entry.context) setting.entry.members tokens.now) }
+    ensures { Gives (λ x. (w.view_stmt x.0, x.1.now)) result
+        (p.simple_at deep setting.entry.height (context_of setting.entry.context) setting.entry.members tokens.now) }
 {
     let (found, rest) = low_simple(alloc, tokens, setting)?;
     if setting.members && !is_member(&found) {
@@ -142,7 +148,8 @@ fn simple_at<'a>(alloc: Global, tokens: &'a [Token], setting: Setting<'_>) -> Fo
 /// A simple statement, and whether another follows on its line.
 #[tactic(auto, unfolding(rp_grammar::specs::StatementReading::item_at))]
 fn item<'a>(alloc: Global, tokens: &'a [Token], setting: Setting<'_>) -> Found<'a, (Stmt, bool)>
-    ensures { Gives (λ x. ((w.view_stmt x.0.0, x.0.1), x.1.now)) result (p.item_at deep setting.entry.height (context_of setting.entry.context) setting.entry.members tokens.now) }
+    ensures { Gives (λ x. ((w.view_stmt x.0.0, x.0.1), x.1.now)) result
+        (p.item_at deep setting.entry.height (context_of setting.entry.context) setting.entry.members tokens.now) }
 {
     let (found, rest) = simple_at(alloc, tokens, setting)?;
     match rest {
@@ -176,7 +183,9 @@ pub fn line<'a>(
     tokens: &'a [Token],
     setting: Setting<'_>,
 ) -> Result<&'a [Token], Stop<'a>>
-    ensures { Gives (λ x. (w.view_stmts found.new.items, x.now)) result (ahead (g.joined (w.view_stmts found.old.items)) (p.line deep setting.entry.height (context_of setting.entry.context) setting.entry.members tokens.now)) }
+    ensures { Gives (λ x. (w.view_stmts found.new.items, x.now)) result
+        (ahead (g.joined (w.view_stmts found.old.items))
+        (p.line deep setting.entry.height (context_of setting.entry.context) setting.entry.members tokens.now)) }
 {
     let mut rest = tokens;
     let mut turns = tokens.len() + 1;

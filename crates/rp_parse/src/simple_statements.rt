@@ -40,7 +40,8 @@ fn place(alloc: Global, tokens: &[Token]) -> Read<'_, Place>
 
 /// A place, and those behind it and a comma.
 fn other_places(alloc: Global, first: Place, tokens: &[Token]) -> Read<'_, Vec<Place>>
-    ensures { Gives (λ x. (map v.view_place x.0.items, x.1.now)) result (other_places deep (v.view_place first) tokens.now) }
+    ensures { Gives (λ x. (map v.view_place x.0.items, x.1.now)) result
+        (other_places deep (v.view_place first) tokens.now) }
 {
     let mut found = Vec::with_capacity(alloc, 1)?;
     found.push(first)?;
@@ -126,7 +127,8 @@ fn return_statement<'a>(
     tokens: &'a [Token],
     context: Context<'_>,
 ) -> Read<'a, Stmt>
-    ensures { Gives (λ x. (w.view_stmt x.0, x.1.now)) result (p.return deep (context_of context.entry) line tokens.now) }
+    ensures { Gives (λ x. (w.view_stmt x.0, x.1.now)) result
+        (p.return deep (context_of context.entry) line tokens.now) }
 {
     if context.function.is_none() {
         return Err(Fault::Syntax);
@@ -197,7 +199,8 @@ fn del_statement(alloc: Global, line: Line, tokens: &[Token]) -> Read<'_, Stmt>
 
 /// Behind places, each with `=` behind it: further ones, and the value.
 fn assigned(alloc: Global, places: Vec<Place>, tokens: &[Token]) -> Read<'_, (Vec<Place>, Expr)>
-    ensures { Gives (λ x. ((map v.view_place x.0.0.items, v.view_expr x.0.1), x.1.now)) result (before (with_places (map v.view_place places.items)) (p.assigned deep tokens.now)) }
+    ensures { Gives (λ x. ((map v.view_place x.0.0.items, v.view_expr x.0.1), x.1.now)) result
+        (before (with_places (map v.view_place places.items)) (p.assigned deep tokens.now)) }
 {
     let mut places = places;
     let mut rest = tokens;
@@ -258,7 +261,8 @@ fn augmented(alloc: Global, op: BinOp, left: Expr, tokens: &[Token]) -> Read<'_,
 /// Behind an expression list.
 #[tactic(auto, using(rp_tree::proofs::StatementEquations::variants))]
 fn behind_exprs(alloc: Global, left: Expr, tokens: &[Token]) -> Read<'_, Stmt>
-    ensures { Gives (λ x. (w.view_stmt x.0, x.1.now)) result (p.behind_exprs (first tokens.now) (augmented_of (first tokens.now)) deep (v.view_expr left) tokens.now) }
+    ensures { Gives (λ x. (w.view_stmt x.0, x.1.now)) result
+        (p.behind_exprs (first tokens.now) (augmented_of (first tokens.now)) deep (v.view_expr left) tokens.now) }
 {
     if let Some(op) = augmented_op(tokens) {
         return augmented(alloc, op, left, tokens);
@@ -310,7 +314,8 @@ fn loop_statement<'a>(
     rest: &'a [Token],
     context: Context<'_>,
 ) -> Read<'a, Stmt>
-    ensures { Gives (λ x. (w.view_stmt x.0, x.1.now)) result (allowed context.entry.in_loop line (w.view_stmt_form form) rest.now) }
+    ensures { Gives (λ x. (w.view_stmt x.0, x.1.now)) result
+        (allowed context.entry.in_loop line (w.view_stmt_form form) rest.now) }
 {
     if !context.in_loop {
         return Err(Fault::Syntax);

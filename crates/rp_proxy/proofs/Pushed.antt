@@ -1,5 +1,6 @@
 -- The world after an entry was pushed.
-use Rattle.std.proofs.Common.{◌≡◌, ◌+◌, ◌≤◌, length, [], ◌∷◌, ◌++◌, Option, Some, ap, subst, sym, ◌∙◌, unwrap_or}
+use Rattle.std.proofs.Common.{◌≡◌, ℕ, Bool, true, false, nat_lt, ◌<◌, Result, Ok, Err, ◌+◌, ◌≤◌, refl, length, [], ◌∷◌, ◌++◌, Option, Some, ap, subst, sym, ◌∙◌, unwrap_or}
+use Rattle.std.proofs.lemmas.Bool.{ltb-false, ltb-true}
 use Rattle.std.specs.Option.{option_map_or}
 use Rattle.rp_base.specs.declared.value.ClassTag.{ClassTag}
 use Rattle.rp_base.specs.declared.value.ClassTag.TheVariants.{Other}
@@ -12,6 +13,8 @@ use Rattle.rp_decl.specs.View.{declarations_view, name_text}
 use Rattle.rp_decl.specs.declared.row.Row.{Row}
 use Rattle.rp_interact.specs.Interacting.{Interacting}
 use Rattle.rp_store.specs.Heap.{tag_at}
+use Rattle.rp_store.specs.declared.store.StoreFault.{StoreFault}
+use Rattle.rp_store.specs.declared.store.StoreFault.TheVariants.{Cells}
 use Rattle.rp_trail.specs.View.{IsEntryHeld, IsVerdictDeclared, op_name, verdict_view}
 use Rattle.rp_trail.specs.declared.entry.Entry.{Entry}
 use Rattle.rp_trail.specs.declared.entry.Verdict.{Verdict}
@@ -75,3 +78,15 @@ module _ (w : World) (at : Oid) (op : Op) (class : ClassTag) (row : Row) (v : Ve
       let verdict : v ≡ verdict_in w.running.interaction (row_in w.checkers (class_at w.store.heap at) op) =
       verdict_is ∙ ap (verdict_in w.running.interaction) (row_is ∙ ap (λ t. row_in w.checkers t op) class_is) in
       λ k. w.trail ++ record { session = w.running.session; op = op; class = class_is k; verdict = verdict k } ∷ []
+
+-- an entry that was pushed met no fault
+pub no_fault : ◌≡◌ {A = Result (Unit {0}) StoreFault} (Ok tt) (Err Cells) → ⊥
+no_fault e = cc
+
+-- a cell is left where one more is not over the limit
+pub cell_left : (limit used : ℕ) → (limit < used + 1 → ⊥) → used + 1 ≤ limit
+cell_left limit used few = by (nat_lt limit (used + 1)) refl
+  where
+    by : (over : Bool) → nat_lt limit (used + 1) ≡ over → used + 1 ≤ limit
+    by true e = absurd (few (ltb-true limit (used + 1) e))
+    by false e = ltb-false limit (used + 1) e

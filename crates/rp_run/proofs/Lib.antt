@@ -1,5 +1,5 @@
 mod Ascii
-mod Checks
+mod Scripts
 mod Ended
 mod Ids
 mod Later
@@ -7,3 +7,5 @@ mod Pieces
 mod Reasons
 mod Sayings
 pub mod Taken
+pub mod Determined
+mod OneScript

@@ -1,8 +1,10 @@
 -- What the words of a command line say.
-use Rattle.std.specs.Prelude.{◌≢◌, ◌<◌, slice_index, ℕ, Bool, ◌&&◌, ◌==◌, not, nat_eq, nat_lt, if◌then◌else◌, List, [], ◌∷◌, ◌++◌, length, map, chars, codes, Option, Some, None}
+use Rattle.std.specs.Prelude.{◌≢◌, ◌<◌, slice_index, ℕ, Bool, ◌&&◌, ◌==◌, not, nat_eq, nat_lt, if◌then◌else◌, List, [], ◌∷◌, ◌++◌, length, map, chars, codes, Option, Some, None, option_map}
 use Rattle.std.specs.List.{before_first, after_first, list_all, starts_with}
 use Rattle.std.specs.Cmp.Lexicographic.{pointwise}
 use Rattle.rp_decl.specs.Word.{is_id}
+use Rattle.rp_run.specs.declared.command.Question.{Question}
+use Rattle.rp_run.specs.declared.command.Question.TheVariants.{Check, Show}
 
 -- run this script, under these declarations, for these principals: two paths, the ids, and the same in one word, as characters
 pub record Run : Type 0 where
@@ -19,20 +21,20 @@ pub record May : Type 0 where
 
 pub data Command : Type 0 where
   run : Run → Command
-  -- tell whether the script at this path is accepted
-  check : List ℕ → Command
+  -- answer a question about the script at this path
+  script : Question → List ℕ → Command
   may : May → Command
 
 -- the path of the file that is read first
 abbrev pub first_file : Command → List ℕ
 first_file (run r) = r.declarations
-first_file (check script) = script
+first_file (script q path) = path
 first_file (may m) = m.declarations
 
 -- the path of the file that is read second, where the command has one
 abbrev pub second_file : Command → Option (List ℕ)
 second_file (run r) = Some r.script
-second_file (check script) = None
+second_file (script q path) = None
 second_file (may m) = None
 
 -- a word that begins with `-` is an option, except `-` alone
@@ -79,11 +81,14 @@ run_of declarations pair =
 abbrev pub may_of : List ℕ → List ℕ → List ℕ → Command
 may_of declarations who permission = may (record { declarations = chars declarations; ids = ids_of who; permission = chars permission })
 
+-- the question of a word
+abbrev pub question_of : List ℕ → Option Question
+question_of verb = if is_verb verb (codes "check") then Some Check else (if is_verb verb (codes "show") then Some Show else None)
+
 -- The words, as UTF-8, that give a command: `run`, the path of the declarations, and ids with the path of their script; `check`
--- and the path of a script; or `may`, the path of the declarations, ids, and the id of a permission.
+-- or `show` and the path of a script; or `may`, the path of the declarations, ids, and the id of a permission.
 abbrev pub command_of : List (List ℕ) → Option Command
-command_of (verb ∷ script ∷ []) =
-    if is_verb verb (codes "check") && not (is_option script) then Some (check (chars script)) else None
+command_of (verb ∷ path ∷ []) = if is_option path then None else option_map (λ q. script q (chars path)) (question_of verb)
 command_of (verb ∷ declarations ∷ pair ∷ []) =
     if (is_verb verb (codes "run") && not (is_option declarations)) && (not (is_option pair) && is_pair pair)
     then Some (run_of declarations pair)

@@ -1,7 +1,7 @@
 -- What the program promises of its files and of what it writes.
 use Rattle.std.specs.Prelude.{◌≡◌, ◌≢◌, ◌<◌, ◌≤◌, ◌⊎◌, ℕ, List, ◌++◌, length, take, encode_utf8_all, Option, Some, None, option_map, IfSome}
 use Rattle.rp_decl.specs.Records.{Declarations}
-use Rattle.rp_run.specs.Command.{Command, run, check, may, first_file, second_file}
+use Rattle.rp_run.specs.Command.{Command, run, script, may, first_file, second_file}
 use Rattle.rp_run.specs.Told.{Told, IsAdmitted}
 
 -- a status of a run in which nothing failed
@@ -38,7 +38,7 @@ BeginsNamed (Some c) begun last_path =
 -- the declarations are read, can be run, and have the principals of a run
 abbrev pub AdmitsRun : Command → (List ℕ → List ℕ) → Type 0
 AdmitsRun (run r) contents = (d : Declarations) × IsAdmitted r contents d
-AdmitsRun (check script) contents = ⊥
+AdmitsRun (script q path) contents = ⊥
 AdmitsRun (may m) contents = ⊥
 
 -- the file at which reading failed is one that the command names, and nothing before it refused

@@ -15,7 +15,11 @@ use Rattle.rp_policy.specs.Offences.{offences, offence_text}
 use Rattle.rp_program.specs.Fault.{IsFault, fault_text}
 use Rattle.rp_program.specs.Program.{IsProgram}
 use Rattle.rp_program.specs.declared.fault.ProgramFault.{ProgramFault}
-use Rattle.rp_run.specs.Command.{Command, run, check, may, Run, May, command_of, usage}
+use Rattle.rp_print.specs.Statements.{printed}
+use Rattle.rp_run.specs.Command.{Command, run, script, may, Run, May, command_of, usage}
+use Rattle.rp_run.specs.declared.command.Question.{Question}
+use Rattle.rp_run.specs.declared.command.Question.TheVariants.{Check, Show}
+use Rattle.rp_tree.specs.Marks.{guard}
 use Rattle.rp_tree.specs.StatementTrees.{Stmts}
 use Rattle.rp_run.specs.Output.{session_block, end_status, refusal_line, may_text, may_status}
 
@@ -80,15 +84,20 @@ pub data ToldRun (r : Run) (contents : List ℕ → List ℕ) (text : List ℕ) 
   ran : (d : Declarations) → IsAdmitted r contents d → IsShort (contents r.script) → (source : List Statement) → IsScript (contents r.script) source
       → text ≡ session_block 1 r.who (played r d source) → status ≡ end_status (played r d source).answer → ToldRun r contents text status
 
--- ---- a check
+-- ---- a script that is checked or shown
 
--- The first check that a script does not pass decides, in the order of the constructors; else it is accepted.
-pub data ToldCheck (path bytes : List ℕ) (text : List ℕ) (status : ℕ) : Type 0 where
-  long : IsTooLong bytes → text ≡ too_long_line path → status ≡ 9 → ToldCheck path bytes text status
-  no_program : IsShort bytes → (fault : ProgramFault) → IsFault bytes fault → text ≡ fault_text fault ++ codes "\n" → status ≡ 4 → ToldCheck path bytes text status
+-- The first check that a script does not pass decides, in the order of the constructors; else this is said of its tree.
+pub data ToldScript (said : Stmts (List ℕ) → List ℕ) (path bytes : List ℕ) (text : List ℕ) (status : ℕ) : Type 0 where
+  long : IsTooLong bytes → text ≡ too_long_line path → status ≡ 9 → ToldScript said path bytes text status
+  no_program : IsShort bytes → (fault : ProgramFault) → IsFault bytes fault → text ≡ fault_text fault ++ codes "\n" → status ≡ 4 → ToldScript said path bytes text status
   offends : IsShort bytes → (tree : Stmts (List ℕ)) → IsProgram bytes tree → offences tree ≢ []
-      → text ≡ flat_map (λ o. offence_text o ++ codes "\n") (offences tree) → status ≡ 4 → ToldCheck path bytes text status
-  accepted : IsShort bytes → (tree : Stmts (List ℕ)) → IsProgram bytes tree → offences tree ≡ [] → text ≡ codes "ok\n" → status ≡ 0 → ToldCheck path bytes text status
+      → text ≡ flat_map (λ o. offence_text o ++ codes "\n") (offences tree) → status ≡ 4 → ToldScript said path bytes text status
+  accepted : IsShort bytes → (tree : Stmts (List ℕ)) → IsProgram bytes tree → offences tree ≡ [] → text ≡ said tree → status ≡ 0 → ToldScript said path bytes text status
+
+-- a check says of each tree that it is accepted; else it is shown as it runs, each form that needs a guard as a call of it
+abbrev pub said_to : Question → Stmts (List ℕ) → List ℕ
+said_to Check tree = codes "ok\n"
+said_to Show tree = printed (guard tree)
 
 -- ---- permissions
 
@@ -104,7 +113,7 @@ pub data ToldMay (m : May) (contents : List ℕ → List ℕ) (text : List ℕ) 
 
 abbrev pub ToldCommand : Command → (List ℕ → List ℕ) → List ℕ → ℕ → Type 0
 ToldCommand (run r) contents text status = ToldRun r contents text status
-ToldCommand (check script) contents text status = ToldCheck script (contents script) text status
+ToldCommand (script q path) contents text status = ToldScript (said_to q) path (contents path) text status
 ToldCommand (may m) contents text status = ToldMay m contents text status
 
 -- the program says this text, as characters, and ends with this status

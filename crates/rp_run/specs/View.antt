@@ -39,7 +39,7 @@ may_view m = record { declarations = m.declarations; ids = m.ids.items; permissi
 
 abbrev pub command_view : Command → words.Command
 command_view (command.Run r) = words.run (run_view r)
-command_view (command.Check script) = words.check script
+command_view (command.Script q path) = words.script q path
 command_view (command.May m) = words.may (may_view m)
 
 -- the names are those that the declarations were read into

@@ -113,7 +113,8 @@ impl Answer {
         refusal: &Unaccepted,
         names: &Names,
     ) -> Result<Answer, Memory>
-        ensures said { IfOk result (λ a. (a.text ≡ refusal_lines names.now (chars prefix.now) refusal.now) × (a.status.0 ≡ 4)) }
+        ensures said { IfOk result (λ a. (a.text ≡ refusal_lines names.now (chars prefix.now) refusal.now)
+            × (a.status.0 ≡ 4)) }
         ensures other { OnOk result (refusal.now ≢ Unaccepted.Memory) }
     {
         match refusal {

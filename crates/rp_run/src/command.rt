@@ -1,7 +1,9 @@
 //! Commands, as the words of the command line give them.
 
-ghost use Rattle.std.specs.Prelude.{◌≡◌, ◌∷◌, ◌++◌, [], true, false, Some, None, IsUtf8, if◌then◌else◌, length, map, nat_lt, option_map, string_bytes, IfOk, IfSome, IfNone};
-ghost use Rattle.rp_run.specs.Command.{IsOnePiece, command_of, ids_of, is_option, is_pair, is_who, path_of, who_of};
+ghost use Rattle.std.specs.Prelude.{◌≡◌, ◌∷◌, ◌++◌, [], true, false, Some, None, IsUtf8, if◌then◌else◌, length, map};
+ghost use Rattle.std.specs.Prelude.{nat_lt, option_map, string_bytes, IfOk, IfSome, IfNone};
+ghost use Rattle.rp_run.specs.Command.{IsOnePiece, command_of, ids_of, is_option, is_pair, is_who, path_of};
+ghost use Rattle.rp_run.specs.Command.{question_of, who_of};
 ghost use Rattle.rp_run.specs.View.{command_view};
 
 use rp_base::{Memory, Text};
@@ -12,9 +14,18 @@ use std::alloc::Global;
 #[derive(Drop)]
 pub enum Command {
     Run(Run),
-    /// To tell whether the script at this path is accepted.
-    Check(Text),
+    /// To answer a question about the script at this path.
+    Script(Question, Text),
     May(May),
+}
+
+/// What is asked about a script.
+#[derive(Clone, Copy, Debug, PartialEq, Eq)]
+pub enum Question {
+    /// Whether it is accepted.
+    Check,
+    /// How it runs: its text with its guards.
+    Show,
 }
 
 /// To run a script for principals under declarations.
@@ -46,7 +57,7 @@ impl Command {
         ensures { IfOk result (λ c. option_map command_view c ≡ command_of (map string_bytes words.now)) }
     {
         match words {
-            [verb, script] => read_check(alloc, verb.as_str(), script.as_str()),
+            [verb, path] => read_script(alloc, verb.as_str(), path.as_str()),
             [verb, declarations, pair] => {
                 read_run(alloc, verb.as_str(), declarations.as_str(), pair.as_str())
             }
@@ -87,13 +98,29 @@ fn read_run(
     })))
 }
 
-fn read_check(alloc: Global, verb: &str, script: &str) -> Result<Option<Command>, Memory>
-    ensures { IfOk result (λ c. option_map command_view c ≡ command_of (verb.now ∷ script.now ∷ [])) }
+fn read_script(alloc: Global, verb: &str, path: &str) -> Result<Option<Command>, Memory>
+    ensures { IfOk result (λ c. option_map command_view c ≡ command_of (verb.now ∷ path.now ∷ [])) }
 {
-    if verb != "check" || is_option(script) {
+    if is_option(path) {
         return Ok(None);
     }
-    Ok(Some(Command::Check(Text::new(alloc, script)?)))
+    match question_of(verb) {
+        None => Ok(None),
+        Some(question) => Ok(Some(Command::Script(question, Text::new(alloc, path)?))),
+    }
+}
+
+/// The question of a word.
+fn question_of(verb: &str) -> Option<Question>
+    ensures { result ≡ question_of verb.now }
+{
+    if verb == "check" {
+        Some(Question::Check)
+    } else if verb == "show" {
+        Some(Question::Show)
+    } else {
+        None
+    }
 }
 
 fn read_may(
@@ -103,7 +130,8 @@ fn read_may(
     who: &str,
     permission: &str,
 ) -> Result<Option<Command>, Memory>
-    ensures { IfOk result (λ c. option_map command_view c ≡ command_of (verb.now ∷ declarations.now ∷ who.now ∷ permission.now ∷ [])) }
+    ensures { IfOk result (λ c. option_map command_view c
+        ≡ command_of (verb.now ∷ declarations.now ∷ who.now ∷ permission.now ∷ [])) }
 {
     if verb != "may" || is_option(declarations) || is_option(who) || is_option(permission) {
         return Ok(None);
@@ -143,7 +171,8 @@ fn split_pair(pair: &str) -> Option<(&str, &str)>
 
 /// The ids that a word joins by `+`, where it joins ids.
 fn read_ids(alloc: Global, who: &str) -> Result<Option<Vec<Text>>, Memory>
-    ensures { IfOk result (λ ids. option_map (λ v. v.items) ids ≡ (if is_who who.now then Some (ids_of who.now) else None)) }
+    ensures { IfOk result (λ ids. option_map (λ v. v.items) ids
+        ≡ (if is_who who.now then Some (ids_of who.now) else None)) }
 {
     let mut ids = Vec::new(alloc);
     let mut rest = who;

@@ -35,7 +35,8 @@ pub fn read_declarations<F: Files>(
     requires sound { F.faults files.old ≡ 0 }
     requires first { names.old ≡ first_words }
 
-    ensures told { IfOk result (λ r. IfSome (F.contents files.old) (λ of. TellsDeclared path.now (of path.now) names.new r)) }
+    ensures told { IfOk result (λ r. IfSome (F.contents files.old)
+        (λ of. TellsDeclared path.now (of path.now) names.new r)) }
     ensures well { IfOk result (IsWellRead names.new) }
 
     ensures begun { OnOk result (BeginsOnly path.now (F.begun files.new) (F.last_path files.new)) }

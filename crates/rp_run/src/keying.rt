@@ -22,6 +22,7 @@ ghost use Rattle.rp_decl.specs.Places.{GrowsTo, IsHeldBy};
 ghost use Rattle.rp_decl.specs.View.{declarations_view};
 
 use rp_base::{Memory, Names};
+use rp_compile::Compiled as Script;
 use rp_decl::{Decl, DeclFault};
 use rp_first::{Compiled, Refusal};
 use rp_script::Refusal as Unaccepted;
@@ -58,8 +59,10 @@ pub fn declarations(alloc: Global, bytes: &[u8], names: &mut Names) -> Result<De
 /// # Errors
 /// As `rp_first::compile_script`.
 pub fn first_script(alloc: Global, bytes: &[u8], names: &mut Names) -> Result<Compiled, Refusal>
-    ensures rewritten { IfOk result (λ c. (source : List Statement) × (IsScript bytes.now source × Rewrites names.new source c)) }
-    ensures one { IfOk result (λ c. (source : List Statement) → IsScript bytes.now source → Rewrites names.new source c) }
+    ensures rewritten { IfOk result (λ c. (source : List Statement)
+        × (IsScript bytes.now source × Rewrites names.new source c)) }
+    ensures one { IfOk result (λ c. (source : List Statement) → IsScript bytes.now source
+        → Rewrites names.new source c) }
     ensures held { IfOk result (λ c. All (IsStatementHeld names.new) c) }
     ensures refused { IfErr result (λ refusal. refusal ≢ Refusal.Memory → IsRefused bytes.now refusal) }
     ensures names { GrowsTo names.old names.new }
@@ -79,4 +82,17 @@ pub fn read_script(alloc: Global, bytes: &[u8], names: &mut Names) -> Result<Tre
 {
     rekey(names, bytes)?;
     rp_script::read_script(alloc, bytes, names)
+}
+
+/// The script of the bytes as it will run.
+///
+/// # Errors
+/// As `rp_compile::compile_script`.
+pub fn compile_script(alloc: Global, bytes: &[u8], names: &mut Names) -> Result<Script, Unaccepted>
+    ensures program { IfOk result (λ c. IsProgram bytes.now (named (word_of names.new) (view_tree c.source))) }
+    ensures lawful { IfOk result (λ c. offences (named (word_of names.new) (view_tree c.source)) ≡ []) }
+    ensures refused { IfErr result (λ refusal. refusal ≢ Unaccepted.Memory → IsUnaccepted names.new bytes.now refusal) }
+{
+    rekey(names, bytes)?;
+    rp_compile::compile_script(alloc, bytes, names)
 }

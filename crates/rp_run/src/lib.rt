@@ -2,13 +2,13 @@
 #![tactic(auto)]
 
 mod answer;
-mod checking;
 mod command;
 mod declaring;
 mod keying;
 mod playing;
 mod program;
 mod reading;
+mod script_answer;
 mod stop;
 mod telling;
 mod writing;

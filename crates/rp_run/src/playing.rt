@@ -58,13 +58,16 @@ pub fn answer_run<F: Files>(alloc: Global, command: &Run, files: &mut F) -> Resu
     requires unread { F.begun files.old ≡ 0 }
     requires sound { F.faults files.old ≡ 0 }
 
-    ensures told { IfOk result (λ a. IfSome (F.contents files.old) (λ of. ToldRun (run_view command.now) of a.text a.status.0)) }
+    ensures told { IfOk result (λ a. IfSome (F.contents files.old)
+        (λ of. ToldRun (run_view command.now) of a.text a.status.0)) }
     ensures status { IfOk result (λ a. IsCommandStatus a.status.0) }
 
     ensures begun { BeginsNamed (Some (run (run_view command.now))) (F.begun files.new) (F.last_path files.new) }
     ensures sound { OnOk result (F.faults files.new ≡ 0) }
     ensures failed { IsErrOf result Stop.Failed → 0 < F.faults files.new }
-    ensures cause { IsErrOf result Stop.Failed → FailsAtNamed (Some (run (run_view command.now))) (F.contents files.old) (F.begun files.new) (F.last_path files.new) }
+    ensures cause { IsErrOf result Stop.Failed
+        → FailsAtNamed (Some (run (run_view command.now))) (F.contents files.old) (F.begun files.new)
+        (F.last_path files.new) }
     ensures memory { IsErrOf result Stop.Memory → F.faults files.new ≡ 0 }
 {
     let mut names = Names::new(alloc, files.seed())?;
@@ -86,15 +89,19 @@ fn answer_declared<F: Files>(
     requires sound { F.faults files.old ≡ 0 }
     requires well { IsReadInto names decl }
 
-    ensures told { IfOk result (λ a. IfSome (F.contents files.old) (λ of. IsRead (of command.now.declarations) (declarations_view names decl) → ToldRun (run_view command.now) of a.text a.status.0)) }
+    ensures told { IfOk result (λ a. IfSome (F.contents files.old)
+        (λ of. IsRead (of command.now.declarations) (declarations_view names decl)
+        → ToldRun (run_view command.now) of a.text a.status.0)) }
     ensures status { IfOk result (λ a. IsCommandStatus a.status.0) }
 
     ensures begun { BeginsNamed (Some (run (run_view command.now))) (F.begun files.new) (F.last_path files.new) }
     ensures sound { OnOk result (F.faults files.new ≡ 0) }
     ensures failed { IsErrOf result Stop.Failed → 0 < F.faults files.new }
     ensures runs { IsErrOf result Stop.Failed → fault_of (declarations_view names decl) ≡ None }
-    ensures known { IsErrOf result Stop.Failed → first_unknown (declarations_view names decl) command.now.ids.items ≡ None }
-    ensures script { IsErrOf result Stop.Failed → BeginsSecond command.now.script (F.begun files.new) (F.last_path files.new) }
+    ensures known { IsErrOf result Stop.Failed → first_unknown (declarations_view names decl) command.now.ids.items
+        ≡ None }
+    ensures script { IsErrOf result Stop.Failed
+        → BeginsSecond command.now.script (F.begun files.new) (F.last_path files.new) }
     ensures memory { IsErrOf result Stop.Memory → F.faults files.new ≡ 0 }
 {
     if let Some(fault) = load_fault(&decl, &names) {
@@ -125,7 +132,8 @@ fn answer_script<F: Files>(
     requires begun { BeginsOnly command.now.declarations (F.begun files.old) (F.last_path files.old) }
     requires sound { F.faults files.old ≡ 0 }
     requires well { IsReadInto admitted.names admitted.decl }
-    requires grants { (names : List (List ℕ)) → AreInOrder (declarations_view names admitted.decl) → AnswersAs names admitted.decl admitted.interaction }
+    requires grants { (names : List (List ℕ)) → AreInOrder (declarations_view names admitted.decl)
+        → AnswersAs names admitted.decl admitted.interaction }
     requires ids { admitted.interaction.ids ≡ command.now.ids.items }
     requires runs { fault_of (declarations_view admitted.names admitted.decl) ≡ None }
 
@@ -136,7 +144,8 @@ fn answer_script<F: Files>(
     ensures begun { BeginsNamed (Some (run (run_view command.now))) (F.begun files.new) (F.last_path files.new) }
     ensures sound { OnOk result (F.faults files.new ≡ 0) }
     ensures failed { IsErrOf result Stop.Failed → 0 < F.faults files.new }
-    ensures script { IsErrOf result Stop.Failed → BeginsSecond command.now.script (F.begun files.new) (F.last_path files.new) }
+    ensures script { IsErrOf result Stop.Failed
+        → BeginsSecond command.now.script (F.begun files.new) (F.last_path files.new) }
     ensures memory { IsErrOf result Stop.Memory → F.faults files.new ≡ 0 }
 {
     match read_file(alloc, files, command.script.copy()?)? {
@@ -163,8 +172,13 @@ fn play(
     requires ids { admitted.interaction.ids ≡ command.now.ids.items }
     requires runs { fault_of (declarations_view admitted.names admitted.decl) ≡ None }
     requires held { All (IsStatementHeld admitted.names) script.now }
-    ensures text { IfOk result (λ a. a.text ≡ session_block 1 command.now.who (played (run_view command.now) (declarations_view admitted.names admitted.decl) (map (statement_view admitted.names) script.now))) }
-    ensures status { IfOk result (λ a. a.status.0 ≡ end_status (played (run_view command.now) (declarations_view admitted.names admitted.decl) (map (statement_view admitted.names) script.now)).answer) }
+    ensures text { IfOk result (λ a. a.text
+        ≡ session_block 1 command.now.who
+        (played (run_view command.now) (declarations_view admitted.names admitted.decl)
+        (map (statement_view admitted.names) script.now))) }
+    ensures status { IfOk result (λ a. a.status.0
+        ≡ end_status (played (run_view command.now) (declarations_view admitted.names admitted.decl)
+        (map (statement_view admitted.names) script.now)).answer) }
 {
     let running = Running {
         session: FIRST,
@@ -182,7 +196,8 @@ fn play(
 /// How a session ended, where it was not for want of memory.
 fn session_end(finished: Result<Value, OpEnd>) -> Result<SessionEnd, Memory>
     requires counted { finished ≢ Err OpEnd.StopSteps }
-    ensures { IfOk result (λ end. (outcome : Outcome) (state : State) → Ends finished outcome state → IsToldBy end outcome state) }
+    ensures { IfOk result (λ end. (outcome : Outcome) (state : State) → Ends finished outcome state
+        → IsToldBy end outcome state) }
 {
     match finished {
         Ok(_) => Ok(SessionEnd::Well),

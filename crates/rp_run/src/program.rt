@@ -1,14 +1,15 @@
 //! The whole program: words and files to text and a status.
 
-ghost use Rattle.std.specs.Prelude.{◌≡◌, ◌≢◌, ◌⊎◌, ◌<◌, ◌↔◌, map, string_bytes, IfOk, IfSome, MatchOption, None, OnOk, IsErrOf};
+ghost use Rattle.std.specs.Prelude.{◌≡◌, ◌≢◌, ◌⊎◌, ◌<◌, ◌↔◌, map, string_bytes, IfOk, IfSome, MatchOption, None, OnOk};
+ghost use Rattle.std.specs.Prelude.{IsErrOf};
 ghost use Rattle.rp_run.specs.Command.{command_of, usage};
 ghost use Rattle.rp_run.specs.Headline.{IsAnswer, IsStatus, Writes, TellsWhole, TellsFront, BeginsNamed, FailsAtNamed};
 ghost use Rattle.rp_run.specs.Told.{Told};
 
 use crate::answer::Answer;
-use crate::checking::answer_check;
 use crate::command::Command;
 use crate::playing::answer_run;
+use crate::script_answer::answer_script;
 use crate::stop::Stop;
 use crate::telling::answer_may;
 use crate::writing::write_text;
@@ -19,12 +20,12 @@ use std::alloc::Global;
 ///
 /// Whatever the words and the files say, what is written and the status are those of the direct meaning
 /// of the source script, where each operation through a lent reference is first decided by the declared
-/// policy for the script's principals, and logged; `may` tells what that policy grants, and `check` the faults
-/// and offences of a script. All text goes to `out`, and only after the last step.
+/// policy for the script's principals, and logged; `may` tells what that policy grants, `check` the faults
+/// and offences of a script, and `show` its text with its guards. All text goes to `out`, and only after the last step.
 ///
 /// | status | means |
 /// |---|---|
-/// | 0 | the session ended well; or the script is accepted; or the principals have the permission |
+/// | 0 | the session ended well; or the script is accepted or shown; or the principals have the permission |
 /// | 1 | the session ended by an exception; or the principals lack the permission |
 /// | 2 | the words give no command |
 /// | 3 | the declarations, a principal or the permission are refused |
@@ -48,10 +49,13 @@ pub fn run<F: Files, K: Sink>(alloc: Global, words: &[String], files: &mut F, ou
 
     // Each status has its cause, also where files or sink do not tell their bytes.
     ensures status { IsStatus result.0 }
-    ensures no_command { command_of (map string_bytes words.now) ≡ None → (result.0 ≡ 2) ⊎ ((result.0 ≡ 7) ⊎ (result.0 ≡ 8)) }
-    ensures usage { result.0 ≡ 2 → (command_of (map string_bytes words.now) ≡ None) × Writes usage (K.written out.old) (K.written out.new) }
+    ensures no_command { command_of (map string_bytes words.now) ≡ None
+        → (result.0 ≡ 2) ⊎ ((result.0 ≡ 7) ⊎ (result.0 ≡ 8)) }
+    ensures usage { result.0 ≡ 2 → (command_of (map string_bytes words.now) ≡ None)
+        × Writes usage (K.written out.old) (K.written out.new) }
     ensures read_failed { (result.0 ≡ 6) ↔ (0 < F.faults files.new) }
-    ensures read_cause { result.0 ≡ 6 → FailsAtNamed (command_of (map string_bytes words.now)) (F.contents files.old) (F.begun files.new) (F.last_path files.new) }
+    ensures read_cause { result.0 ≡ 6 → FailsAtNamed (command_of (map string_bytes words.now)) (F.contents files.old)
+        (F.begun files.new) (F.last_path files.new) }
     ensures write_failed { (result.0 ≡ 7) ↔ (0 < K.faults out.new) }
 
     // No other file is begun.
@@ -72,20 +76,24 @@ fn answer<F: Files>(alloc: Global, words: &[String], files: &mut F) -> Result<An
     requires unread { F.begun files.old ≡ 0 }
     requires sound { F.faults files.old ≡ 0 }
 
-    ensures told { IfOk result (λ a. IfSome (F.contents files.old) (λ of. Told (map string_bytes words.now) of a.text a.status.0)) }
+    ensures told { IfOk result (λ a. IfSome (F.contents files.old)
+        (λ of. Told (map string_bytes words.now) of a.text a.status.0)) }
     ensures status { IfOk result (λ a. IsStatus a.status.0 × IsAnswer a.status.0) }
-    ensures usage { IfOk result (λ a. MatchOption (command_of (map string_bytes words.now)) ((a.text ≡ usage) × (a.status.0 ≡ 2)) (λ _. a.status.0 ≢ 2)) }
+    ensures usage { IfOk result (λ a. MatchOption (command_of (map string_bytes words.now)) ((a.text ≡ usage)
+        × (a.status.0 ≡ 2)) (λ _. a.status.0 ≢ 2)) }
 
     ensures begun { BeginsNamed (command_of (map string_bytes words.now)) (F.begun files.new) (F.last_path files.new) }
     ensures sound { OnOk result (F.faults files.new ≡ 0) }
     ensures failed { IsErrOf result Stop.Failed → 0 < F.faults files.new }
-    ensures cause { IsErrOf result Stop.Failed → FailsAtNamed (command_of (map string_bytes words.now)) (F.contents files.old) (F.begun files.new) (F.last_path files.new) }
+    ensures cause { IsErrOf result Stop.Failed
+        → FailsAtNamed (command_of (map string_bytes words.now)) (F.contents files.old) (F.begun files.new)
+        (F.last_path files.new) }
     ensures memory { IsErrOf result Stop.Memory → F.faults files.new ≡ 0 }
 {
     match Command::read(alloc, words)? {
         None => Ok(Answer::usage(alloc)?),
         Some(Command::Run(run)) => answer_run(alloc, &run, files),
-        Some(Command::Check(script)) => answer_check(alloc, &script, files),
+        Some(Command::Script(question, path)) => answer_script(alloc, question, &path, files),
         Some(Command::May(may)) => answer_may(alloc, &may, files),
     }
 }

@@ -1,6 +1,7 @@
 //! The command `may`: whether principals have a permission, and why.
 
-ghost use Rattle.std.specs.Prelude.{◌≡◌, ◌<◌, ◌≤◌, ◌++◌, ℕ, List, Some, IfOk, IfSome, IsErrOf, OnOk, codes, length, position};
+ghost use Rattle.std.specs.Prelude.{◌≡◌, ◌<◌, ◌≤◌, ◌++◌, ℕ, List, Some, IfOk, IfSome, IsErrOf, OnOk, codes, length};
+ghost use Rattle.std.specs.Prelude.{position};
 ghost use Rattle.rp_base.specs.Same.{same_text};
 ghost use Rattle.rp_decl.specs.InOrder.{AreInOrder};
 ghost use Rattle.rp_decl.specs.View.{declarations_view, group_ids, perm_text, role_ids, text_at};
@@ -29,13 +30,16 @@ pub fn answer_may<F: Files>(alloc: Global, command: &May, files: &mut F) -> Resu
     requires unread { F.begun files.old ≡ 0 }
     requires sound { F.faults files.old ≡ 0 }
 
-    ensures told { IfOk result (λ a. IfSome (F.contents files.old) (λ of. ToldMay (may_view command.now) of a.text a.status.0)) }
+    ensures told { IfOk result (λ a. IfSome (F.contents files.old)
+        (λ of. ToldMay (may_view command.now) of a.text a.status.0)) }
     ensures status { IfOk result (λ a. IsCommandStatus a.status.0) }
 
     ensures begun { BeginsNamed (Some (may (may_view command.now))) (F.begun files.new) (F.last_path files.new) }
     ensures sound { OnOk result (F.faults files.new ≡ 0) }
     ensures failed { IsErrOf result Stop.Failed → 0 < F.faults files.new }
-    ensures cause { IsErrOf result Stop.Failed → FailsAtNamed (Some (may (may_view command.now))) (F.contents files.old) (F.begun files.new) (F.last_path files.new) }
+    ensures cause { IsErrOf result Stop.Failed
+        → FailsAtNamed (Some (may (may_view command.now))) (F.contents files.old) (F.begun files.new)
+        (F.last_path files.new) }
     ensures memory { IsErrOf result Stop.Memory → F.faults files.new ≡ 0 }
 {
     let mut names = Names::new(alloc, files.seed())?;
@@ -77,7 +81,8 @@ fn reasons(
     permission: Perm,
 ) -> Result<Answer, Memory>
     requires declared { permission.0 < length decl.now.permissions }
-    requires answers { (names : List (List ℕ)) → AreInOrder (declarations_view names decl.now) → AnswersAs names decl.now interaction.now }
+    requires answers { (names : List (List ℕ)) → AreInOrder (declarations_view names decl.now)
+        → AnswersAs names decl.now interaction.now }
     ensures text { IfOk result (λ a. (names : List (List ℕ)) → AreInOrder (declarations_view names decl.now)
         → a.text ≡ may_text (declarations_view names decl.now) interaction.now.ids (perm_text decl.now.permissions permission)) }
     ensures status { IfOk result (λ a. (names : List (List ℕ)) → AreInOrder (declarations_view names decl.now)

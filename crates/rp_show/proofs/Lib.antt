@@ -1,3 +1,4 @@
+mod Counted
 mod Escapes
 mod Lines
 mod Marks

@@ -8,6 +8,7 @@ use Rattle.rp_base.specs.declared.value.Rock.{Rock}
 use Rattle.rp_base.specs.declared.value.Rock.TheVariants as rock
 use Rattle.rp_base.specs.declared.value.Value.{Value}
 use Rattle.rp_store.specs.declared.key.Key.{Key}
+use Rattle.rp_store.specs.Counters.{KeepsCounters}
 use Rattle.rp_store.specs.Heap.{Owned, content_at}
 use Rattle.rp_store.specs.Object as object
 use Rattle.rp_store.specs.Object.{Content}
@@ -24,6 +25,10 @@ pub record Room : Type 0 where
 
 abbrev pub cells_of : List Owned → Room → Cells
 cells_of heap room = record { heap = heap; used = room.used; limit = room.limit }
+
+-- the limit stays, and no cell that was used is given back
+abbrev pub KeepsRoom : Room → Room → Type 0
+KeepsRoom old new = KeepsCounters (cells_of [] old) (cells_of [] new)
 
 abbrev pub moment : List Owned → Room → ℕ → State
 moment heap room steps = state_of (cells_of heap room) steps

@@ -1,5 +1,5 @@
 //! How values are shown: as texts of their own, and inside containers.
-#![tactic(auto)]
+#![tactic(auto, using(rp_store::proofs::Shapes::goes_on))]
 
 mod brackets;
 mod named;

@@ -4,7 +4,7 @@ ghost use Rattle.std.specs.Option.{option_map_or};
 ghost use Rattle.rp_store.specs.Heap.{content_at};
 ghost use Rattle.rp_store.specs.Object.{content_of};
 ghost use Rattle.rp_show.specs.Show.{callee_word, class_word, function_name, function_word, printed};
-ghost use Rattle.rp_show.specs.ShowView.{named_text, word_in};
+ghost use Rattle.rp_show.specs.ShowView.{KeepsRoom, named_text, word_in};
 ghost use Rattle.rp_show.specs.Prints.{Prints};
 
 use crate::brackets::{closing, opening};
@@ -23,7 +23,9 @@ pub(crate) fn print_named(
     printer: &mut Printer,
     object: &Object,
 ) -> Result<(), OpEnd>
-    ensures { (steps : ℕ) → Prints result printer.new printer.old store.now.heap steps steps (printed (named_text names.now store.now.heap (content_of object.now))) }
+    ensures plain { (steps : ℕ) → Prints result printer.new printer.old store.now.heap steps steps
+        (printed (named_text names.now store.now.heap (content_of object.now))) }
+    ensures counters { KeepsRoom printer.old.purse printer.new.purse }
 {
     printer.print(opening(object))?;
     printer.print(word_in(store, names, object))?;

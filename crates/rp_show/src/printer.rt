@@ -3,7 +3,7 @@ ghost use Rattle.std.specs.Prelude.{◌≡◌, ℕ, List, [], chars};
 ghost use Rattle.std.specs.Option.{option_copied};
 ghost use Rattle.rp_show.specs.Show.{printed};
 ghost use Rattle.rp_show.specs.Shown.{shown_inside};
-ghost use Rattle.rp_show.specs.ShowView.{Writes, before_value, cells_of, gap, key_text, moment};
+ghost use Rattle.rp_show.specs.ShowView.{KeepsRoom, Writes, before_value, cells_of, gap, key_text, moment};
 ghost use Rattle.rp_show.specs.Prints.{Prints};
 ghost use Rattle.rp_store.specs.Heap.{Owned};
 
@@ -38,7 +38,9 @@ impl Printer {
     /// # Errors
     /// `StopCells` at the first character that does not fit, and `Memory` where a growth was refused.
     pub(crate) fn print(&mut self, text: &str) -> Result<(), OpEnd>
-        ensures { (heap : List Owned) (steps : ℕ) → Prints result self.new self.old heap steps steps (printed (chars text.now)) }
+        ensures plain { (heap : List Owned) (steps : ℕ)
+            → Prints result self.new self.old heap steps steps (printed (chars text.now)) }
+        ensures counters { KeepsRoom self.old.purse self.new.purse }
     {
         self.purse.charge(text)?;
         self.line.add(text)?;
@@ -50,7 +52,9 @@ impl Printer {
     /// # Errors
     /// As `print`.
     pub(crate) fn print_rock(&mut self, rock: &Rock) -> Result<(), OpEnd>
-        ensures { (heap : List Owned) (steps : ℕ) → Prints result self.new self.old heap steps steps (printed (shown_inside rock.now)) }
+        ensures plain { (heap : List Owned) (steps : ℕ)
+            → Prints result self.new self.old heap steps steps (printed (shown_inside rock.now)) }
+        ensures counters { KeepsRoom self.old.purse self.new.purse }
     {
         let before = self.line.len();
         self.line.add_rock(rock)?;
@@ -63,7 +67,9 @@ impl Printer {
     /// The key of an entry, and what stands between it and the value; nothing where there is none.
     #[inline(always)]
     pub(crate) fn print_key(&mut self, key: Option<&Rock>) -> Result<(), OpEnd>
-        ensures { (heap : List Owned) (steps : ℕ) → Prints result self.new self.old heap steps steps (printed (key_text (option_copied key.entry))) }
+        ensures plain { (heap : List Owned) (steps : ℕ)
+            → Prints result self.new self.old heap steps steps (printed (key_text (option_copied key.entry))) }
+        ensures counters { KeepsRoom self.old.purse self.new.purse }
     {
         match key {
             Some(key) => self.print_before(key),
@@ -72,7 +78,9 @@ impl Printer {
     }
 
     fn print_before(&mut self, key: &Rock) -> Result<(), OpEnd>
-        ensures { (heap : List Owned) (steps : ℕ) → Prints result self.new self.old heap steps steps (printed (before_value key.now)) }
+        ensures plain { (heap : List Owned) (steps : ℕ)
+            → Prints result self.new self.old heap steps steps (printed (before_value key.now)) }
+        ensures counters { KeepsRoom self.old.purse self.new.purse }
     {
         self.print_rock(key)?;
         self.print(": ")
@@ -81,7 +89,9 @@ impl Printer {
     /// What stands between two elements; nothing before the first.
     #[inline(always)]
     pub(crate) fn separate(&mut self, first: bool) -> Result<(), OpEnd>
-        ensures { (heap : List Owned) (steps : ℕ) → Prints result self.new self.old heap steps steps (printed (gap first)) }
+        ensures plain { (heap : List Owned) (steps : ℕ)
+            → Prints result self.new self.old heap steps steps (printed (gap first)) }
+        ensures counters { KeepsRoom self.old.purse self.new.purse }
     {
         if first {
             return Ok(());
@@ -91,7 +101,10 @@ impl Printer {
 }
 
 fn charge_rock(alloc: Global, purse: &mut Purse, rock: &Rock) -> Result<(), OpEnd>
-    ensures { (heap : List Owned) (steps : ℕ) → Writes result (shown_inside rock.now) (moment heap purse.new steps) (printed (shown_inside rock.now) (moment heap purse.old steps)) }
+    ensures plain { (heap : List Owned) (steps : ℕ)
+        → Writes result (shown_inside rock.now) (moment heap purse.new steps)
+        (printed (shown_inside rock.now) (moment heap purse.old steps)) }
+    ensures counters { KeepsRoom purse.old purse.new }
 {
     let text = shown_inside(alloc, rock)?;
     purse.charge(text.as_str())

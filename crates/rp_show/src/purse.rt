@@ -1,7 +1,7 @@
 //! The cells that are used while a value is shown.
 ghost use Rattle.std.specs.Prelude.{◌≡◌, ◌+◌, ◌<◌, ◌≤◌, ℕ, List, chars, false, true};
 ghost use Rattle.rp_show.specs.Show.{printed};
-ghost use Rattle.rp_show.specs.ShowView.{Writes, cells_of, moment};
+ghost use Rattle.rp_show.specs.ShowView.{KeepsRoom, Writes, cells_of, moment};
 ghost use Rattle.rp_store.specs.Heap.{Owned};
 
 use rp_base::OpEnd;
@@ -55,6 +55,7 @@ impl Purse {
         ensures within { result ≡ true → self.old.used + cells ≤ self.old.limit }
         ensures over { result ≡ false → self.old.limit < self.old.used + cells }
         ensures same { result ≡ false → self.new ≡ self.old }
+        ensures counters { KeepsRoom self.old self.new }
     {
         if cells > self.limit - self.used {
             return false;
@@ -69,7 +70,10 @@ impl Purse {
     /// `StopCells` at the first character that does not fit; those before it stay charged.
     #[inline(always)]
     pub(crate) fn charge(&mut self, text: &str) -> Result<(), OpEnd>
-        ensures { (heap : List Owned) (steps : ℕ) → Writes result (chars text.now) (moment heap self.new steps) (printed (chars text.now) (moment heap self.old steps)) }
+        ensures plain { (heap : List Owned) (steps : ℕ)
+            → Writes result (chars text.now) (moment heap self.new steps)
+            (printed (chars text.now) (moment heap self.old steps)) }
+        ensures counters { KeepsRoom self.old self.new }
     {
         if self.takes(text.len() as u64) {
             return Ok(());
@@ -78,7 +82,10 @@ impl Purse {
     }
 
     fn charge_each(&mut self, text: &str) -> Result<(), OpEnd>
-        ensures { (heap : List Owned) (steps : ℕ) → Writes result (chars text.now) (moment heap self.new steps) (printed (chars text.now) (moment heap self.old steps)) }
+        ensures plain { (heap : List Owned) (steps : ℕ)
+            → Writes result (chars text.now) (moment heap self.new steps)
+            (printed (chars text.now) (moment heap self.old steps)) }
+        ensures counters { KeepsRoom self.old self.new }
     {
         for c in text.chars() {
             if !self.takes(c.len_utf8() as u64) {

@@ -3,10 +3,12 @@ ghost use Rattle.std.specs.Prelude.{◌≡◌, ◌≤◌, ℕ, [], ◌∷◌, �
 ghost use Rattle.std.specs.Option.{option_copied};
 ghost use Rattle.rp_ops.specs.Depth.{deepest};
 ghost use Rattle.rp_ops.specs.Outcome.{Meets, state_of};
+ghost use Rattle.rp_store.specs.Counters.{KeepsCounters};
 ghost use Rattle.rp_store.specs.Object.{content_of};
 ghost use Rattle.rp_show.specs.Show.{content_shown, enclosed, is_among, object_shown, printed, separated, show, shown};
 ghost use Rattle.rp_show.specs.Shown.{shown_inside};
-ghost use Rattle.rp_show.specs.ShowView.{cells_of, closing, element_item, entry_item, inner, is_container, item_of, items, object_within, opening, rock_shown, turn};
+ghost use Rattle.rp_show.specs.ShowView.{KeepsRoom, cells_of, closing, element_item, entry_item, inner, is_container};
+ghost use Rattle.rp_show.specs.ShowView.{item_of, items, object_within, opening, rock_shown, turn};
 ghost use Rattle.rp_show.specs.Prints.{Prints};
 
 use crate::brackets::{closing, cut_text, is_container, opening};
@@ -52,7 +54,7 @@ impl Page {
 /// `Raised` with a `RecursionError` and the text `depth` at a container within 200 others that is none of them, `StopSteps`
 /// where no step is left, `StopCells` at the first character that does not fit; what was charged before stays charged.
 /// `Memory` where a growth was refused, where there is none for the text of the exception, or where the count of a text's
-/// owners is full.
+/// owners is full. Whatever is answered, the limit of the cells stays, and no used cell is given back.
 pub fn show(
     alloc: Global,
     store: &mut Store,
@@ -60,9 +62,11 @@ pub fn show(
     names: &Names,
     a: &Value,
 ) -> Result<Text, OpEnd>
-    ensures plain { Meets result (state_of store.new meter.new.left) (show names.now a.now (state_of store.old meter.old.left)) }
+    ensures plain { Meets result (state_of store.new meter.new.left)
+        (show names.now a.now (state_of store.old meter.old.left)) }
     ensures same { store.new.heap ≡ store.old.heap }
     ensures fewer { meter.new.left ≤ meter.old.left }
+    ensures counters { KeepsCounters store.old store.new }
 {
     match a {
         Value::Rock(rock) => show_rock(alloc, store, rock),
@@ -72,8 +76,10 @@ pub fn show(
 }
 
 fn show_rock(alloc: Global, store: &mut Store, rock: &Rock) -> Result<Text, OpEnd>
-    ensures plain { (steps : ℕ) → Meets result (state_of store.new steps) (rock_shown rock.now (state_of store.old steps)) }
+    ensures plain { (steps : ℕ) → Meets result (state_of store.new steps)
+        (rock_shown rock.now (state_of store.old steps)) }
     ensures same { store.new.heap ≡ store.old.heap }
+    ensures counters { KeepsCounters store.old store.new }
 {
     match rock {
         Rock::Text(text) => Ok(text.copy()?),
@@ -87,8 +93,10 @@ fn show_rock(alloc: Global, store: &mut Store, rock: &Rock) -> Result<Text, OpEn
 }
 
 fn show_plain(alloc: Global, store: &mut Store, rock: &Rock) -> Result<Text, OpEnd>
-    ensures plain { (steps : ℕ) → Meets result (state_of store.new steps) (printed (shown_inside rock.now) (state_of store.old steps)) }
+    ensures plain { (steps : ℕ) → Meets result (state_of store.new steps)
+        (printed (shown_inside rock.now) (state_of store.old steps)) }
     ensures same { store.new.heap ≡ store.old.heap }
+    ensures counters { KeepsCounters store.old store.new }
 {
     let text = shown_inside(alloc, rock)?;
     charged(store, text)
@@ -97,6 +105,7 @@ fn show_plain(alloc: Global, store: &mut Store, rock: &Rock) -> Result<Text, OpE
 fn charged(store: &mut Store, text: Text) -> Result<Text, OpEnd>
     ensures plain { (steps : ℕ) → Meets result (state_of store.new steps) (printed text (state_of store.old steps)) }
     ensures same { store.new.heap ≡ store.old.heap }
+    ensures counters { KeepsCounters store.old store.new }
 {
     let mut purse = Purse::of(store);
     let charged = purse.charge(text.as_str());
@@ -112,9 +121,11 @@ fn show_at(
     names: &Names,
     at: Oid,
 ) -> Result<Text, OpEnd>
-    ensures plain { Meets result (state_of store.new meter.new.left) (object_shown names.now (inner names.now deepest) [] at (state_of store.old meter.old.left)) }
+    ensures plain { Meets result (state_of store.new meter.new.left)
+        (object_shown names.now (inner names.now deepest) [] at (state_of store.old meter.old.left)) }
     ensures same { store.new.heap ≡ store.old.heap }
     ensures fewer { meter.new.left ≤ meter.old.left }
+    ensures counters { KeepsCounters store.old store.new }
 {
     let mut page = Page::new(alloc, store);
     let shown = show_object(store, meter, names, &mut page, DEEPEST, at);
@@ -133,9 +144,11 @@ fn show_value(
     left: usize,
     value: &Value,
 ) -> Result<(), OpEnd>
-    ensures plain { Prints result page.new.printer page.old.printer store.now.heap meter.new.left meter.old.left (shown names.now left (reverse page.old.outer.items) value.now) }
+    ensures plain { Prints result page.new.printer page.old.printer store.now.heap meter.new.left meter.old.left
+        (shown names.now left (reverse page.old.outer.items) value.now) }
     ensures fewer { meter.new.left ≤ meter.old.left }
     ensures outer { OnOk result (page.new.outer.items ≡ page.old.outer.items) }
+    ensures counters { KeepsRoom page.old.printer.purse page.new.printer.purse }
 {
     match value {
         Value::Rock(rock) => page.printer.print_rock(rock),
@@ -153,9 +166,11 @@ fn show_object(
     left: usize,
     at: Oid,
 ) -> Result<(), OpEnd>
-    ensures plain { Prints result page.new.printer page.old.printer store.now.heap meter.new.left meter.old.left (object_shown names.now (inner names.now left) (reverse page.old.outer.items) at) }
+    ensures plain { Prints result page.new.printer page.old.printer store.now.heap meter.new.left meter.old.left
+        (object_shown names.now (inner names.now left) (reverse page.old.outer.items) at) }
     ensures fewer { meter.new.left ≤ meter.old.left }
     ensures outer { OnOk result (page.new.outer.items ≡ page.old.outer.items) }
+    ensures counters { KeepsRoom page.old.printer.purse page.new.printer.purse }
 {
     match store.get(at) {
         Some(object) => show_content(store, meter, names, page, left, at, object),
@@ -174,9 +189,11 @@ fn show_content(
     at: Oid,
     object: &Object,
 ) -> Result<(), OpEnd>
-    ensures plain { Prints result page.new.printer page.old.printer store.now.heap meter.new.left meter.old.left (object_within names.now left (reverse page.old.outer.items) at (content_of object.now)) }
+    ensures plain { Prints result page.new.printer page.old.printer store.now.heap meter.new.left meter.old.left
+        (object_within names.now left (reverse page.old.outer.items) at (content_of object.now)) }
     ensures fewer { meter.new.left ≤ meter.old.left }
     ensures outer { OnOk result (page.new.outer.items ≡ page.old.outer.items) }
+    ensures counters { KeepsRoom page.old.printer.purse page.new.printer.purse }
 {
     if is_among(page.outer.as_slice(), at) {
         return page.printer.print(cut_text(object));
@@ -205,9 +222,11 @@ fn show_container(
     object: &Object,
 ) -> Result<(), OpEnd>
     requires container { is_container (content_of object.now) ≡ true }
-    ensures plain { Prints result page.new.printer page.old.printer store.now.heap meter.new.left meter.old.left (content_shown names.now (inner names.now left (at ∷ reverse page.old.outer.items)) (content_of object.now)) }
+    ensures plain { Prints result page.new.printer page.old.printer store.now.heap meter.new.left meter.old.left
+        (content_shown names.now (inner names.now left (at ∷ reverse page.old.outer.items)) (content_of object.now)) }
     ensures fewer { meter.new.left ≤ meter.old.left }
     ensures outer { OnOk result (page.new.outer.items ≡ page.old.outer.items) }
+    ensures counters { KeepsRoom page.old.printer.purse page.new.printer.purse }
 {
     if left == 0 {
         return Err(Refusal::Depth.end(page.printer.alloc));
@@ -235,9 +254,12 @@ fn show_enclosed(
     left: usize,
     object: &Object,
 ) -> Result<(), OpEnd>
-    ensures plain { Prints result page.new.printer page.old.printer store.now.heap meter.new.left meter.old.left (enclosed (opening (content_of object.now)) (closing (content_of object.now)) (separated (item_of names.now left (reverse page.old.outer.items)) (items (content_of object.now)))) }
+    ensures plain { Prints result page.new.printer page.old.printer store.now.heap meter.new.left meter.old.left
+        (enclosed (opening (content_of object.now)) (closing (content_of object.now))
+        (separated (item_of names.now left (reverse page.old.outer.items)) (items (content_of object.now)))) }
     ensures fewer { meter.new.left ≤ meter.old.left }
     ensures outer { OnOk result (page.new.outer.items ≡ page.old.outer.items) }
+    ensures counters { KeepsRoom page.old.printer.purse page.new.printer.purse }
 {
     page.printer.print(opening(object))?;
     show_items(store, meter, names, page, left, object)?;
@@ -254,9 +276,11 @@ fn show_items(
     left: usize,
     object: &Object,
 ) -> Result<(), OpEnd>
-    ensures plain { Prints result page.new.printer page.old.printer store.now.heap meter.new.left meter.old.left (separated (item_of names.now left (reverse page.old.outer.items)) (items (content_of object.now))) }
+    ensures plain { Prints result page.new.printer page.old.printer store.now.heap meter.new.left meter.old.left
+        (separated (item_of names.now left (reverse page.old.outer.items)) (items (content_of object.now))) }
     ensures fewer { meter.new.left ≤ meter.old.left }
     ensures outer { OnOk result (page.new.outer.items ≡ page.old.outer.items) }
+    ensures counters { KeepsRoom page.old.printer.purse page.new.printer.purse }
 {
     match object {
         Object::List(elements) => show_elements(store, meter, names, page, left, elements),
@@ -279,9 +303,11 @@ fn show_elements(
     left: usize,
     elements: &[Value],
 ) -> Result<(), OpEnd>
-    ensures plain { Prints result page.new.printer page.old.printer store.now.heap meter.new.left meter.old.left (separated (item_of names.now left (reverse page.old.outer.items)) (map element_item elements.now)) }
+    ensures plain { Prints result page.new.printer page.old.printer store.now.heap meter.new.left meter.old.left
+        (separated (item_of names.now left (reverse page.old.outer.items)) (map element_item elements.now)) }
     ensures fewer { meter.new.left ≤ meter.old.left }
     ensures outer { OnOk result (page.new.outer.items ≡ page.old.outer.items) }
+    ensures counters { KeepsRoom page.old.printer.purse page.new.printer.purse }
 {
     let mut first = true;
     for element in elements {
@@ -300,9 +326,11 @@ fn show_entries(
     left: usize,
     entries: &Dict<Key, (Rock, Value)>,
 ) -> Result<(), OpEnd>
-    ensures plain { Prints result page.new.printer page.old.printer store.now.heap meter.new.left meter.old.left (separated (item_of names.now left (reverse page.old.outer.items)) (map entry_item entries.now)) }
+    ensures plain { Prints result page.new.printer page.old.printer store.now.heap meter.new.left meter.old.left
+        (separated (item_of names.now left (reverse page.old.outer.items)) (map entry_item entries.now)) }
     ensures fewer { meter.new.left ≤ meter.old.left }
     ensures outer { OnOk result (page.new.outer.items ≡ page.old.outer.items) }
+    ensures counters { KeepsRoom page.old.printer.purse page.new.printer.purse }
 {
     let mut first = true;
     let mut walk = entries.walk();
@@ -325,9 +353,12 @@ fn show_item(
     key: Option<&Rock>,
     value: &Value,
 ) -> Result<(), OpEnd>
-    ensures plain { Prints result page.new.printer page.old.printer store.now.heap meter.new.left meter.old.left (turn (item_of names.now left (reverse page.old.outer.items)) first (record { key = option_copied key.entry; value = value.now })) }
+    ensures plain { Prints result page.new.printer page.old.printer store.now.heap meter.new.left meter.old.left
+        (turn (item_of names.now left (reverse page.old.outer.items)) first
+        (record { key = option_copied key.entry; value = value.now })) }
     ensures fewer { meter.new.left ≤ meter.old.left }
     ensures outer { OnOk result (page.new.outer.items ≡ page.old.outer.items) }
+    ensures counters { KeepsRoom page.old.printer.purse page.new.printer.purse }
 {
     page.printer.separate(first)?;
     step(meter)?;

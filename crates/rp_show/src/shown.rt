@@ -1,12 +1,14 @@
 //! Rocks as they are shown inside a container, written into a growing text.
-ghost use Rattle.std.specs.Prelude.{◌≡◌, ◌<◌, ◌++◌, ◌∷◌, [], chars, drop, encode_utf8_all, if◌then◌else◌, length, take, IfOk, OnOk};
+ghost use Rattle.std.specs.Prelude.{◌≡◌, ◌<◌, ◌++◌, ◌∷◌, [], chars, drop, encode_utf8_all, if◌then◌else◌, length, take};
+ghost use Rattle.std.specs.Prelude.{IfOk, OnOk};
 ghost use Rattle.std.specs.Char.{digit_char};
 ghost use Rattle.std.specs.Fmt.{signed_decimal};
 ghost use Rattle.std.specs.List.{position_or_len};
 ghost use Rattle.std.specs.Str.{IsUtf8};
 ghost use Rattle.rp_base.specs.Kind.{kind_name};
 ghost use Rattle.rp_show.specs.EscapeSteps.{has_escape};
-ghost use Rattle.rp_show.specs.Shown.{escaped, escaped_all, exception_call, hex_escape, holds, is_control, quote_of, quoted, shown_inside};
+ghost use Rattle.rp_show.specs.Shown.{escaped, escaped_all, exception_call, hex_escape, holds, is_control, quote_of};
+ghost use Rattle.rp_show.specs.Shown.{quoted, shown_inside};
 
 use itoa::Buffer;
 use rp_base::{Kind, Memory, Rock, Text};

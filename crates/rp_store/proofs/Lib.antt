@@ -1,4 +1,5 @@
 pub mod CallerLemmas
+pub mod Counters
 mod HeapLemmas
 mod Keys
 mod Readings

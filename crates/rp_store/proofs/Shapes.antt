@@ -21,6 +21,7 @@ use Rattle.rp_store.specs.Key.{key_form, same_key, same_name}
 use Rattle.rp_store.specs.Object.{Content, list, tuple, dict, instance, class, function, method, scope}
 use Rattle.rp_store.specs.Parts.{IsClass, IsDict, IsFunction, IsInstance, IsList, IsScope, fields}
 use Rattle.rp_store.specs.Shape.{KeepsShape, ShapeStays, shape, shape_at, shaped}
+use Rattle.rp_store.proofs.Counters.{KeepsCounters-same, KeepsCounters-trans}
 use Rattle.rp_store.specs.Writers.{extended, first_written, inserted, on_dict, on_fields, on_list, on_methods, pushed, with_element, with_elements, with_entry, with_field, with_method, with_methods, with_slot, without_element, without_entry, without_field, without_methods}
 
 -- the shape of what stands at a place
@@ -659,5 +660,5 @@ KeepsShape-trans old mid new a b = record {
   scope = λ owner at h. b.scope owner at (a.scope owner at h);
 }
 
--- what holds of a heap that has gone on
-pub ruleset goes_on = (KeepsShape-trans, KeepsShape-same)
+-- what holds of a heap and of counters that have gone on
+pub ruleset goes_on = (KeepsShape-trans, KeepsShape-same, KeepsCounters-trans, KeepsCounters-same)

@@ -1,4 +1,5 @@
 pub mod Cost
+pub mod Counters
 pub mod Fault
 pub mod Heap
 pub mod Kept

@@ -1,5 +1,6 @@
 //! The store that callers see.
-ghost use Rattle.std.specs.Prelude.{◌≡◌, ◌+◌, ◌^◌, ◌<◌, ◌≤◌, ◌↔◌, [], All, IfErr, IfOk, IfSome, IsSome, IsTrue, None, OnErr, OnOk, Some, length, option_map, slice_get};
+ghost use Rattle.std.specs.Prelude.{◌≡◌, ◌+◌, ◌^◌, ◌<◌, ◌≤◌, ◌↔◌, [], All, IfErr, IfOk, IfSome, IsSome, IsTrue, None};
+ghost use Rattle.std.specs.Prelude.{OnErr, OnOk, Some, length, option_map, slice_get};
 ghost use Rattle.std.specs.Option.{option_copied, option_map_or};
 ghost use Rattle.rp_store.specs.Object.{content_of};
 
@@ -85,13 +86,18 @@ impl Model for Store {
 
 impl Store {
     ghost use Rattle.rp_store.specs.Cost.{cell_if_new, cost};
-    ghost use Rattle.rp_store.specs.Heap.{IsHeld, Names, class_at, content_at, count_at, element_at, elements_at, entry_at, entry_of, field_at, instance_tag, method_at, method_of, owner_at, parent_at, slot_at, slots_at, tag_at};
+    ghost use Rattle.rp_store.specs.Counters.{KeepsCounters};
+    ghost use Rattle.rp_store.specs.Heap.{IsHeld, Names, class_at, content_at, count_at, element_at, elements_at};
+    ghost use Rattle.rp_store.specs.Heap.{entry_at, entry_of, field_at, instance_tag, method_at, method_of, owner_at};
+    ghost use Rattle.rp_store.specs.Heap.{parent_at, slot_at, slots_at, tag_at};
     ghost use Rattle.rp_store.specs.Kept.{AreSound, Holds, IsFit, IsHeldBySome, IsKept, IsSafe, IsScopeOf, IsSound};
     ghost use Rattle.rp_store.specs.Key.{key_form};
     ghost use Rattle.rp_store.specs.Parts.{IsClass, IsDict, IsFunction, IsInstance, IsList};
     ghost use Rattle.rp_store.specs.Shape.{KeepsShape};
     ghost use Rattle.rp_store.specs.Store.{IsOver, added, grown, made, written};
-    ghost use Rattle.rp_store.specs.Writers.{extended, inserted, pushed, with_element, with_elements, with_entry, with_field, with_method, with_methods, with_rock, with_slot, without_element, without_entry, without_field, without_methods};
+    ghost use Rattle.rp_store.specs.Writers.{extended, inserted, pushed, with_element, with_elements, with_entry};
+    ghost use Rattle.rp_store.specs.Writers.{with_field, with_method, with_methods, with_rock, with_slot};
+    ghost use Rattle.rp_store.specs.Writers.{without_element, without_entry, without_field, without_methods};
 
     /// The empty store, in which so many cells may be used, and whose dicts are made with this seed. It takes no memory
     /// yet.
@@ -131,6 +137,7 @@ impl Store {
     /// back.
     pub fn hold_text(&mut self, bytes: usize) -> Result<(), Memory>
         ensures same { self.new ≡ self.old }
+        ensures counters { KeepsCounters self.old self.new }
     {
         let bytes = bytes as u64;
         if bytes <= WITHIN_A_CELL {
@@ -195,6 +202,7 @@ impl Store {
         ensures cells { (result ≡ Err StoreFault.Cells) ↔ IsOver self.old cells }
         ensures only_cells { IfErr result (λ e. e ≡ StoreFault.Cells) }
         ensures same { OnErr result (self.new ≡ self.old) }
+        ensures counters { KeepsCounters self.old self.new }
     {
         if self.is_over(cells) {
             return Err(StoreFault::Cells);
@@ -215,6 +223,7 @@ impl Store {
         ensures cells { (result ≡ Err StoreFault.Cells) ↔ IsOver self.old (cost (content_of object)) }
         ensures same { OnErr result (self.new ≡ self.old) }
         ensures shape { KeepsShape self.old.heap self.new.heap }
+        ensures counters { KeepsCounters self.old self.new }
     {
         let cost = object.cost();
         if self.is_over(cost) {
@@ -235,6 +244,7 @@ impl Store {
         ensures place { IfOk result (λ at. at.0 ≡ length self.old.heap) }
         ensures same { OnErr result (self.new ≡ self.old) }
         ensures shape { KeepsShape self.old.heap self.new.heap }
+        ensures counters { KeepsCounters self.old self.new }
     {
         let at = Oid(self.slots.len());
         self.slots.push(Slot {
@@ -301,7 +311,8 @@ impl Store {
     pub fn slot(&self, at: Oid, i: usize) -> Option<&Value>
         requires { IsHeld self.now.heap at }
         ensures value { option_copied result ≡ slot_at self.now.heap at i }
-        ensures fit { (owner : Side) → owner_at self.now.heap at ≡ Some owner → IfSome (option_copied result) (IsFit self.now.heap owner) }
+        ensures fit { (owner : Side) → owner_at self.now.heap at ≡ Some owner
+            → IfSome (option_copied result) (IsFit self.now.heap owner) }
     {
         self.object(at).slot(i)
     }
@@ -311,7 +322,8 @@ impl Store {
     pub fn parent(&self, at: Oid) -> Option<Oid>
         requires { IsHeld self.now.heap at }
         ensures value { result ≡ parent_at self.now.heap at }
-        ensures scope { (owner : Side) → owner_at self.now.heap at ≡ Some owner → IfSome result (IsScopeOf self.now.heap owner) }
+        ensures scope { (owner : Side) → owner_at self.now.heap at ≡ Some owner
+            → IfSome result (IsScopeOf self.now.heap owner) }
     {
         self.object(at).parent()
     }
@@ -416,6 +428,7 @@ impl Store {
         ensures cells { (result ≡ Err StoreFault.Cells) ↔ IsOver self.old 1 }
         ensures same { OnErr result (self.new ≡ self.old) }
         ensures shape { KeepsShape self.old.heap self.new.heap }
+        ensures counters { KeepsCounters self.old self.new }
     {
         if self.is_over(1) {
             return Err(StoreFault::Cells);
@@ -437,6 +450,7 @@ impl Store {
         ensures cells { (result ≡ Err StoreFault.Cells) ↔ IsOver self.old (length values.items) }
         ensures same { OnErr result (self.new ≡ self.old) }
         ensures shape { KeepsShape self.old.heap self.new.heap }
+        ensures counters { KeepsCounters self.old self.new }
     {
         let cells = values.len() as u64;
         if self.is_over(cells) {
@@ -454,6 +468,7 @@ impl Store {
         requires values { AreSound self.old.heap values.items }
         ensures done { self.new ≡ written self.old at (with_elements values.items) }
         ensures shape { KeepsShape self.old.heap self.new.heap }
+        ensures counters { KeepsCounters self.old self.new }
     {
         self.slots[at.0].object.set_elements(values);
     }
@@ -471,6 +486,7 @@ impl Store {
         ensures cells { (result ≡ Err StoreFault.Cells) ↔ IsOver self.old 1 }
         ensures same { OnErr result (self.new ≡ self.old) }
         ensures shape { KeepsShape self.old.heap self.new.heap }
+        ensures counters { KeepsCounters self.old self.new }
     {
         if self.is_over(1) {
             return Err(StoreFault::Cells);
@@ -487,6 +503,7 @@ impl Store {
         requires value { IsSound self.old.heap value }
         ensures done { self.new ≡ written self.old at (with_element i value) }
         ensures shape { KeepsShape self.old.heap self.new.heap }
+        ensures counters { KeepsCounters self.old self.new }
     {
         self.slots[at.0].object.set_at(i, value);
     }
@@ -498,6 +515,7 @@ impl Store {
         ensures removed { self.new ≡ written self.old at (without_element i) }
         ensures value { slice_get (elements_at self.old.heap at) i ≡ Some result }
         ensures shape { KeepsShape self.old.heap self.new.heap }
+        ensures counters { KeepsCounters self.old self.new }
     {
         self.slots[at.0].object.remove_at(i)
     }
@@ -511,10 +529,13 @@ impl Store {
         requires dict { Names self.old.heap IsDict at }
         requires key { IsSome (key_form key) }
         requires value { IsSound self.old.heap value }
-        ensures put { OnOk result (self.new ≡ grown self.old at (with_rock key value) (cell_if_new (entry_of self.old.heap at key))) }
-        ensures cells { (result ≡ Err StoreFault.Cells) ↔ IsOver self.old (cell_if_new (entry_of self.old.heap at key)) }
+        ensures put { OnOk result (self.new
+            ≡ grown self.old at (with_rock key value) (cell_if_new (entry_of self.old.heap at key))) }
+        ensures cells { (result ≡ Err StoreFault.Cells)
+            ↔ IsOver self.old (cell_if_new (entry_of self.old.heap at key)) }
         ensures same { OnErr result (self.new ≡ self.old) }
         ensures shape { KeepsShape self.old.heap self.new.heap }
+        ensures counters { KeepsCounters self.old self.new }
     {
         let Some((form, rest)) = taken_apart(key) else {
             return Ok(());
@@ -543,6 +564,7 @@ impl Store {
         ensures within { self.old.used ≤ self.old.limit }
         ensures same { OnErr result (self.new ≡ self.old) }
         ensures shape { KeepsShape self.old.heap self.new.heap }
+        ensures counters { KeepsCounters self.old self.new }
     {
         self.slots[at.0].object.set_entry(key, value)
     }
@@ -557,6 +579,7 @@ impl Store {
         ensures put { OnOk result (self.new ≡ grown self.old at (with_entry key rock value) 1) }
         ensures same { OnErr result (self.new ≡ self.old) }
         ensures shape { KeepsShape self.old.heap self.new.heap }
+        ensures counters { KeepsCounters self.old self.new }
     {
         self.slots[at.0].object.push_entry(key, rock, value)?;
         self.used += 1;
@@ -579,6 +602,7 @@ impl Store {
         ensures dropped { self.new ≡ written self.old at (without_entry key.now) }
         ensures value { result ≡ option_map (λ entry. entry.1) (entry_at self.old.heap at key.now) }
         ensures shape { KeepsShape self.old.heap self.new.heap }
+        ensures counters { KeepsCounters self.old self.new }
     {
         self.slots[at.0].object.drop_key(key)
     }
@@ -591,10 +615,13 @@ impl Store {
         requires held { IsHeld self.old.heap at }
         requires instance { Names self.old.heap IsInstance at }
         requires value { IsSound self.old.heap value }
-        ensures set { OnOk result (self.new ≡ grown self.old at (with_field name value) (cell_if_new (field_at self.old.heap at name))) }
-        ensures cells { (result ≡ Err StoreFault.Cells) ↔ IsOver self.old (cell_if_new (field_at self.old.heap at name)) }
+        ensures set { OnOk result (self.new
+            ≡ grown self.old at (with_field name value) (cell_if_new (field_at self.old.heap at name))) }
+        ensures cells { (result ≡ Err StoreFault.Cells)
+            ↔ IsOver self.old (cell_if_new (field_at self.old.heap at name)) }
         ensures same { OnErr result (self.new ≡ self.old) }
         ensures shape { KeepsShape self.old.heap self.new.heap }
+        ensures counters { KeepsCounters self.old self.new }
     {
         if self.is_over_for_field(at, name) {
             return Err(StoreFault::Cells);
@@ -611,6 +638,7 @@ impl Store {
         ensures dropped { self.new ≡ written self.old at (without_field name) }
         ensures value { result ≡ field_at self.old.heap at name }
         ensures shape { KeepsShape self.old.heap self.new.heap }
+        ensures counters { KeepsCounters self.old self.new }
     {
         self.slots[at.0].object.drop_field(name)
     }
@@ -623,10 +651,13 @@ impl Store {
         requires held { IsHeld self.old.heap at }
         requires class { Names self.old.heap IsClass at }
         requires function { Names self.old.heap IsFunction function }
-        ensures set { OnOk result (self.new ≡ grown self.old at (with_method name function) (cell_if_new (method_at self.old.heap at name))) }
-        ensures cells { (result ≡ Err StoreFault.Cells) ↔ IsOver self.old (cell_if_new (method_at self.old.heap at name)) }
+        ensures set { OnOk result (self.new
+            ≡ grown self.old at (with_method name function) (cell_if_new (method_at self.old.heap at name))) }
+        ensures cells { (result ≡ Err StoreFault.Cells)
+            ↔ IsOver self.old (cell_if_new (method_at self.old.heap at name)) }
         ensures same { OnErr result (self.new ≡ self.old) }
         ensures shape { KeepsShape self.old.heap self.new.heap }
+        ensures counters { KeepsCounters self.old self.new }
     {
         if self.is_over_for_method(at, name) {
             return Err(StoreFault::Cells);
@@ -643,6 +674,7 @@ impl Store {
         requires methods { All (λ m. Names self.old.heap IsFunction m.1) methods }
         ensures done { self.new ≡ written self.old at (with_methods methods) }
         ensures shape { KeepsShape self.old.heap self.new.heap }
+        ensures counters { KeepsCounters self.old self.new }
     {
         self.slots[at.0].object.set_methods(methods);
     }
@@ -653,6 +685,7 @@ impl Store {
         requires class { Names self.old.heap IsClass at }
         ensures done { self.new ≡ written self.old at without_methods }
         ensures shape { KeepsShape self.old.heap self.new.heap }
+        ensures counters { KeepsCounters self.old self.new }
     {
         self.slots[at.0].object.clear_methods();
     }
@@ -662,9 +695,11 @@ impl Store {
     pub fn set_slot(&mut self, at: Oid, i: usize, value: Option<Value>)
         requires held { IsHeld self.old.heap at }
         requires place { i < length (slots_at self.old.heap at) }
-        requires value { (owner : Side) → owner_at self.old.heap at ≡ Some owner → IfSome value (λ v. IsSound self.old.heap v × IsSafe self.old.heap owner v) }
+        requires value { (owner : Side) → owner_at self.old.heap at ≡ Some owner
+            → IfSome value (λ v. IsSound self.old.heap v × IsSafe self.old.heap owner v) }
         ensures done { self.new ≡ written self.old at (with_slot i value) }
         ensures shape { KeepsShape self.old.heap self.new.heap }
+        ensures counters { KeepsCounters self.old self.new }
     {
         self.slots[at.0].object.set_slot(i, value);
     }

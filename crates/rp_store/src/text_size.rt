@@ -8,7 +8,8 @@ use rp_base::Text;
 /// each.
 pub fn bytes_of(text: &Text) -> usize
     ensures ascii { IsAscii text.now → result ≡ length text.now }
-    ensures other { ¬ (IsAscii text.now) → length (encode_utf8_all text.now) + 4 * length text.now < 2 ^ 64 → result ≡ length (encode_utf8_all text.now) + 4 * length text.now }
+    ensures other { ¬ (IsAscii text.now) → length (encode_utf8_all text.now) + 4 * length text.now < 2 ^ 64 → result
+        ≡ length (encode_utf8_all text.now) + 4 * length text.now }
 {
     match text.ascii() {
         Some(letters) => letters.len(),

@@ -1,5 +1,8 @@
 //! Arguments bound to parameters.
 
+ghost use Rattle.std.specs.Prelude.{IfOk};
+ghost use Rattle.rp_store.specs.Kept.{IsScopeOf};
+
 use crate::soundness::{are_named_sound, are_sound, is_function};
 use rp_base::{Line, Memory, Names, Oid, OpEnd, Rock, Seed, Side, Text, Value, identifier};
 use rp_calls::bind;
@@ -88,6 +91,12 @@ const CASES: &str = "
     a b=7 *r **k | 1 2 3 b=4 => TypeError arguments
     a b=7 *r **k | 1 r=2 k=3 => 1 7 () {r:2,k:3,}
     a b=7 *r **k | 1 2 3 c=4 c=5 => TypeError arguments
+    a b c d e f g h i | i=9 c=3 a=1 h=8 e=5 b=2 g=7 d=4 f=6 => 1 2 3 4 5 6 7 8 9
+    a b c d e f g h i | a=1 b=2 c=3 d=4 e=5 f=6 g=7 h=8 i=9 e=1 => TypeError arguments
+    a b c d e f g h i=6 | x=9 a=1 b=2 c=3 d=4 e=5 f=6 g=7 h=8 => TypeError arguments
+    a b c d e f g h i=6 **k | x=9 a=1 b=2 c=3 d=4 e=5 f=6 g=7 h=8 => 1 2 3 4 5 6 7 8 6 {x:9,}
+    a b c d e f g h i | 1 a=1 b=2 c=3 d=4 e=5 f=6 g=7 h=8 i=9 => TypeError arguments
+    a b c d e f g h i=6 **k | x=9 a=1 b=2 c=3 d=4 e=5 f=6 g=7 h=8 x=2 => TypeError arguments
 ";
 
 /// The limit of cells before a case; what a refusal leaves is told behind it: the cells used, and the objects.
@@ -283,14 +292,7 @@ fn show(
 
 /// A function with these defaults, in a scope of its own.
 fn function(alloc: Global, store: &mut Store, defaults: Vec<Value>) -> Result<Oid, Memory> {
-    let scope = store.add(
-        SIDE,
-        Object::Scope {
-            block: None,
-            parent: None,
-            slots: Vec::new(alloc),
-        },
-    )?;
+    let scope = scope(alloc, store)?;
     if !are_sound(store, &defaults) {
         return Err(Memory);
     }
@@ -302,6 +304,20 @@ fn function(alloc: Global, store: &mut Store, defaults: Vec<Value>) -> Result<Oi
             block: 0,
             scope,
             defaults,
+        },
+    )
+}
+
+/// An empty scope.
+fn scope(alloc: Global, store: &mut Store) -> Result<Oid, Memory>
+    ensures { IfOk result (λ at. IsScopeOf store.new.heap (record { 0 = 1 }) at) }
+{
+    store.add(
+        SIDE,
+        Object::Scope {
+            block: None,
+            parent: None,
+            slots: Vec::new(alloc),
         },
     )
 }

@@ -36,6 +36,8 @@ mod session_answers;
 #[cfg(test)]
 mod session_tests;
 #[cfg(test)]
+mod show_tests;
+#[cfg(test)]
 mod taking_answers;
 #[cfg(test)]
 mod trail_answers;

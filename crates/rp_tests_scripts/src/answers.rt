@@ -1,12 +1,19 @@
 //! What the public calls answer, as texts.
 
+ghost use Rattle.std.specs.Prelude.{IfOk};
+ghost use Rattle.rp_tree.specs.Marks.{HasNoGuards};
+ghost use Rattle.rp_tree.specs.StatementViews.{view_tree};
+
 use crate::shown::{show_expr, show_name, show_params, show_place, show_target};
+use crate::shown_guards::show_guards;
 use crate::shown_statements::show_stmts;
 use rp_base::{Memory, Names, Seed};
 use rp_expr::{expr, expr_list, params, place_of, target};
 use rp_first::{compile_script, refusal_text};
+use rp_guard::{guarded, transform};
 use rp_heights::height;
 use rp_parse::{ParseFault, parse};
+use rp_program::read_text;
 use rp_token::{Token, TokenFault, TokenKind, tokens};
 use rp_tree::Tree;
 use std::alloc::{AllocError, Global};
@@ -41,6 +48,10 @@ pub enum Question {
     Refusal,
     /// The height of its tree.
     Height,
+    /// The guards of the tree that runs, in order; `-` where a form that may have one has none.
+    Guards,
+    /// Whether nothing in its tree stands without its guard, before the transformer and after it.
+    IsGuarded,
     /// The statements that it is compiled to, in words, or why it is refused.
     Compiled,
     /// Why it is not compiled; nothing where it is.
@@ -66,6 +77,8 @@ pub fn answer(alloc: Global, question: Question, text: &str) -> Result<String, F
         Question::Statements => statements(alloc, text),
         Question::Refusal => refused_at(alloc, text),
         Question::Height => tree_height(alloc, text),
+        Question::Guards => guards(alloc, text),
+        Question::IsGuarded => is_guarded(alloc, text),
         Question::Compiled => compiled_bytes(alloc, text.as_bytes()),
         Question::CompileRefusal => compile_refusal(alloc, text),
     }
@@ -300,6 +313,32 @@ fn tree_height(alloc: Global, text: &str) -> Result<String, Fail> {
         }
         _ => spelled(alloc, "no tree"),
     }
+}
+
+/// The tree of a script, before it is transformed.
+fn source(alloc: Global, text: &str) -> Result<Tree, Fail>
+    ensures { IfOk result (λ tree. HasNoGuards (view_tree tree)) }
+{
+    let mut names = new_names(alloc)?;
+    Ok(read_text(alloc, text, &mut names)?)
+}
+
+fn guards(alloc: Global, text: &str) -> Result<String, Fail> {
+    let tree = transform(source(alloc, text)?)?;
+    let mut out = String::new(alloc);
+    show_guards(&mut out, &tree.body)?;
+    Ok(out)
+}
+
+fn is_guarded(alloc: Global, text: &str) -> Result<String, Fail> {
+    let tree = source(alloc, text)?;
+    let before = yes_or_no(guarded(&tree));
+    let after = yes_or_no(guarded(&transform(tree)?));
+    Ok(format!(in alloc; "{before} {after}")?)
+}
+
+fn yes_or_no(holds: bool) -> &'static str {
+    if holds { "yes" } else { "no" }
 }
 
 /// The statements that bytes are compiled to, in words, or why they are refused.

@@ -1,4 +1,4 @@
-//! Tests of the calls that read scripts: tokens, expressions, statements, trees and compiled scripts.
+//! Tests of the calls that read scripts: tokens, expressions, statements, trees, their guards and compiled scripts.
 #![tactic(auto)]
 
 #[cfg(test)]
@@ -10,11 +10,15 @@ mod cases;
 #[cfg(test)]
 mod expression_tests;
 #[cfg(test)]
+mod guard_tests;
+#[cfg(test)]
 mod marks;
 #[cfg(test)]
 mod script_tests;
 #[cfg(test)]
 mod shown;
+#[cfg(test)]
+mod shown_guards;
 #[cfg(test)]
 mod shown_scripts;
 #[cfg(test)]

@@ -1,6 +1,7 @@
 //! The decisions so far, and the line of each.
 
-ghost use Rattle.std.specs.Prelude.{◌≡◌, ◌++◌, ◌+◌, ◌<◌, ◌↔◌, [], ◌∷◌, IfOk, IsTrue, OnErr, OnOk, chars, length, string_bytes};
+ghost use Rattle.std.specs.Prelude.{◌≡◌, ◌++◌, ◌+◌, ◌<◌, ◌↔◌, [], ◌∷◌, IfOk, IsTrue, OnErr, OnOk, chars, length};
+ghost use Rattle.std.specs.Prelude.{string_bytes, vec_capacity, vec_len};
 ghost use Rattle.rp_store.specs.Store.{IsOver};
 
 use crate::entry::{Entry, Verdict};
@@ -51,12 +52,9 @@ impl Trail {
         ensures trail_same { OnErr result (self.new ≡ self.old) }
         ensures store_same { OnErr result (store.new ≡ store.old) }
     {
-        if store.used() == store.limit() {
-            return Err(StoreFault::Cells);
-        }
-        self.entries.reserve(1).map_err(Memory::from)?;
+        make_room(&mut self.entries, store)?;
         store.charge(1)?;
-        self.entries.push(entry).unwrap();
+        self.entries.push_reserved(entry);
         Ok(())
     }
 
@@ -99,7 +97,8 @@ impl Trail {
     ) -> Result<String, Memory>
         requires numbered { i < usize.MAX }
         requires held { IsEntryHeld names.now decl.now.permissions entry.now }
-        ensures { IfOk result (λ line. chars (string_bytes line) ≡ line_of i (chars who.now) (entry_view names.now decl.now.permissions entry.now)) }
+        ensures { IfOk result (λ line. chars (string_bytes line)
+            ≡ line_of i (chars who.now) (entry_view names.now decl.now.permissions entry.now)) }
     {
         let mut line = front(alloc, i + 1, entry.session, who)?;
         match entry.verdict {
@@ -116,4 +115,31 @@ impl Trail {
         add(&mut line, "\n")?;
         Ok(line)
     }
+}
+
+/// Room for one entry more. Where there is some, the cells are not asked.
+#[inline(always)]
+fn make_room(entries: &mut Vec<Entry>, store: &Store) -> Result<(), StoreFault>
+    ensures same { entries.new.items ≡ entries.old.items }
+    ensures room { OnOk result (vec_len entries.new < vec_capacity entries.new) }
+    ensures cells { OnErr result ((result ≡ Err StoreFault.Cells) ↔ IsOver store.now 1) }
+{
+    if entries.len() < entries.capacity() {
+        return Ok(());
+    }
+    grow(entries, store)
+}
+
+/// More room for entries, where a cell is left for one more.
+#[inline(never)]
+fn grow(entries: &mut Vec<Entry>, store: &Store) -> Result<(), StoreFault>
+    ensures same { entries.new.items ≡ entries.old.items }
+    ensures room { OnOk result (vec_len entries.new < vec_capacity entries.new) }
+    ensures cells { (result ≡ Err StoreFault.Cells) ↔ IsOver store.now 1 }
+{
+    if store.used() == store.limit() {
+        return Err(StoreFault::Cells);
+    }
+    entries.reserve(1).map_err(Memory::from)?;
+    Ok(())
 }

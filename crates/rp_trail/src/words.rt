@@ -14,7 +14,8 @@ use std::alloc::Global;
 
 /// The number of an entry, that of its session, and who it is of.
 pub fn front(alloc: Global, number: usize, session: u32, who: &str) -> Result<String, Memory>
-    ensures { IfOk result (λ line. chars (string_bytes line) ≡ (decimal number ++ 32 ∷ decimal session) ++ 32 ∷ chars who.now) }
+    ensures { IfOk result (λ line. chars (string_bytes line)
+        ≡ (decimal number ++ 32 ∷ decimal session) ++ 32 ∷ chars who.now) }
 {
     Ok(format!(in alloc; "{number} {session} {who}")?)
 }
@@ -28,7 +29,10 @@ pub fn add_operation(
 ) -> Result<(), Memory>
     requires class { IsClassHeld names.now entry.now.class }
     requires name { IsHeld names.now (op_name entry.now.op) }
-    ensures { OnOk result (chars (string_bytes line.new) ≡ chars (string_bytes line.old) ++ (32 ∷ chars verdict.now ++ 32 ∷ op_word entry.now.op ++ 32 ∷ class_text names.now entry.now.class ++ 46 ∷ name_text names.now (op_name entry.now.op))) }
+    ensures { OnOk result (chars (string_bytes line.new)
+        ≡ chars (string_bytes line.old) ++
+        (32 ∷ chars verdict.now ++ 32 ∷ op_word entry.now.op ++ 32 ∷ class_text names.now entry.now.class ++ 46
+        ∷ name_text names.now (op_name entry.now.op))) }
 {
     add_word(line, verdict)?;
     add_word(line, word_of(entry.op))?;

@@ -1,5 +1,5 @@
 use Rattle.std.proofs.Common.{[], arith}
-use Rattle.rp_store.proofs.CallerLemmas.{KeepsShape-trans}
+use Rattle.rp_store.proofs.CallerLemmas.{KeepsCounters-trans, KeepsShape-trans}
 use Rattle.rp_ops.specs.Outcome.{state_of}
 use Rattle.rp_methods.specs.Dicts.{tuples_listed}
 use Rattle.rp_methods.proofs.Listed.{listed-next, sound-next}
@@ -22,4 +22,5 @@ loop-rock-preserved c =
       made = sound-next old.heap new.heap c.loop-rock.made.items c.push.new.self.items c.in_ok-pair.pair c.make_pair.ensures.shape c.loop-rock.invariant.made
           c.in_ok-pair.ensures.sound c.in_ok-push.ensures.items;
       shape = KeepsShape-trans c.args.store.now.heap old.heap new.heap c.loop-rock.invariant.shape c.make_pair.ensures.shape;
+      counters = KeepsCounters-trans c.args.store.now old new c.loop-rock.invariant.counters c.make_pair.ensures.counters;
     }

@@ -1,5 +1,5 @@
 use Rattle.std.proofs.Common.{arith}
-use Rattle.rp_store.proofs.CallerLemmas.{KeepsShape-trans}
+use Rattle.rp_store.proofs.CallerLemmas.{KeepsCounters-trans, KeepsShape-trans}
 use Rattle.rp_ops.specs.Outcome.{state_of}
 use Rattle.rp_methods.specs.Dicts.{put_all}
 use Rattle.rp_methods.proofs.Listed.{put-fails, put-next}
@@ -22,4 +22,5 @@ loop-rock-preserved c = record {
   same = (λ steps. put-next c.args.at c.args.entries.now c.loop-rock.rock-index c.loop-rock-item.result (put_all c.args.at c.args.entries.now (state_of c.args.store.now steps))
       (state_of c.loop-rock.store steps) (state_of c.put.new.store steps) c.loop-rock-item.is (omega arith) (c.loop-rock.invariant.same steps) (c.in_ok-put.ensures.plain steps));
   shape = KeepsShape-trans c.args.store.now.heap c.loop-rock.store.heap c.put.new.store.heap c.loop-rock.invariant.shape c.put.ensures.shape;
+  counters = KeepsCounters-trans c.args.store.now c.loop-rock.store c.put.new.store c.loop-rock.invariant.counters c.put.ensures.counters;
 }

@@ -1,4 +1,5 @@
 use Rattle.std.proofs.Common.{◌≡◌, ℕ, drop}
+use Rattle.rp_store.specs.Counters.{KeepsCounters}
 use Rattle.rp_store.specs.Shape.{KeepsShape}
 use Rattle.rp_ops.specs.Outcome.{state_of}
 use Rattle.rp_methods.specs.Dicts.{put_all}
@@ -9,4 +10,5 @@ abbrev pub invariant-loop-rock : goal.invariant-loop-rock
 invariant-loop-rock l = record {
   same : (steps : ℕ) → put_all l.at l.entries (state_of l.initial.store steps) ≡ put_all l.at (drop l.rock-index l.entries) (state_of l.store steps);
   shape : KeepsShape l.initial.store.heap l.store.heap;
+  counters : KeepsCounters l.initial.store l.store;
 }

@@ -1,4 +1,4 @@
-use Rattle.std.proofs.Common.{List, ℕ, chars, refl}
+use Rattle.std.proofs.Common.{chars, refl}
 use Rattle.rp_methods.specs.Texts.{pieces, text_value}
 use Rattle.rp_methods.proofs.Turns.{collected-last}
 use Rattle.rp_methods.proofs.Walked.{collected-next}

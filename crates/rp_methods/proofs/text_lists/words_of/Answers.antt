@@ -1,5 +1,4 @@
-use Rattle.std.proofs.Common.{chars, refl, subst, sym}
-use Rattle.std.specs.Str.{IsUtf8}
+use Rattle.std.proofs.Common.{chars, refl}
 use Rattle.std.specs.Str.Iter.{split_whitespace_rest}
 use Rattle.rp_methods.specs.Texts.{text_value, words}
 use Rattle.rp_methods.proofs.Turns.{collected-all}

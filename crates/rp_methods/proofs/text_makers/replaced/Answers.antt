@@ -1,4 +1,4 @@
-use Rattle.std.proofs.Common.{List, ℕ, ap, arith, chars, encode_utf8_all, length, string_bytes}
+use Rattle.std.proofs.Common.{ap, arith, chars, encode_utf8_all, length, string_bytes}
 use Rattle.rp_methods.specs.Texts.{joined, pieces}
 use Rattle.rp_methods.proofs.Pieces.{replaced-last, replaced-turn}
 use Rattle.rp_methods.proofs.Turns.{longer}

@@ -1,4 +1,4 @@
-use Rattle.std.proofs.Common.{◌<◌, List, ℕ, arith, ap, drop, length, ◌∙◌}
+use Rattle.std.proofs.Common.{List, ℕ, arith, ap, drop, length, ◌∙◌}
 use Rattle.rp_methods.proofs.Pieces.{cut-found, some-bytes}
 use Rattle.rp_methods.proofs.text_pieces.cut_at.Goals as goal
 

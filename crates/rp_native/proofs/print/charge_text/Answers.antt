@@ -3,6 +3,7 @@ use Rattle.std.proofs.lemmas.Iterator.{YieldsList-from_chars}
 use Rattle.std.proofs.lemmas.Iterator.Consumers.{YieldsList-turn, YieldsList-end}
 use Rattle.std.proofs.lemmas.List.{drop_all, length_push}
 use Rattle.rp_store.specs.Store.{Cells}
+use Rattle.rp_store.proofs.CallerLemmas.{KeepsCounters-trans}
 use Rattle.rp_ops.specs.Outcome.{gives, state_of}
 use Rattle.rp_show.specs.Show.{printed}
 use Rattle.rp_show.specs.ShowView.{added}
@@ -23,6 +24,7 @@ loop-letter-preserved c =
           ∙ added-added so_far (char ∷ []) (printed (drop (n + 1) cs) (state_of c.charge.new.store steps))
           ∙ ap (λ (k : ℕ). added (so_far ++ char ∷ []) (printed (drop k cs) (state_of c.charge.new.store steps))) (sym (length_push so_far char))),
       ap (λ (s : Cells). s.heap) c.in_ok-charge.ensures.charged ∙ c.loop-letter.invariant.1,
+      KeepsCounters-trans c.args.store.now c.loop-letter.store c.charge.new.store c.loop-letter.invariant.2 c.in_ok-charge.ensures.counters,
     )
 
 pub returns-in_err-charge-clause-plain : goal.returns-in_err-charge-clause-plain

@@ -2,6 +2,7 @@ use Rattle.std.proofs.Common.{◌≡◌, Err, ◌∷◌, ◌+◌, List, ℕ, ari
 use Rattle.std.specs.Str.{chars}
 use Rattle.std.proofs.lemmas.List.{drop_all}
 use Rattle.rp_base.specs.declared.value.Value.{Value}
+use Rattle.rp_store.proofs.CallerLemmas.{KeepsCounters-trans}
 use Rattle.rp_ops.specs.Outcome.{Meets, Outcome, state_of}
 use Rattle.rp_show.specs.Show.{followed, printed}
 use Rattle.rp_show.specs.ShowView.{Writes, added}
@@ -24,6 +25,7 @@ loop-value-preserved c =
           ∙ on_ok l.line c.print_behind.new.line end (followed (printed (codes " ") s) (argument names v)) (further names (drop (i + 1) vs)) c.in_ok-print_behind.ensures.plain,
       c.in_ok-print_behind.ensures.same ∙ l.invariant.1,
       omega (arith, c.in_ok-print_behind.ensures.fewer, l.invariant.2),
+      KeepsCounters-trans c.args.store.now l.store c.print_behind.new.store l.invariant.3 c.in_ok-print_behind.ensures.counters,
     )
 
 pub returns-in_err-print_behind-clause-plain : goal.returns-in_err-print_behind-clause-plain

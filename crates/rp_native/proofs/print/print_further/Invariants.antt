@@ -1,4 +1,5 @@
 use Rattle.std.proofs.Common.{◌≡◌, ◌≤◌, drop}
+use Rattle.rp_store.specs.Counters.{KeepsCounters}
 use Rattle.rp_ops.specs.Outcome.{state_of}
 use Rattle.rp_show.specs.ShowView.{added}
 use Rattle.rp_native.specs.Print.{further}
@@ -11,3 +12,4 @@ invariant-loop-value l =
     ≡ added l.line (further l.names (drop l.value-index l.args) (state_of l.store l.meter.left)))
     × (l.store.heap ≡ l.initial.store.heap)
     × (l.meter.left ≤ l.initial.meter.left)
+    × KeepsCounters l.initial.store l.store

@@ -1,4 +1,4 @@
-use Rattle.std.proofs.Common.{rules, ◌≡◌, ℕ, ◌*◌, ◌<◌, ◌^◌, Fits, FitsSigned, arith, unsigned_abs, subst, sym}
+use Rattle.std.proofs.Common.{rules, ◌≡◌, ℕ, ◌*◌, ◌<◌, ◌^◌, FitsSigned, arith, unsigned_abs, subst, sym}
 use Rattle.std.specs.Int.{w64}
 use Rattle.std.proofs.lemmas.Grind.{common_steps}
 use Rattle.rp_native.proofs.RangeNumbers.{AreFitted, away-fits}

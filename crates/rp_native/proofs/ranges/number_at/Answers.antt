@@ -1,4 +1,4 @@
-use Rattle.std.proofs.Common.{rules, ◌≡◌, ℤ, FitsSigned, arith, of_z, to_z, subst, sym}
+use Rattle.std.proofs.Common.{rules, ℤ, FitsSigned, arith, of_z, to_z, subst, sym}
 use Rattle.std.specs.Int.{w64}
 use Rattle.std.proofs.lemmas.Grind.{common_steps}
 use Rattle.std.proofs.lemmas.Int.{to_z-of_z}

@@ -1,4 +1,4 @@
-use Rattle.std.proofs.Common.{rules, ◌∙◌, subst}
+use Rattle.std.proofs.Common.{rules, ◌∙◌}
 use Rattle.std.proofs.lemmas.List.Sorted.{All-permutation, answers_always}
 use Rattle.rp_store.specs.Kept.{IsSound}
 use Rattle.rp_native.specs.OrderSteps.{goes_first}

@@ -1,4 +1,4 @@
-use Rattle.std.proofs.Common.{◌≡◌, ◌∷◌, ◌++◌, [], List, ℕ, length, ap, arith, subst, sym, ◌∙◌}
+use Rattle.std.proofs.Common.{◌≡◌, ◌∷◌, ◌++◌, [], List, length, ap, arith, subst, sym, ◌∙◌}
 use Rattle.std.specs.List.{All}
 use Rattle.std.specs.Vec.Iter.{into_iter_items}
 use Rattle.std.proofs.lemmas.List.Elements.{All-head, All-push, All-tail, All-weaker}
@@ -7,6 +7,7 @@ use Rattle.rp_base.specs.declared.value.Value.TheVariants as value
 use Rattle.rp_store.specs.Heap.{Owned}
 use Rattle.rp_store.specs.Kept.{AreSound, IsSound}
 use Rattle.rp_store.specs.Object as object
+use Rattle.rp_store.proofs.CallerLemmas.{KeepsCounters-trans}
 use Rattle.rp_store.proofs.Shapes.{IsSound-last}
 use Rattle.rp_native.specs.TableView.{rows_of}
 use Rattle.rp_native.proofs.TableRows.{Gains-tuples, Row, next-place, one-yielded, references-more, tuples-more}
@@ -57,4 +58,5 @@ loop-row-preserved c =
           (All-push (IsSound new.heap) at.tuples.items (value.Ref c.in_ok-at.at) (c.add.ensures.shape.all_sound at.tuples.items at.invariant.4) last),
       All-weaker (AreSound at.store.heap) (AreSound new.heap) c.add.ensures.shape.all_sound (rows_of rest)
           (All-tail (AreSound at.store.heap) x.items (rows_of rest) (subst (λ (l : List Row). All (AreSound at.store.heap) (rows_of l)) steps at.invariant.5)),
+      KeepsCounters-trans old at.store new at.invariant.6 c.add.ensures.counters,
     )

@@ -1,6 +1,7 @@
 use Rattle.std.proofs.Common.{◌≡◌, ◌++◌, length}
 use Rattle.std.specs.List.{All}
 use Rattle.std.specs.Vec.Iter.{into_iter_items, into_iter_len}
+use Rattle.rp_store.specs.Counters.{KeepsCounters}
 use Rattle.rp_store.specs.Kept.{AreSound}
 use Rattle.rp_native.specs.Tables.{references, with_tuples}
 use Rattle.rp_native.specs.TableView.{rows_of}
@@ -14,3 +15,4 @@ invariant-loop-row l = (l.yielded ++ into_iter_items l.row-iterator ≡ into_ite
     × (l.tuples.items ≡ references (length l.initial.store.heap) (length l.yielded))
     × AreSound l.store.heap l.tuples.items
     × All (AreSound l.store.heap) (rows_of (into_iter_items l.row-iterator))
+    × KeepsCounters l.initial.store l.store

@@ -1,4 +1,4 @@
-use Rattle.std.proofs.Common.{◌≡◌, ◌+◌, ◌*◌, length, arith, ap, sym, ◌∙◌}
+use Rattle.std.proofs.Common.{◌≡◌, ◌+◌, ◌*◌, length, arith}
 use Rattle.std.proofs.lemmas.List.{length-map}
 use Rattle.rp_native.specs.TableView.{rows_of}
 use Rattle.rp_native.proofs.TableRows.{Row, cells-exact, cells-over, table-given, table-stops}

@@ -1,9 +1,7 @@
-use Rattle.std.proofs.Common.{◌≡◌, ◌∷◌, List, length, ap, arith, subst, sym, ◌∙◌}
+use Rattle.std.proofs.Common.{◌≡◌, ◌∷◌, length, ap, arith, ◌∙◌}
 use Rattle.std.specs.Vec.Iter.{into_iter_items}
-use Rattle.rp_base.specs.declared.value.Value.{Value}
-use Rattle.rp_native.specs.Tables.{numbered}
 use Rattle.rp_native.specs.TableView.{rows_of}
-use Rattle.rp_native.proofs.TableRows.{all-yielded, nothing-left, numbered-more, one-yielded}
+use Rattle.rp_native.proofs.TableRows.{numbered-more, one-yielded}
 use Rattle.rp_native.proofs.tables.numbered.Goals as goal
 
 pub loop-value-preserved : goal.loop-value-preserved

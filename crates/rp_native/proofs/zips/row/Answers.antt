@@ -6,6 +6,7 @@ use Rattle.std.proofs.lemmas.List.Elements.{All-push, All-set}
 use Rattle.rp_base.specs.declared.value.Value.{Value}
 use Rattle.rp_store.specs.Heap.{Owned}
 use Rattle.rp_store.specs.Kept.{AreSound, IsSound}
+use Rattle.rp_store.proofs.CallerLemmas.{KeepsCounters-trans}
 use Rattle.rp_ops.specs.Outcome.{state_of}
 use Rattle.rp_ops.specs.Walk.{Cursor, IsWalkHeld}
 use Rattle.rp_native.specs.Zips.{row}
@@ -38,4 +39,5 @@ loop-walk-preserved c =
       omega arith,
       subst (λ (vs : List Value). AreSound heap vs) (sym c.in_ok-put.ensures)
           (All-push (IsSound heap) at.row.items v (subst (λ (heap : List Owned). AreSound heap at.row.items) (sym same) at.invariant.4) c.in_ok-value.ensures.sound),
+      KeepsCounters-trans c.args.store.now at.store c.element.new.store at.invariant.5 c.in_ok-value.ensures.counters,
     )

@@ -1,5 +1,6 @@
 use Rattle.std.proofs.Common.{◌≡◌, ℕ, length, take, drop}
 use Rattle.std.specs.List.{All}
+use Rattle.rp_store.specs.Counters.{KeepsCounters}
 use Rattle.rp_store.specs.Kept.{AreSound}
 use Rattle.rp_ops.specs.Outcome.{state_of}
 use Rattle.rp_ops.specs.Walk.{IsWalkHeld}
@@ -15,3 +16,4 @@ invariant-loop-walk l = ((steps : ℕ) → row l.initial.walks (state_of l.initi
     × All (IsWalkHeld l.store.heap) l.walks
     × (length l.row.items ≡ l.walk-index)
     × AreSound l.store.heap l.row.items
+    × KeepsCounters l.initial.store l.store

@@ -1,9 +1,10 @@
-use Rattle.std.proofs.Common.{◌≡◌, ◌+◌, ◌-◌, suc, List, length, arith, subst, sym, ◌∙◌}
+use Rattle.std.proofs.Common.{◌≡◌, ◌+◌, ◌-◌, List, length, arith, subst, sym, ◌∙◌}
 use Rattle.std.specs.List.{All}
 use Rattle.std.proofs.lemmas.List.Elements.{All-push}
 use Rattle.rp_base.specs.declared.value.Value.{Value}
 use Rattle.rp_store.specs.Heap.{Owned}
 use Rattle.rp_store.specs.Kept.{AreSound}
+use Rattle.rp_store.proofs.CallerLemmas.{KeepsCounters-trans}
 use Rattle.rp_ops.specs.Outcome.{state_of}
 use Rattle.rp_native.specs.TableView.{rows_of}
 use Rattle.rp_native.specs.Zips.{rows}
@@ -40,4 +41,5 @@ loop-preserved c =
       subst (λ (rows : List (List Value)). All (AreSound heap) rows) (sym put)
           (All-push (AreSound heap) done row (subst (λ (heap : List Owned). All (AreSound heap) done) (sym same) at.invariant.5) c.in_ok-row.ensures.sound),
       omega (c.in_ok-row.ensures.fewer, at.invariant.6, arith),
+      KeepsCounters-trans c.args.store.now at.store c.next_row.new.store at.invariant.7 c.in_ok-row.ensures.counters,
     )

@@ -1,6 +1,7 @@
 use Rattle.std.proofs.Common.{◌≡◌, ◌-◌, ◌≤◌, List, length}
 use Rattle.std.specs.List.{All}
 use Rattle.rp_base.specs.declared.value.Value.{Value}
+use Rattle.rp_store.specs.Counters.{KeepsCounters}
 use Rattle.rp_store.specs.Kept.{AreSound}
 use Rattle.rp_ops.specs.Outcome.{state_of}
 use Rattle.rp_ops.specs.Walk.{IsWalkHeld}
@@ -19,3 +20,4 @@ invariant-loop l = (rows l.count l.initial.walks (state_of l.initial.store l.ini
     × All (λ (row : List Value). length row ≡ length l.initial.walks) (rows_of l.rows.items)
     × All (AreSound l.store.heap) (rows_of l.rows.items)
     × (l.meter.left ≤ l.initial.meter.left)
+    × KeepsCounters l.initial.store l.store

@@ -1,14 +1,15 @@
-use Rattle.std.proofs.Common.{◌+◌, arith, ℕ, List, ◌∷◌, ◌≡◌, true, false, Err, chars, drop, map, reverse, refl, sym, ap, ◌∙◌, subst}
+use Rattle.std.proofs.Common.{[], ◌+◌, arith, ℕ, List, ◌∷◌, ◌≡◌, true, false, Err, chars, drop, map, reverse, refl, sym, ap, ◌∙◌, subst}
 use Rattle.std.specs.Option.{option_copied}
 use Rattle.rp_base.specs.declared.value.Oid.{Oid}
 use Rattle.rp_base.specs.declared.value.Rock.{Rock}
 use Rattle.rp_base.specs.declared.value.Value.{Value}
 use Rattle.rp_store.specs.declared.key.Key.{Key}
 use Rattle.rp_store.specs.Object.{content_of}
+use Rattle.rp_store.proofs.CallerLemmas.{KeepsCounters-trans}
 use Rattle.rp_ops.specs.Outcome.{Meets, Outcome, State, gives}
 use Rattle.rp_show.specs.Show.{content_shown, enclosed, is_among, object_shown, printed, separated, shown}
 use Rattle.rp_show.specs.Shown.{shown_inside}
-use Rattle.rp_show.specs.ShowView.{Item, Writes, added, closing, element_item, entry_item, item_of, inner, items, moment, named_text, object_within, opening, turn}
+use Rattle.rp_show.specs.ShowView.{Item, Writes, added, cells_of, closing, element_item, entry_item, item_of, inner, items, moment, named_text, object_within, opening, turn}
 use Rattle.rp_show.proofs.Marks.{chars-closing, chars-cut, chars-opening}
 use Rattle.rp_show.proofs.Lines.{Prints-as, enclosed-first, enclosed-on, enclosed-second, first_of_rest, stops}
 use Rattle.rp_show.proofs.Turns.{among-reverse, container-deep, container-parts, content-named, object-none, object-some, rest-on, rest-stops, shown-prox, shown-ref, shown-rock, turn-gap_stops, turn-key_stops, turn-on, turn-step_stops}
@@ -25,7 +26,7 @@ show_value-returns-in-Rock-clause-plain t c =
     let s = moment heap c.args.page.now.printer.purse n in
     Prints-as c.print_rock.result c.print_rock.new.self c.args.page.now.printer heap n n (printed (shown_inside c.in-Rock.rock)) (shown names c.args.left outer c.args.value.now)
     (ap (λ (v : Value). shown names c.args.left outer v s) c.in-Rock.is ∙ shown-rock names c.args.left outer c.in-Rock.rock s)
-    (c.print_rock.ensures heap n)
+    (c.print_rock.ensures.plain heap n)
 
 pub show_value-returns-in-Ref-clause-plain : goal.show_value-returns-in-Ref-clause-plain
 show_value-returns-in-Ref-clause-plain t c =
@@ -78,7 +79,7 @@ show_content-returns-then-is_among-clause-plain t c =
     let among : is_among (reverse xs) c.args.at ≡ true = among-reverse xs c.args.at ∙ ap (λ (l : List Oid). is_among l c.args.at) (sym c.as_slice.ensures.value) ∙ sym c.is_among.ensures ∙ c.if-is_among.true in
     Prints-as c.print.result c.print.new.self c.args.page.now.printer heap n n (printed (chars c.cut_text.result.now)) (object_within c.args.names.now c.args.left (reverse xs) c.args.at (content_of c.args.object.now))
     (rw among (ap (λ (x : List ℕ). printed x s) (sym (ap chars c.cut_text.ensures ∙ chars-cut (content_of c.args.object.now)))))
-    (c.print.ensures heap n)
+    (c.print.ensures.plain heap n)
 
 pub show_content-returns-then-is_container-clause-plain : goal.show_content-returns-then-is_container-clause-plain
 show_content-returns-then-is_container-clause-plain t c =
@@ -105,7 +106,7 @@ show_content-returns-clause-plain t c =
     Prints-as c.print_named.result c.print_named.new.printer c.args.page.now.printer heap n n (printed (named_text names heap content))
     (object_within names c.args.left (reverse xs) c.args.at content)
     (rw among (content-named names (inner names c.args.left (c.args.at ∷ reverse xs)) content s (sym c.is_container.ensures ∙ c.if-is_container.false)))
-    (c.print_named.ensures n)
+    (c.print_named.ensures.plain n)
 
 -- ---- containers
 
@@ -146,7 +147,7 @@ show_enclosed-returns-in_err-print-clause-plain t c =
     let inside = separated (item_of c.args.names.now c.args.left (reverse c.args.page.now.outer.items)) (items content) in
     stops c.from_residual.result f c.print.new.self.line end (added line (enclosed (opening content) (closing content) inside s)) c.from_residual.ensures.1
     (enclosed-first f line (opening content) (closing content) inside end s
-    (subst (λ (x : List ℕ). Meets {A = List ℕ} (Err f) end (added line (printed x s))) (ap chars c.opening.ensures ∙ chars-opening (content_of c.args.object.now)) (c.in_err-print.ensures heap n)))
+    (subst (λ (x : List ℕ). Meets {A = List ℕ} (Err f) end (added line (printed x s))) (ap chars c.opening.ensures ∙ chars-opening (content_of c.args.object.now)) (c.in_err-print.ensures.plain heap n)))
 
 pub show_enclosed-returns-in_err-show_items-clause-plain : goal.show_enclosed-returns-in_err-show_items-clause-plain
 show_enclosed-returns-in_err-show_items-clause-plain t c =
@@ -160,7 +161,7 @@ show_enclosed-returns-in_err-show_items-clause-plain t c =
     let inside = separated (item_of c.args.names.now c.args.left (reverse c.args.page.now.outer.items)) (items content) in
     stops c.from_residual-in_err-show_items.result f c.show_items.new.page.printer.line end (added line (enclosed (opening content) (closing content) inside s)) c.from_residual-in_err-show_items.ensures.1
     (subst (λ (x : List ℕ). Meets {A = List ℕ} (Err f) end (added line (enclosed x (closing content) inside s))) (ap chars c.opening.ensures ∙ chars-opening (content_of c.args.object.now))
-    (enclosed-second f line c.print.new.self.line (chars c.opening.result.now) (closing content) inside s (moment heap c.print.new.self.purse n) end (c.in_ok-print.ensures heap n) c.in_err-show_items.ensures.plain))
+    (enclosed-second f line c.print.new.self.line (chars c.opening.result.now) (closing content) inside s (moment heap c.print.new.self.purse n) end (c.in_ok-print.ensures.plain heap n) c.in_err-show_items.ensures.plain))
 
 pub show_enclosed-returns-clause-plain : goal.show_enclosed-returns-clause-plain
 show_enclosed-returns-clause-plain t c =
@@ -175,8 +176,8 @@ show_enclosed-returns-clause-plain t c =
     (sym (ap (λ (x : List ℕ). added line (enclosed x (closing content) inside s)) (sym (ap chars c.opening.ensures ∙ chars-opening (content_of c.args.object.now)))
     ∙ ap (λ (x : List ℕ). added line (enclosed (chars c.opening.result.now) x inside s)) (sym (ap chars c.closing.ensures ∙ chars-closing (content_of c.args.object.now)))
     ∙ enclosed-on line c.print.new.self.line c.show_items.new.page.printer.line (chars c.opening.result.now) (chars c.closing.result.now) inside s (moment heap c.print.new.self.purse n)
-    (moment heap c.show_items.new.page.printer.purse m) (c.in_ok-print.ensures heap n) c.in_ok-show_items.ensures.plain))
-    (c.print-2.ensures heap m)
+    (moment heap c.show_items.new.page.printer.purse m) (c.in_ok-print.ensures.plain heap n) c.in_ok-show_items.ensures.plain))
+    (c.print-2.ensures.plain heap m)
 
 -- ---- items
 
@@ -189,7 +190,7 @@ show_item-returns-in_err-separate-clause-plain t c =
     let line = c.args.page.now.printer.line in
     let f = c.in_err-separate.field-0.0 in
     stops c.from_residual.result f c.separate.new.self.line (moment heap c.separate.new.self.purse n) _ c.from_residual.ensures.1
-    (turn-gap_stops heap show c.args.first n item line c.separate.new.self.line c.args.page.now.printer.purse c.separate.new.self.purse f (c.in_err-separate.ensures heap n))
+    (turn-gap_stops heap show c.args.first n item line c.separate.new.self.line c.args.page.now.printer.purse c.separate.new.self.purse f (c.in_err-separate.ensures.plain heap n))
 
 pub show_item-returns-in_err-step-clause-plain : goal.show_item-returns-in_err-step-clause-plain
 show_item-returns-in_err-step-clause-plain t c =
@@ -203,7 +204,7 @@ show_item-returns-in_err-step-clause-plain t c =
     let whole = added line (turn (item_of c.args.names.now c.args.left (reverse c.args.page.now.outer.items)) c.args.first item (moment heap purse n)) in
     stops c.from_residual-in_err-step.result f c.separate.new.self.line (moment heap c.separate.new.self.purse c.step.new.meter.left) whole c.from_residual-in_err-step.ensures.1
     (subst (λ (k : ℕ). Meets {A = List ℕ} (Err f) (moment heap c.separate.new.self.purse k) whole) (sym (ap (λ x. x.left) c.in_err-step.ensures.same))
-    (turn-step_stops heap show c.args.first n item line c.separate.new.self.line purse c.separate.new.self.purse f (c.in_ok-separate.ensures heap n) c.in_err-step.ensures.stopped c.in_err-step.ensures.none))
+    (turn-step_stops heap show c.args.first n item line c.separate.new.self.line purse c.separate.new.self.purse f (c.in_ok-separate.ensures.plain heap n) c.in_err-step.ensures.stopped c.in_err-step.ensures.none))
 
 pub show_item-returns-in_err-print_key-clause-plain : goal.show_item-returns-in_err-print_key-clause-plain
 show_item-returns-in_err-print_key-clause-plain t c =
@@ -215,8 +216,8 @@ show_item-returns-in_err-print_key-clause-plain t c =
     let line = c.args.page.now.printer.line in
     let f = c.in_err-print_key.field-0.0 in
     stops c.from_residual-in_err-print_key.result f c.print_key.new.self.line (moment heap c.print_key.new.self.purse m) _ c.from_residual-in_err-print_key.ensures.1
-    (turn-key_stops heap show c.args.first n item line c.separate.new.self.line c.args.page.now.printer.purse c.separate.new.self.purse f m c.print_key.new.self.purse (c.in_ok-separate.ensures heap n) c.in_ok-step.ensures.taken
-    (c.in_err-print_key.ensures heap m))
+    (turn-key_stops heap show c.args.first n item line c.separate.new.self.line c.args.page.now.printer.purse c.separate.new.self.purse f m c.print_key.new.self.purse (c.in_ok-separate.ensures.plain heap n) c.in_ok-step.ensures.taken
+    (c.in_err-print_key.ensures.plain heap m))
 
 pub show_item-returns-clause-plain : goal.show_item-returns-clause-plain
 show_item-returns-clause-plain t c =
@@ -228,7 +229,7 @@ show_item-returns-clause-plain t c =
     let line = c.args.page.now.printer.line in
     subst (λ (o : Outcome (List ℕ)). Writes c.show_value.result c.show_value.new.page.printer.line (moment heap c.show_value.new.page.printer.purse c.show_value.new.meter.left) o)
     (sym (turn-on heap show c.args.first n item line c.separate.new.self.line c.args.page.now.printer.purse c.separate.new.self.purse m c.print_key.new.self.line c.print_key.new.self.purse
-    (c.in_ok-separate.ensures heap n) c.in_ok-step.ensures.taken (c.in_ok-print_key.ensures heap m)))
+    (c.in_ok-separate.ensures.plain heap n) c.in_ok-step.ensures.taken (c.in_ok-print_key.ensures.plain heap m)))
     c.show_value.ensures.plain
 
 -- ---- loops
@@ -252,6 +253,8 @@ show_elements-loop-element-preserved t c =
           (subst (λ (outer : List Oid). added line (turn (item_of names c.args.left (reverse outer)) l.first (element_item x) s) ≡ gives after end) l.invariant.outer c.in_ok-show_item.ensures.plain);
       fewer = omega (arith, c.show_item.ensures.fewer, l.invariant.fewer);
       outer = c.in_ok-show_item.ensures.outer ∙ l.invariant.outer;
+      counters = KeepsCounters-trans (cells_of [] c.args.page.now.printer.purse) (cells_of [] l.page.printer.purse) (cells_of [] c.show_item.new.page.printer.purse)
+          l.invariant.counters c.show_item.ensures.counters;
     }
 
 pub show_elements-returns-in_err-show_item-clause-plain : goal.show_elements-returns-in_err-show_item-clause-plain
@@ -290,6 +293,8 @@ show_entries-loop-key-preserved t c =
           (subst (λ (outer : List Oid). added line (turn (item_of names c.args.left (reverse outer)) l.first (entry_item e) s) ≡ gives after end) l.invariant.outer c.in_ok-show_item.ensures.plain);
       fewer = omega (arith, c.show_item.ensures.fewer, l.invariant.fewer);
       outer = c.in_ok-show_item.ensures.outer ∙ l.invariant.outer;
+      counters = KeepsCounters-trans (cells_of [] c.args.page.now.printer.purse) (cells_of [] l.page.printer.purse) (cells_of [] c.show_item.new.page.printer.purse)
+          l.invariant.counters c.show_item.ensures.counters;
     }
 
 pub show_entries-returns-in_err-show_item-clause-plain : goal.show_entries-returns-in_err-show_item-clause-plain

@@ -1,6 +1,6 @@
 use Rattle.std.proofs.Common.{◌≡◌, ◌≤◌, ◌+◌, ◌*◌, drop, length, map, reverse}
 use Rattle.rp_show.specs.Show.{separated}
-use Rattle.rp_show.specs.ShowView.{added, element_item, entry_item, item_of, moment, rest}
+use Rattle.rp_show.specs.ShowView.{KeepsRoom, added, element_item, entry_item, item_of, moment, rest}
 use Rattle.rp_show.proofs.showing.+show.Given as goal
 
 -- ---- each call goes down in depth, or in rank at the same depth
@@ -41,6 +41,7 @@ invariant-show_elements-loop-element l =
           ≡ added l.page.printer.line (rest one l.first (map element_item (drop l.element-index l.elements)) (moment l.store.heap l.page.printer.purse l.meter.left));
       fewer : l.meter.left ≤ l.initial.meter.left;
       outer : l.page.outer.items ≡ l.initial.page.outer.items;
+      counters : KeepsRoom l.initial.page.printer.purse l.page.printer.purse;
     }
 
 abbrev pub invariant-show_entries-loop-key : goal.invariant-show_entries-loop-key
@@ -51,6 +52,7 @@ invariant-show_entries-loop-key l =
           ≡ added l.page.printer.line (rest one l.first (map entry_item l.walk) (moment l.store.heap l.page.printer.purse l.meter.left));
       fewer : l.meter.left ≤ l.initial.meter.left;
       outer : l.page.outer.items ≡ l.initial.page.outer.items;
+      counters : KeepsRoom l.initial.page.printer.purse l.page.printer.purse;
     }
 
 abbrev pub decreases-show_entries-loop-key : goal.decreases-show_entries-loop-key

@@ -5,6 +5,7 @@ use Rattle.rp_ops.specs.Depth.{deepest}
 use Rattle.rp_ops.specs.Outcome.{Meets, Outcome, gives, state_of}
 use Rattle.rp_show.specs.Show.{object_shown}
 use Rattle.rp_show.specs.ShowView.{inner, moment}
+use Rattle.rp_show.proofs.Counted.{KeepsCounters-settled}
 use Rattle.rp_show.proofs.Lines.{alone, text_stops}
 use Rattle.rp_show.proofs.showing.show_at.Goals as goal
 
@@ -37,3 +38,18 @@ returns-clause-plain c =
     ∙ c.in_ok-shown.ensures.plain
     ∙ ap (λ (t : List ℕ). gives t (moment heap c.show_object-shown.new.page.printer.purse left)) (sym c.in_ok-into_text.ensures)
     ∙ ap (λ (x : Cells). gives c.in_ok-into_text.field-0 (state_of x left)) (sym c.settle.ensures)
+
+pub returns-in_err-shown-clause-counters : goal.returns-in_err-shown-clause-counters
+returns-in_err-shown-clause-counters c =
+    KeepsCounters-settled c.args.store.now c.settle.new.store c.args.store.now.heap c.new-page.result.printer.purse c.show_object-shown.new.page.printer.purse
+    c.new-page.ensures.purse c.show_object-shown.ensures.counters c.settle.ensures
+
+pub returns-in_err-into_text-clause-counters : goal.returns-in_err-into_text-clause-counters
+returns-in_err-into_text-clause-counters c =
+    KeepsCounters-settled c.args.store.now c.settle.new.store c.args.store.now.heap c.new-page.result.printer.purse c.show_object-shown.new.page.printer.purse
+    c.new-page.ensures.purse c.show_object-shown.ensures.counters c.settle.ensures
+
+pub returns-clause-counters : goal.returns-clause-counters
+returns-clause-counters c =
+    KeepsCounters-settled c.args.store.now c.settle.new.store c.args.store.now.heap c.new-page.result.printer.purse c.show_object-shown.new.page.printer.purse
+    c.new-page.ensures.purse c.show_object-shown.ensures.counters c.settle.ensures

@@ -24,7 +24,7 @@ returns-clause-answers c names r =
     let look = λ (name : Name). ap (lookup (is_name name)) c.into_places.ensures ∙ made.places name ∙ ap (λ cs. lookup (is_name name) (class_places cs)) c.classes.ensures.value in
     let rows = c.in_ok-rows.rows.items in
     let right = λ (all : AllEnd (plan_of d places)). subst (λ (p : Plan). HasAllRows p rows) plan (c.in_ok-rows.ensures.all (subst AllEnd (sym plan) all)) in
-    answers-as names d r places rows look (λ name q e. places-within d.classes (is_name name) q (sym (look name) ∙ e)) right
+    answers-as names d r places rows look (λ name q e. places-within d.classes (is_name name) q (sym (look name) ∙ e)) right c.in_ok-places.places c.in_ok-places.ensures
 
 pub returns-clause-declared : goal.returns-clause-declared
 returns-clause-declared c =
@@ -36,4 +36,4 @@ returns-clause-declared c =
     let permissions = made.permissions ∙ c.permissions.ensures in
     let plan : c.in_ok-plan.plan ≡ plan_of d c.into_places.result = λ k. record { classes = classes k; places = sym c.into_places.ensures k; permissions = permissions k } in
     let all = subst (λ (p : Plan). HaveRowsWithin (length p.permissions) rows) plan (c.in_ok-rows.ensures.within (subst AreClassesWithin (sym plan) declared)) in
-    rows-within (length d.permissions) (record { places = c.into_places.result; rows = rows }) all.each
+    rows-within (length d.permissions) (record { places = c.in_ok-places.places; rows = rows }) all.each

@@ -1,6 +1,7 @@
 use Rattle.std.proofs.Common.{◌∙◌, ap, sym}
 use Rattle.rp_base.specs.declared.meter.Meter.{Meter}
 use Rattle.rp_store.specs.Store.{Cells}
+use Rattle.rp_store.proofs.CallerLemmas.{KeepsCounters-same, KeepsCounters-trans}
 use Rattle.rp_ops.specs.Standing.{cursor_of}
 use Rattle.rp_ops.specs.contracts.cursor.Cursor.{the_view}
 use Rattle.rp_ops.proofs.Cursors.{carried, sound-carried}
@@ -26,4 +27,11 @@ returns-clause-sound c = elim c.match-self.branch [
   | in-Keys w ↦ sound-carried _ _ _ _ w.result-is (ap (λ (s : Cells). s.heap) w.store-is ∙ w.key_after.ensures.same) (w.key_after.ensures.sound c.args.store.now.heap)
   | in-Letters w ↦
       sound-carried _ _ _ _ w.result-is (ap (λ (s : Cells). s.heap) w.store-is ∙ w.next_letter.ensures.same) (w.next_letter.ensures.sound c.args.store.now.heap)
+]
+
+pub returns-clause-counters : goal.returns-clause-counters
+returns-clause-counters c = elim c.match-self.branch [
+  | in-Elements w ↦ KeepsCounters-same c.args.store.now _ w.store-is
+  | in-Keys w ↦ KeepsCounters-trans c.args.store.now w.key_after.new.store _ w.key_after.ensures.counters (KeepsCounters-same _ _ w.store-is)
+  | in-Letters w ↦ KeepsCounters-trans c.args.store.now w.next_letter.new.store _ w.next_letter.ensures.counters (KeepsCounters-same _ _ w.store-is)
 ]

@@ -1,0 +1,167 @@
+//! The marks of statements and of whole trees, set in place.
+
+ghost use Rattle.std.specs.Prelude.{◌≡◌, IfOk, IsOk, map};
+ghost use Rattle.rp_tree.specs.ExpressionViews.{view_place};
+ghost use Rattle.rp_tree.specs.StatementViews as v;
+ghost use Rattle.rp_tree.specs.Maps as m;
+ghost use Rattle.rp_tree.specs.Marks.{table, guard, HasNoGuards, Rewrites};
+ghost use Rattle.rp_tree.specs.Guarded.{Guarded};
+ghost use Rattle.rp_tree.specs.Augmented.{AugmentsNames};
+
+use crate::marks::{mark_expr, mark_option, mark_params, mark_place, mark_target, mark_walk};
+use crate::table::inplace_guard;
+use rp_base::Memory;
+use rp_tree::{Branch, Except, Guard, Place, Stmt, StmtForm, Tree};
+
+/// The tree with each form that is to be guarded marked by its guard, and nothing else changed (RestrictedPython,
+/// transformer). Where each augmented assignment in it is one to a name, as the policy of scripts asks, no form is left
+/// without its guard. The tree has no marks yet.
+///
+/// # Errors
+/// None: the marks are set in place, so that no memory is asked for.
+pub fn transform(mut tree: Tree) -> Result<Tree, Memory>
+    requires { HasNoGuards (v.view_tree tree) }
+    ensures made { IsOk result }
+    ensures marked { IfOk result (λ made. v.view_tree made ≡ guard (v.view_tree tree)) }
+    ensures rewritten { IfOk result (λ made. Rewrites (v.view_tree tree) (v.view_tree made)) }
+    ensures guarded { AugmentsNames (v.view_tree tree) → IfOk result (λ made. Guarded (v.view_tree made)) }
+{
+    mark_block(&mut tree.body);
+    Ok(tree)
+}
+
+fn mark_places(places: &mut [Place])
+    ensures { map view_place places.new ≡ map (m.map_place table) (map view_place places.old) }
+{
+    'places: for place in places.iter_mut() {
+        mark_place(place);
+    }
+}
+
+#[cycle(mark_stmt)]
+fn mark_stmt(stmt: &mut Stmt)
+    ensures { v.view_stmt stmt.new ≡ m.map_stmt table (v.view_stmt stmt.old) }
+{
+    mark_stmt_form(&mut stmt.form);
+}
+
+#[cycle(mark_stmt)]
+#[tactic(auto, using(rp_tree::proofs::StatementEquations::variants, crate::proofs::Lists::names_kept))]
+fn mark_stmt_form(form: &mut StmtForm)
+    ensures { v.view_stmt_form form.new ≡ m.map_stmt_form table (v.view_stmt_form form.old) }
+{
+    match form {
+        StmtForm::Expr(expr) => mark_expr(expr),
+        StmtForm::Assign(places, value) => {
+            mark_places(places);
+            mark_expr(value);
+        }
+        StmtForm::Unpack(target, value, guard) => {
+            mark_target(target);
+            mark_expr(value);
+            *guard = Some(Guard::Unpack);
+        }
+        StmtForm::Aug {
+            place,
+            value,
+            guard,
+            ..
+        } => {
+            *guard = inplace_guard(place);
+            mark_place(place);
+            mark_expr(value);
+        }
+        StmtForm::Del(places) => mark_places(places),
+        StmtForm::Pass => {}
+        StmtForm::Break => {}
+        StmtForm::Continue => {}
+        StmtForm::Return(value) => mark_option(value),
+        StmtForm::Raise(value) => mark_option(value),
+        StmtForm::Assert(test, message) => {
+            mark_expr(test);
+            mark_option(message);
+        }
+        StmtForm::Global(_) => {}
+        StmtForm::If(branches, other) => {
+            mark_branches(branches);
+            if let Some(stmts) = other {
+                mark_block(stmts);
+            }
+        }
+        StmtForm::While(test, body) => {
+            mark_expr(test);
+            mark_block(body);
+        }
+        StmtForm::For(walk, body) => {
+            mark_walk(walk);
+            mark_block(body);
+        }
+        StmtForm::Try {
+            body,
+            handlers,
+            other,
+            last,
+        } => {
+            mark_block(body);
+            mark_handlers(handlers);
+            if let Some(stmts) = other {
+                mark_block(stmts);
+            }
+            if let Some(stmts) = last {
+                mark_block(stmts);
+            }
+        }
+        StmtForm::Def(_block, _name, params, body) => {
+            mark_params(params);
+            mark_block(body);
+        }
+        StmtForm::Class(_name, body) => mark_block(body),
+    }
+}
+
+#[cycle(mark_stmt)]
+fn mark_block(stmts: &mut [Stmt])
+    ensures { v.view_stmts stmts.new ≡ m.map_stmts table (v.view_stmts stmts.old) }
+{
+    'stmts: for stmt in stmts.iter_mut() {
+        mark_stmt(stmt);
+    }
+}
+
+#[cycle(mark_stmt)]
+fn mark_branch(branch: &mut Branch)
+    ensures test { (v.view_branch branch.new).0 ≡ m.map_expr table (v.view_branch branch.old).0 }
+    ensures body { (v.view_branch branch.new).1 ≡ m.map_stmts table (v.view_branch branch.old).1 }
+{
+    mark_expr(&mut branch.test);
+    mark_block(&mut branch.body);
+}
+
+#[cycle(mark_stmt)]
+fn mark_branches(branches: &mut [Branch])
+    ensures { v.branches_of (map v.view_branch branches.new)
+        ≡ m.map_branches table (v.branches_of (map v.view_branch branches.old)) }
+{
+    'branches: for branch in branches.iter_mut() {
+        mark_branch(branch);
+    }
+}
+
+#[cycle(mark_stmt)]
+#[tactic(auto, using(crate::proofs::Lists::names_option_kept))]
+fn mark_handler(handler: &mut Except)
+    ensures { v.view_except handler.new ≡ m.map_except table (v.view_except handler.old) }
+{
+    mark_option(&mut handler.kind);
+    mark_block(&mut handler.body);
+}
+
+#[cycle(mark_stmt)]
+fn mark_handlers(handlers: &mut [Except])
+    ensures { v.excepts_of (map v.view_except handlers.new)
+        ≡ m.map_excepts table (v.excepts_of (map v.view_except handlers.old)) }
+{
+    'handlers: for handler in handlers.iter_mut() {
+        mark_handler(handler);
+    }
+}

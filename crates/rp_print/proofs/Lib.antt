@@ -1,0 +1,7 @@
+mod Ascii
+pub mod Counts
+pub mod Pages
+mod PrintedExamples
+mod Renamed
+mod Written
+mod WrittenLines

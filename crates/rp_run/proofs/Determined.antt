@@ -1,0 +1,212 @@
+-- What is told to words and contents is one text, with one status.
+use Rattle.std.proofs.Common.{◌≡◌, ◌≢◌, refl, sym, ap, ◌∙◌, ℕ, true, false, List, ◌++◌, ◌∷◌, codes, Option, Some, None, Result, Ok, Err, arith}
+use Rattle.std.specs.Prelude.{MatchOption}
+use Rattle.std.specs.List.{flat_map}
+use Rattle.toml.specs.Data.{Members}
+use Rattle.toml.specs.Parse.{parse_document}
+use Rattle.rp_decl.specs.Declares.{Declares, IsDocument, IsNoDocument, IsRefused, Refusal, declares, newest}
+use Rattle.rp_decl.specs.Records.{Declarations}
+use Rattle.rp_decl.specs.Word.{is_among}
+use Rattle.rp_first.specs.Refusal.{refusal_line as script_refusal_line}
+use Rattle.rp_interact.specs.Why.{first_unknown}
+use Rattle.rp_load.specs.Load.{Fault, fault_line, fault_of}
+use Rattle.rp_policy.specs.Offences.{offences, offence_text}
+use Rattle.rp_program.specs.Fault.{fault_text}
+use Rattle.rp_program.proofs.Programs.{one_program}
+use Rattle.rp_run.specs.Command.{Command, run, script, may, Run, May, command_of, usage}
+use Rattle.rp_run.specs.Output.{end_status, may_status, may_text, refusal_line, session_block}
+use Rattle.rp_run.specs.Told as w
+use Rattle.rp_run.specs.Told.{IsAdmitted, IsRead, IsShort, IsTooLong, Told, ToldCommand, ToldMay, ToldRun, ToldScript, ToldUnread, played, said_to, too_long_line, undeclared_line, unknown_line}
+use Rattle.rp_tree.specs.StatementTrees.{Stmts}
+use Rattle.rp_run.proofs.OneScript.{no_refused_script, no_faulty_program, one_fault, one_script, one_script_refusal}
+
+some_one : {A : Type 0} (o : Option A) (a b : A) → o ≡ Some a → o ≡ Some b → a ≡ b
+some_one {A = A} o a b e f = let same : ◌≡◌ {A = Option A} (Some a) (Some b) = sym e ∙ f in cc
+
+some_none : {A : Type 0} (o : Option A) (a : A) → o ≡ Some a → o ≡ None → ⊥
+some_none {A = A} o a e f = let same : ◌≡◌ {A = Option A} (Some a) None = sym e ∙ f in cc
+
+-- ---- declarations
+
+one_document : (bytes : List ℕ) (m n : Members) → IsDocument bytes m → IsDocument bytes n → m ≡ n
+one_document bytes m n a b = some_one (parse_document bytes) m n a.1 b.1
+
+one_result : (r : Result Declarations Refusal) (d e : Declarations) → r ≡ Ok d → r ≡ Ok e → d ≡ e
+one_result r d e x y = let same : ◌≡◌ {A = Result Declarations Refusal} (Ok d) (Ok e) = sym x ∙ y in cc
+
+one_error : (r : Result Declarations Refusal) (d e : Refusal) → r ≡ Err d → r ≡ Err e → d ≡ e
+one_error r d e x y = let same : ◌≡◌ {A = Result Declarations Refusal} (Err d) (Err e) = sym x ∙ y in cc
+
+not_both : (r : Result Declarations Refusal) (d : Declarations) (e : Refusal) → r ≡ Ok d → r ≡ Err e → ⊥
+not_both r d e x y = let same : ◌≡◌ {A = Result Declarations Refusal} (Ok d) (Err e) = sym x ∙ y in cc
+
+-- bytes declare one thing
+one_reading : (bytes : List ℕ) (d e : Declarations) → Declares bytes d → Declares bytes e → d ≡ e
+one_reading bytes d e x y =
+    one_result (declares newest y.0) d e (ap (declares newest) (sym (one_document bytes x.0 y.0 x.1.0 y.1.0)) ∙ x.1.1) y.1.1
+
+one_refusal : (bytes : List ℕ) (d e : Refusal) → IsRefused bytes d → IsRefused bytes e → d ≡ e
+one_refusal bytes d e x y =
+    one_error (declares newest y.0) d e (ap (declares newest) (sym (one_document bytes x.0 y.0 x.1.0 y.1.0)) ∙ x.1.1) y.1.1
+
+read_or_refused : (bytes : List ℕ) (d : Declarations) (e : Refusal) → Declares bytes d → IsRefused bytes e → ⊥
+read_or_refused bytes d e x y =
+    not_both (declares newest y.0) d e (ap (declares newest) (sym (one_document bytes x.0 y.0 x.1.0 y.1.0)) ∙ x.1.1) y.1.1
+
+no_document : (bytes : List ℕ) (m : Members) → IsNoDocument bytes → IsDocument bytes m → ⊥
+no_document bytes m none is = some_none (parse_document bytes) m is.1 (none is.0)
+
+short_or_long : (bytes : List ℕ) → IsTooLong bytes → IsShort bytes → ⊥
+short_or_long bytes long short = omega arith
+
+-- the same text and the same status
+abbrev Same : List ℕ → ℕ → List ℕ → ℕ → Type 0
+Same a s b t = (a ≡ b) × (s ≡ t)
+
+unread-once : (path bytes : List ℕ) (a : List ℕ) (s : ℕ) (b : List ℕ) (t : ℕ) → ToldUnread path bytes a s → ToldUnread path bytes b t → Same a s b t
+unread-once path bytes a s b t (w.ToldUnread.long l x y) (w.ToldUnread.long m z w) = (x ∙ sym z, y ∙ sym w)
+unread-once path bytes a s b t (w.ToldUnread.long l x y) (w.ToldUnread.not_toml h n z w) = absurd (short_or_long bytes l h)
+unread-once path bytes a s b t (w.ToldUnread.long l x y) (w.ToldUnread.refused h r i z w) = absurd (short_or_long bytes l h)
+unread-once path bytes a s b t (w.ToldUnread.not_toml h n x y) (w.ToldUnread.long l z w) = absurd (short_or_long bytes l h)
+unread-once path bytes a s b t (w.ToldUnread.not_toml h n x y) (w.ToldUnread.not_toml k m z w) = (x ∙ sym z, y ∙ sym w)
+unread-once path bytes a s b t (w.ToldUnread.not_toml h n x y) (w.ToldUnread.refused k r i z w) = absurd (no_document bytes i.0 n i.1.0)
+unread-once path bytes a s b t (w.ToldUnread.refused h r i x y) (w.ToldUnread.long l z w) = absurd (short_or_long bytes l h)
+unread-once path bytes a s b t (w.ToldUnread.refused h r i x y) (w.ToldUnread.not_toml k n z w) = absurd (no_document bytes i.0 n i.1.0)
+unread-once path bytes a s b t (w.ToldUnread.refused h r i x y) (w.ToldUnread.refused k q j z w) = (x ∙ ap refusal_line (one_refusal bytes r q i j) ∙ sym z, y ∙ sym w)
+
+unread-or-read : (path bytes : List ℕ) (a : List ℕ) (s : ℕ) (d : Declarations) → ToldUnread path bytes a s → IsRead bytes d → ⊥
+unread-or-read path bytes a s d (w.ToldUnread.long l x y) read = short_or_long bytes l read.short
+unread-or-read path bytes a s d (w.ToldUnread.not_toml h n x y) read = no_document bytes read.declares.0 n read.declares.1.0
+unread-or-read path bytes a s d (w.ToldUnread.refused h r i x y) read = read_or_refused bytes d r read.declares i
+
+one_read : (bytes : List ℕ) (d e : Declarations) → IsRead bytes d → IsRead bytes e → d ≡ e
+one_read bytes d e x y = one_reading bytes d e x.declares y.declares
+
+-- ---- permissions
+
+may-once : (m : May) (of : List ℕ → List ℕ) (a : List ℕ) (s : ℕ) (b : List ℕ) (t : ℕ) → ToldMay m of a s → ToldMay m of b t → Same a s b t
+may-once m of a s b t (w.ToldMay.unread u) (w.ToldMay.unread v) = unread-once m.declarations (of m.declarations) a s b t u v
+may-once m of a s b t (w.ToldMay.unread u) (w.ToldMay.unknown_principal e q j g z w) = absurd (unread-or-read m.declarations (of m.declarations) a s e u q)
+may-once m of a s b t (w.ToldMay.unread u) (w.ToldMay.undeclared e q g k z w) = absurd (unread-or-read m.declarations (of m.declarations) a s e u q)
+may-once m of a s b t (w.ToldMay.unread u) (w.ToldMay.told e q g k z w) = absurd (unread-or-read m.declarations (of m.declarations) a s e u q)
+may-once m of a s b t (w.ToldMay.unknown_principal d r i f x y) (w.ToldMay.unread v) = absurd (unread-or-read m.declarations (of m.declarations) b t d v r)
+may-once m of a s b t (w.ToldMay.unknown_principal d r i f x y) (w.ToldMay.unknown_principal e q j g z w) =
+    let same = one_read (of m.declarations) d e r q in
+    let id = some_one (first_unknown e m.ids) i j (ap (λ d. first_unknown d m.ids) (sym same) ∙ f) g in
+    (x ∙ ap unknown_line id ∙ sym z, y ∙ sym w)
+may-once m of a s b t (w.ToldMay.unknown_principal d r i f x y) (w.ToldMay.undeclared e q g k z w) =
+    absurd (some_none (first_unknown e m.ids) i (ap (λ d. first_unknown d m.ids) (sym (one_read (of m.declarations) d e r q)) ∙ f) g)
+may-once m of a s b t (w.ToldMay.unknown_principal d r i f x y) (w.ToldMay.told e q g k z w) =
+    absurd (some_none (first_unknown e m.ids) i (ap (λ d. first_unknown d m.ids) (sym (one_read (of m.declarations) d e r q)) ∙ f) g)
+may-once m of a s b t (w.ToldMay.undeclared d r f h x y) (w.ToldMay.unread v) = absurd (unread-or-read m.declarations (of m.declarations) b t d v r)
+may-once m of a s b t (w.ToldMay.undeclared d r f h x y) (w.ToldMay.unknown_principal e q j g z w) =
+    absurd (some_none (first_unknown d m.ids) j (ap (λ d. first_unknown d m.ids) (one_read (of m.declarations) d e r q) ∙ g) f)
+may-once m of a s b t (w.ToldMay.undeclared d r f h x y) (w.ToldMay.undeclared e q g k z w) = (x ∙ sym z, y ∙ sym w)
+may-once m of a s b t (w.ToldMay.undeclared d r f h x y) (w.ToldMay.told e q g k z w) =
+    absurd (let both : false ≡ true = sym h ∙ ap (λ d. is_among d.permissions m.permission) (one_read (of m.declarations) d e r q) ∙ k in cc)
+may-once m of a s b t (w.ToldMay.told d r f h x y) (w.ToldMay.unread v) = absurd (unread-or-read m.declarations (of m.declarations) b t d v r)
+may-once m of a s b t (w.ToldMay.told d r f h x y) (w.ToldMay.unknown_principal e q j g z w) =
+    absurd (some_none (first_unknown d m.ids) j (ap (λ d. first_unknown d m.ids) (one_read (of m.declarations) d e r q) ∙ g) f)
+may-once m of a s b t (w.ToldMay.told d r f h x y) (w.ToldMay.undeclared e q g k z w) =
+    absurd (let both : true ≡ false = sym h ∙ ap (λ d. is_among d.permissions m.permission) (one_read (of m.declarations) d e r q) ∙ k in cc)
+may-once m of a s b t (w.ToldMay.told d r f h x y) (w.ToldMay.told e q g k z w) =
+    let same = one_read (of m.declarations) d e r q in
+    (x ∙ ap (λ d. may_text d m.ids m.permission) same ∙ sym z, y ∙ ap (λ d. may_status d m.ids m.permission) same ∙ sym w)
+
+-- ---- a script that is checked or shown
+
+script-once : (says : Stmts (List ℕ) → List ℕ) (path bytes : List ℕ) (a : List ℕ) (s : ℕ) (b : List ℕ) (t : ℕ) → ToldScript says path bytes a s → ToldScript says path bytes b t → Same a s b t
+script-once says path bytes a s b t (w.ToldScript.long l x y) (w.ToldScript.long m z w) = (x ∙ sym z, y ∙ sym w)
+script-once says path bytes a s b t (w.ToldScript.long l x y) (w.ToldScript.no_program h g j z w) = absurd (short_or_long bytes l h)
+script-once says path bytes a s b t (w.ToldScript.long l x y) (w.ToldScript.offends h u p o z w) = absurd (short_or_long bytes l h)
+script-once says path bytes a s b t (w.ToldScript.long l x y) (w.ToldScript.accepted h u p o z w) = absurd (short_or_long bytes l h)
+script-once says path bytes a s b t (w.ToldScript.no_program h f i x y) (w.ToldScript.long l z w) = absurd (short_or_long bytes l h)
+script-once says path bytes a s b t (w.ToldScript.no_program h f i x y) (w.ToldScript.no_program k g j z w) = (x ∙ ap (λ f. fault_text f ++ codes "\n") (one_fault bytes f g i j) ∙ sym z, y ∙ sym w)
+script-once says path bytes a s b t (w.ToldScript.no_program h f i x y) (w.ToldScript.offends k u p o z w) = absurd (no_faulty_program bytes u f p i)
+script-once says path bytes a s b t (w.ToldScript.no_program h f i x y) (w.ToldScript.accepted k u p o z w) = absurd (no_faulty_program bytes u f p i)
+script-once says path bytes a s b t (w.ToldScript.offends h v q n x y) (w.ToldScript.long l z w) = absurd (short_or_long bytes l h)
+script-once says path bytes a s b t (w.ToldScript.offends h v q n x y) (w.ToldScript.no_program k g j z w) = absurd (no_faulty_program bytes v g q j)
+script-once says path bytes a s b t (w.ToldScript.offends h v q n x y) (w.ToldScript.offends k u p o z w) =
+    (x ∙ ap (λ tree. flat_map (λ o. offence_text o ++ codes "\n") (offences tree)) (one_program bytes v u q p) ∙ sym z, y ∙ sym w)
+script-once says path bytes a s b t (w.ToldScript.offends h v q n x y) (w.ToldScript.accepted k u p o z w) = absurd (n (ap offences (one_program bytes v u q p) ∙ o))
+script-once says path bytes a s b t (w.ToldScript.accepted h v q n x y) (w.ToldScript.long l z w) = absurd (short_or_long bytes l h)
+script-once says path bytes a s b t (w.ToldScript.accepted h v q n x y) (w.ToldScript.no_program k g j z w) = absurd (no_faulty_program bytes v g q j)
+script-once says path bytes a s b t (w.ToldScript.accepted h v q n x y) (w.ToldScript.offends k u p o z w) = absurd (o (ap offences (one_program bytes u v p q) ∙ n))
+script-once says path bytes a s b t (w.ToldScript.accepted h v q n x y) (w.ToldScript.accepted k u p o z w) = (x ∙ ap says (one_program bytes v u q p) ∙ sym z, y ∙ sym w)
+
+-- ---- a run
+
+-- the declarations of a run are one thing, and what follows from them too
+module _ (r : Run) (of : List ℕ → List ℕ) where
+  one : (d e : Declarations) → IsRead (of r.declarations) d → IsRead (of r.declarations) e → d ≡ e
+  one d e x y = one_read (of r.declarations) d e x y
+
+  runs_or_not : (d e : Declarations) → IsRead (of r.declarations) d → IsRead (of r.declarations) e → (f : Fault) → fault_of d ≡ Some f → fault_of e ≡ None → ⊥
+  runs_or_not d e x y f some none = some_none (fault_of d) f some (ap fault_of (one d e x y) ∙ none)
+
+  known_or_not : (d e : Declarations) → IsRead (of r.declarations) d → IsRead (of r.declarations) e → (id : List ℕ) → first_unknown d r.ids ≡ Some id → first_unknown e r.ids ≡ None → ⊥
+  known_or_not d e x y id some none = some_none (first_unknown d r.ids) id some (ap (λ d. first_unknown d r.ids) (one d e x y) ∙ none)
+
+  unread_or : (a : List ℕ) (s : ℕ) (d : Declarations) → ToldUnread r.declarations (of r.declarations) a s → IsRead (of r.declarations) d → ⊥
+  unread_or a s d u read = unread-or-read r.declarations (of r.declarations) a s d u read
+
+  module _ (a : List ℕ) (s : ℕ) (b : List ℕ) (t : ℕ) where
+    run-once : ToldRun r of a s → ToldRun r of b t → Same a s b t
+    run-once (w.ToldRun.unread u) (w.ToldRun.unread v) = unread-once r.declarations (of r.declarations) a s b t u v
+    run-once (w.ToldRun.unread u) (w.ToldRun.not_run e q g k z w) = absurd (unread_or a s e u q)
+    run-once (w.ToldRun.unread u) (w.ToldRun.unknown_principal e q k j g z w) = absurd (unread_or a s e u q)
+    run-once (w.ToldRun.unread u) (w.ToldRun.long_script e q l z w) = absurd (unread_or a s e u q.read)
+    run-once (w.ToldRun.unread u) (w.ToldRun.script_refused e q h g i z w) = absurd (unread_or a s e u q.read)
+    run-once (w.ToldRun.unread u) (w.ToldRun.ran e q h g i z w) = absurd (unread_or a s e u q.read)
+    run-once (w.ToldRun.not_run d p f h x y) (w.ToldRun.unread v) = absurd (unread_or b t d v p)
+    run-once (w.ToldRun.not_run d p f h x y) (w.ToldRun.not_run e q g k z w) = (x ∙ ap fault_line (some_one (fault_of e) f g (ap fault_of (sym (one d e p q)) ∙ h) k) ∙ sym z, y ∙ sym w)
+    run-once (w.ToldRun.not_run d p f h x y) (w.ToldRun.unknown_principal e q k j g z w) = absurd (runs_or_not d e p q f h k)
+    run-once (w.ToldRun.not_run d p f h x y) (w.ToldRun.long_script e q l z w) = absurd (runs_or_not d e p q.read f h q.runs)
+    run-once (w.ToldRun.not_run d p f h x y) (w.ToldRun.script_refused e q k g i z w) = absurd (runs_or_not d e p q.read f h q.runs)
+    run-once (w.ToldRun.not_run d p f h x y) (w.ToldRun.ran e q k g i z w) = absurd (runs_or_not d e p q.read f h q.runs)
+    run-once (w.ToldRun.unknown_principal d p h i f x y) (w.ToldRun.unread v) = absurd (unread_or b t d v p)
+    run-once (w.ToldRun.unknown_principal d p h i f x y) (w.ToldRun.not_run e q g k z w) = absurd (runs_or_not e d q p g k h)
+    run-once (w.ToldRun.unknown_principal d p h i f x y) (w.ToldRun.unknown_principal e q k j g z w) =
+        (x ∙ ap unknown_line (some_one (first_unknown e r.ids) i j (ap (λ d. first_unknown d r.ids) (sym (one d e p q)) ∙ f) g) ∙ sym z, y ∙ sym w)
+    run-once (w.ToldRun.unknown_principal d p h i f x y) (w.ToldRun.long_script e q l z w) = absurd (known_or_not d e p q.read i f q.known)
+    run-once (w.ToldRun.unknown_principal d p h i f x y) (w.ToldRun.script_refused e q k g j z w) = absurd (known_or_not d e p q.read i f q.known)
+    run-once (w.ToldRun.unknown_principal d p h i f x y) (w.ToldRun.ran e q k g j z w) = absurd (known_or_not d e p q.read i f q.known)
+    run-once (w.ToldRun.long_script d p l x y) (w.ToldRun.unread v) = absurd (unread_or b t d v p.read)
+    run-once (w.ToldRun.long_script d p l x y) (w.ToldRun.not_run e q g k z w) = absurd (runs_or_not e d q p.read g k p.runs)
+    run-once (w.ToldRun.long_script d p l x y) (w.ToldRun.unknown_principal e q k j g z w) = absurd (known_or_not e d q p.read j g p.known)
+    run-once (w.ToldRun.long_script d p l x y) (w.ToldRun.long_script e q m z w) = (x ∙ sym z, y ∙ sym w)
+    run-once (w.ToldRun.long_script d p l x y) (w.ToldRun.script_refused e q k g i z w) = absurd (short_or_long (of r.script) l k)
+    run-once (w.ToldRun.long_script d p l x y) (w.ToldRun.ran e q k g i z w) = absurd (short_or_long (of r.script) l k)
+    run-once (w.ToldRun.script_refused d p h f i x y) (w.ToldRun.unread v) = absurd (unread_or b t d v p.read)
+    run-once (w.ToldRun.script_refused d p h f i x y) (w.ToldRun.not_run e q g k z w) = absurd (runs_or_not e d q p.read g k p.runs)
+    run-once (w.ToldRun.script_refused d p h f i x y) (w.ToldRun.unknown_principal e q k j g z w) = absurd (known_or_not e d q p.read j g p.known)
+    run-once (w.ToldRun.script_refused d p h f i x y) (w.ToldRun.long_script e q l z w) = absurd (short_or_long (of r.script) l h)
+    run-once (w.ToldRun.script_refused d p h f i x y) (w.ToldRun.script_refused e q k g j z w) =
+        (x ∙ ap (λ f. codes "script 1: " ++ script_refusal_line f) (one_script_refusal (of r.script) f g i j) ∙ sym z, y ∙ sym w)
+    run-once (w.ToldRun.script_refused d p h f i x y) (w.ToldRun.ran e q k g j z w) = absurd (no_refused_script (of r.script) g f j i)
+    run-once (w.ToldRun.ran d p h f i x y) (w.ToldRun.unread v) = absurd (unread_or b t d v p.read)
+    run-once (w.ToldRun.ran d p h f i x y) (w.ToldRun.not_run e q g k z w) = absurd (runs_or_not e d q p.read g k p.runs)
+    run-once (w.ToldRun.ran d p h f i x y) (w.ToldRun.unknown_principal e q k j g z w) = absurd (known_or_not e d q p.read j g p.known)
+    run-once (w.ToldRun.ran d p h f i x y) (w.ToldRun.long_script e q l z w) = absurd (short_or_long (of r.script) l h)
+    run-once (w.ToldRun.ran d p h f i x y) (w.ToldRun.script_refused e q k g j z w) = absurd (no_refused_script (of r.script) f g i j)
+    run-once (w.ToldRun.ran d p h f i x y) (w.ToldRun.ran e q k g j z w) =
+        let same = one d e p.read q.read in
+        let source = one_script (of r.script) f g i j in
+        (x ∙ (λ n. session_block 1 r.who (played r (same n) (source n))) ∙ sym z, y ∙ (λ n. end_status (played r (same n) (source n)).answer) ∙ sym w)
+
+-- ---- the program
+
+command-once : (command : Command) (of : List ℕ → List ℕ) (a : List ℕ) (s : ℕ) (b : List ℕ) (t : ℕ) → ToldCommand command of a s → ToldCommand command of b t → Same a s b t
+command-once (run r) of a s b t x y = run-once r of a s b t x y
+command-once (script q path) of a s b t x y = script-once (said_to q) path (of path) a s b t x y
+command-once (may m) of a s b t x y = may-once m of a s b t x y
+
+-- Whatever is told to the same words and contents is the same text, with the same status.
+pub told-once : (words : List (List ℕ)) (contents : List ℕ → List ℕ) (a : List ℕ) (s : ℕ) (b : List ℕ) (t : ℕ)
+    → Told words contents a s → Told words contents b t → (a ≡ b) × (s ≡ t)
+told-once words contents a s b t x y = by (command_of words) x y
+  where
+    by : (o : Option Command) → MatchOption o ((a ≡ usage) × (s ≡ 2)) (λ command. ToldCommand command contents a s)
+        → MatchOption o ((b ≡ usage) × (t ≡ 2)) (λ command. ToldCommand command contents b t) → (a ≡ b) × (s ≡ t)
+    by None x y = (x.0 ∙ sym y.0, x.1 ∙ sym y.1)
+    by (Some command) x y = command-once command contents a s b t x y

@@ -1,0 +1,96 @@
+-- What is told of a script to what is asked about it.
+use Rattle.std.proofs.Common.{◌≡◌, ◌≢◌, ◌++◌, ◌∙◌, ℕ, List, [], ◌∷◌, map, chars, codes, Option, Some, None, Result, Ok, Err, IfOk, OnOk, IfSome, ap, sym, subst, refl}
+use Rattle.std.specs.List.{flat_map}
+use Rattle.rp_base.specs.Names.{word_of}
+use Rattle.rp_base.specs.declared.memory.Memory.{Memory as MemoryFault}
+use Rattle.rp_base.specs.declared.value.Name.{Name}
+use Rattle.rp_script.specs.Refusal.{IsRefused, offence_line, refusal_lines}
+use Rattle.rp_script.specs.declared.refusal.Refusal.{Refusal}
+use Rattle.rp_script.specs.declared.refusal.Refusal.TheVariants as refusal
+use Rattle.rp_policy.specs.Offences.{offence_named, offence_text, offences}
+use Rattle.rp_policy.specs.declared.offence.Offence.{Offence}
+use Rattle.rp_program.specs.declared.fault.ProgramFault.TheVariants as fault
+use Rattle.rp_run.proofs.Sayings.{IsLong, IsWhole}
+use Rattle.rp_program.specs.Program.{IsProgram}
+use Rattle.rp_run.specs.declared.answer.Answer.{Answer}
+use Rattle.rp_compile.specs.Compiled.{Compilation, IsCompiled}
+use Rattle.rp_print.specs.Statements.{printed}
+use Rattle.rp_run.specs.declared.command.Question.TheVariants.{Show}
+use Rattle.rp_tree.specs.StatementViews.{view_tree}
+use Rattle.rp_tree.specs.declared.stmt.Tree.{Tree}
+use Rattle.rp_tree.specs.Maps.{named, names_by}
+use Rattle.rp_tree.specs.Marks.{Rewrites, guard, table}
+use Rattle.rp_tree.specs.StatementTrees.{Stmts}
+use Rattle.rp_tree.proofs.MapLaws.{stmts_after}
+use Rattle.rp_tree.proofs.MarkLaws.{rewritten}
+use Rattle.rp_run.specs.Told as told
+use Rattle.rp_run.specs.Told.{IsShort, ToldScript, too_long_line}
+
+-- what is said to a question about a script
+abbrev pub TellsAsked : (Stmts (List ℕ) → List ℕ) → List ℕ → Option (List ℕ → List ℕ) → List ℕ → ℕ → Type 0
+TellsAsked says path contents text status = IfSome contents (λ of. ToldScript says path (of path) text status)
+
+pub tells_long : (says : Stmts (List ℕ) → List ℕ) (path : List ℕ) (contents : Option (List ℕ → List ℕ)) (text : List ℕ) (status : ℕ)
+    → IsLong contents path → text ≡ too_long_line path → status ≡ 9 → TellsAsked says path contents text status
+tells_long says path None text status long said ended = tt
+tells_long says path (Some of) text status long said ended = told.ToldScript.long long said ended
+
+pub tells_whole : (says : Stmts (List ℕ) → List ℕ) (path bytes : List ℕ) (contents : Option (List ℕ → List ℕ)) (text : List ℕ) (status : ℕ)
+    → IsWhole contents bytes path → ((path : List ℕ) → IsShort bytes → ToldScript says path bytes text status) → TellsAsked says path contents text status
+tells_whole says path bytes None text status whole tells = tt
+tells_whole says path bytes (Some of) text status whole tells =
+    subst (λ file. ToldScript says path file text status) whole.0 (tells path (subst IsShort (sym whole.0) whole.1))
+
+-- the line of an offence whose name is a text
+abbrev offence_told : Offence (List ℕ) → List ℕ
+offence_told o = offence_text o ++ codes "\n"
+
+lines : (words : List (List ℕ)) (found : List (Offence Name)) → flat_map (offence_line words []) found ≡ flat_map offence_told (map (offence_named (word_of words)) found)
+lines words [] = refl
+lines words (o ∷ os) = ap (λ (rest : List ℕ). offence_line words [] o ++ rest) (lines words os)
+
+mapped : {A B : Type 0} (f : A → B) (xs : List A) (ys : List B) → map f xs ≡ ys → xs ≢ [] → ys ≢ []
+mapped f [] ys same some none = some refl
+mapped f (x ∷ xs) ys same some none = absurd (cc)
+
+pub told_uncompiled : (says : Stmts (List ℕ) → List ℕ) (path bytes text : List ℕ) (words : List (List ℕ)) (r : Refusal) (status : ℕ)
+    → IsShort bytes → IsRefused words bytes r → text ≡ refusal_lines words [] r → status ≡ 4 → ToldScript says path bytes text status
+told_uncompiled says path bytes text words (refusal.NotUtf8 n) status short is said ended = told.ToldScript.no_program short (fault.NotUtf8 n) is said ended
+told_uncompiled says path bytes text words (refusal.Token f) status short is said ended = told.ToldScript.no_program short (fault.Token f) is said ended
+told_uncompiled says path bytes text words (refusal.Syntax line) status short is said ended = told.ToldScript.no_program short (fault.Syntax line) is said ended
+told_uncompiled says path bytes text words (refusal.Offences found) status short is said ended =
+    told.ToldScript.offends short is.tree is.program (mapped _ found.items _ is.all is.some)
+    (said ∙ lines words found.items ∙ ap (flat_map offence_told) is.all) ended
+told_uncompiled says path bytes text words refusal.Memory status short is said ended = absurd is
+
+-- what is told of a script that is read
+abbrev TellsScript : (Stmts (List ℕ) → List ℕ) → List ℕ → Result Answer MemoryFault → Type 0
+TellsScript says bytes r = IfOk r (λ a. (path : List ℕ) → IsShort bytes → ToldScript says path bytes a.text a.status.0)
+
+pub tells_accepted : (says : Stmts (List ℕ) → List ℕ) (bytes : List ℕ) (tree : Stmts (List ℕ)) (r : Result Answer MemoryFault)
+    → IfOk r (λ a. (a.text ≡ says tree) × (a.status.0 ≡ 0)) → IsProgram bytes tree → offences tree ≡ [] → TellsScript says bytes r
+tells_accepted says bytes tree (Ok a) said program lawful = λ path short. told.ToldScript.accepted short tree program lawful said.0 said.1
+tells_accepted says bytes tree (Err e) said program lawful = tt
+
+pub tells_unaccepted : (says : Stmts (List ℕ) → List ℕ) (bytes : List ℕ) (words : List (List ℕ)) (why : Refusal) (r : Result Answer MemoryFault) → (why ≢ refusal.Memory → IsRefused words bytes why)
+    → IfOk r (λ a. (a.text ≡ refusal_lines words [] why) × (a.status.0 ≡ 4)) → OnOk r (why ≢ refusal.Memory) → TellsScript says bytes r
+tells_unaccepted says bytes words why (Ok a) refused said other = λ path short. told_uncompiled says path bytes a.text words why a.status.0 short (refused other) said.0 said.1
+tells_unaccepted says bytes words why (Err e) refused said other = tt
+
+-- the tree that runs is printed as the source with its guards
+pub printed_guarded : (words : List (List ℕ)) (source result : Stmts Name) → Rewrites source result
+    → printed (named (word_of words) result) ≡ printed (guard (named (word_of words) source))
+printed_guarded words source result rewrites =
+    ap (λ (tree : Stmts Name). printed (named (word_of words) tree)) (sym (rewritten source result rewrites).1)
+    ∙ ap printed (stmts_after table (names_by (word_of words)) source ∙ sym (stmts_after (names_by (word_of words)) table source))
+
+-- what is told of a script that is shown
+pub tells_shown : (bytes : List ℕ) (words : List (List ℕ)) (c : Compilation) (tree : Tree) (line : List ℕ) (r : Result Answer MemoryFault)
+    → IsProgram bytes (named (word_of words) (view_tree c.source)) → offences (named (word_of words) (view_tree c.source)) ≡ []
+    → IsCompiled c → tree ≡ c.rewritten → chars line ≡ printed (named (word_of words) (view_tree tree))
+    → IfOk r (λ a. (a.text ≡ chars line) × (a.status.0 ≡ 0)) → TellsScript (told.said_to Show) bytes r
+tells_shown bytes words c tree line (Ok a) program lawful kept is text said = λ path short.
+    told.ToldScript.accepted short (named (word_of words) (view_tree c.source)) program lawful
+    (said.0 ∙ text ∙ ap (λ (t : Tree). printed (named (word_of words) (view_tree t))) is
+    ∙ printed_guarded words (view_tree c.source) (view_tree c.rewritten) kept.rewrites) said.1
+tells_shown bytes words c tree line (Err e) program lawful kept is text said = tt

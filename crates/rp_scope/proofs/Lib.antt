@@ -1,0 +1,15 @@
+pub mod Appends
+pub mod BlockForms
+pub mod Elements
+pub mod Examples
+pub mod Finds
+pub mod Forms
+pub mod Laid
+pub mod Listings
+pub mod Lists
+pub mod Nests
+pub mod Runs
+pub mod Sets
+pub mod TableLaws
+pub mod Tellings
+pub mod ToldNumbers

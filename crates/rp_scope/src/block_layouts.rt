@@ -1,0 +1,198 @@
+//! The scopes of the code blocks in statements.
+
+ghost use Rattle.std.specs.Prelude.{◌≡◌, ◌++◌, map, option_map, OnOk};
+ghost use Rattle.rp_tree.specs.ExpressionViews as e;
+ghost use Rattle.rp_tree.specs.StatementViews as v;
+ghost use Rattle.rp_scope.specs.Blocks as b;
+ghost use Rattle.rp_scope.specs.BlockSteps.{branch_blocks};
+ghost use Rattle.rp_scope.specs.Scopes.{telling_scopes};
+
+use crate::expr_layouts::{
+    lay_out_expr, lay_out_params, lay_out_place, lay_out_target, lay_out_walk,
+};
+use crate::layouts::{Layouts, add_function};
+use rp_base::Memory;
+use rp_tree::{Branch, Except, Expr, Place, Stmt, StmtForm, stmts_of};
+use std::alloc::Global;
+
+#[tactic(auto, using(crate::proofs::Appends::appends))]
+fn lay_out_value(
+    alloc: Global,
+    layouts: &mut Layouts,
+    around: usize,
+    value: &Option<Expr>,
+) -> Result<(), Memory>
+    ensures { OnOk result (layouts.new
+        ≡ layouts.old ++ b.option_blocks telling_scopes around (option_map e.view_expr value.now)) }
+{
+    match value {
+        None => Ok(()),
+        Some(expr) => lay_out_expr(alloc, layouts, around, expr),
+    }
+}
+
+#[tactic(auto, using(crate::proofs::Appends::appends))]
+fn lay_out_places(
+    alloc: Global,
+    layouts: &mut Layouts,
+    around: usize,
+    places: &[Place],
+) -> Result<(), Memory>
+    ensures { OnOk result (layouts.new
+        ≡ layouts.old ++ b.places_blocks telling_scopes around (map e.view_place places.now)) }
+{
+    'places: for place in places {
+        lay_out_place(alloc, layouts, around, place)?;
+    }
+    Ok(())
+}
+
+/// Adds the scopes of the code blocks in the statements, which stand in the block with the number `around`.
+#[cycle(lay_out_stmts)]
+#[tactic(auto, using(crate::proofs::Appends::appends))]
+pub fn lay_out_stmts(
+    alloc: Global,
+    layouts: &mut Layouts,
+    around: usize,
+    stmts: &[Stmt],
+) -> Result<(), Memory>
+    ensures { OnOk result (layouts.new
+        ≡ layouts.old ++ b.stmts_blocks telling_scopes around (v.stmts_of (map v.view_stmt stmts.now))) }
+{
+    'stmts: for stmt in stmts {
+        lay_out_stmt_form(alloc, layouts, around, &stmt.form)?;
+    }
+    Ok(())
+}
+
+#[cycle(lay_out_stmts)]
+#[tactic(auto, using(rp_tree::proofs::StatementEquations::variants, crate::proofs::Laid::laid))]
+fn lay_out_stmt_form(
+    alloc: Global,
+    layouts: &mut Layouts,
+    around: usize,
+    form: &StmtForm,
+) -> Result<(), Memory>
+    ensures { OnOk result (layouts.new
+        ≡ layouts.old ++ b.stmt_form_blocks telling_scopes around (v.view_stmt_form form.now)) }
+{
+    match form {
+        StmtForm::Expr(expr) => lay_out_expr(alloc, layouts, around, expr),
+        StmtForm::Assign(places, value) => {
+            lay_out_places(alloc, layouts, around, places)?;
+            lay_out_expr(alloc, layouts, around, value)
+        }
+        StmtForm::Unpack(target, value, _) => {
+            lay_out_target(alloc, layouts, around, target)?;
+            lay_out_expr(alloc, layouts, around, value)
+        }
+        StmtForm::Aug { place, value, .. } => {
+            lay_out_place(alloc, layouts, around, place)?;
+            lay_out_expr(alloc, layouts, around, value)
+        }
+        StmtForm::Del(places) => lay_out_places(alloc, layouts, around, places),
+        StmtForm::Pass => Ok(()),
+        StmtForm::Break => Ok(()),
+        StmtForm::Continue => Ok(()),
+        StmtForm::Return(value) => lay_out_value(alloc, layouts, around, value),
+        StmtForm::Raise(value) => lay_out_value(alloc, layouts, around, value),
+        StmtForm::Assert(test, message) => {
+            lay_out_expr(alloc, layouts, around, test)?;
+            lay_out_value(alloc, layouts, around, message)
+        }
+        StmtForm::Global(_) => Ok(()),
+        StmtForm::If(branches, other) => {
+            lay_out_branches(alloc, layouts, around, branches)?;
+            lay_out_stmts(alloc, layouts, around, stmts_of(other))
+        }
+        StmtForm::While(test, body) => {
+            lay_out_expr(alloc, layouts, around, test)?;
+            lay_out_stmts(alloc, layouts, around, body)
+        }
+        StmtForm::For(walk, body) => {
+            lay_out_walk(alloc, layouts, around, around, walk)?;
+            lay_out_stmts(alloc, layouts, around, body)
+        }
+        StmtForm::Try {
+            body,
+            handlers,
+            other,
+            last,
+        } => {
+            lay_out_stmts(alloc, layouts, around, body)?;
+            lay_out_handlers(alloc, layouts, around, handlers)?;
+            lay_out_stmts(alloc, layouts, around, stmts_of(other))?;
+            lay_out_stmts(alloc, layouts, around, stmts_of(last))
+        }
+        StmtForm::Def(block, _, params, body) => {
+            add_function(alloc, layouts, around, params, body)?;
+            lay_out_params(alloc, layouts, around, params)?;
+            lay_out_stmts(alloc, layouts, block.0, body)
+        }
+        StmtForm::Class(_, body) => lay_out_stmts(alloc, layouts, around, body),
+    }
+}
+
+#[cycle(lay_out_stmts)]
+#[tactic(auto, using(crate::proofs::Appends::appends))]
+fn lay_out_branches(
+    alloc: Global,
+    layouts: &mut Layouts,
+    around: usize,
+    branches: &[Branch],
+) -> Result<(), Memory>
+    ensures { OnOk result (layouts.new
+        ≡ layouts.old ++ b.branches_blocks telling_scopes around (v.branches_of (map v.view_branch branches.now))) }
+{
+    'branches: for branch in branches {
+        lay_out_branch(alloc, layouts, around, branch)?;
+    }
+    Ok(())
+}
+
+#[cycle(lay_out_stmts)]
+#[tactic(auto, using(crate::proofs::Appends::appends))]
+fn lay_out_branch(
+    alloc: Global,
+    layouts: &mut Layouts,
+    around: usize,
+    branch: &Branch,
+) -> Result<(), Memory>
+    ensures { OnOk result (layouts.new
+        ≡ layouts.old ++ branch_blocks telling_scopes around (v.view_branch branch.now)) }
+{
+    lay_out_expr(alloc, layouts, around, &branch.test)?;
+    lay_out_stmts(alloc, layouts, around, &branch.body)
+}
+
+#[cycle(lay_out_stmts)]
+#[tactic(auto, using(crate::proofs::Appends::appends))]
+fn lay_out_handlers(
+    alloc: Global,
+    layouts: &mut Layouts,
+    around: usize,
+    handlers: &[Except],
+) -> Result<(), Memory>
+    ensures { OnOk result (layouts.new
+        ≡ layouts.old ++ b.excepts_blocks telling_scopes around (v.excepts_of (map v.view_except handlers.now))) }
+{
+    'handlers: for handler in handlers {
+        lay_out_handler(alloc, layouts, around, handler)?;
+    }
+    Ok(())
+}
+
+#[cycle(lay_out_stmts)]
+#[tactic(auto, using(crate::proofs::Appends::appends))]
+fn lay_out_handler(
+    alloc: Global,
+    layouts: &mut Layouts,
+    around: usize,
+    handler: &Except,
+) -> Result<(), Memory>
+    ensures { OnOk result (layouts.new
+        ≡ layouts.old ++ b.except_blocks telling_scopes around (v.view_except handler.now)) }
+{
+    lay_out_value(alloc, layouts, around, &handler.kind)?;
+    lay_out_stmts(alloc, layouts, around, &handler.body)
+}

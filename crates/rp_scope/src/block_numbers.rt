@@ -1,0 +1,219 @@
+//! The numbers of the code blocks in statements and in whole trees, set in place.
+
+ghost use Rattle.std.specs.Prelude.{◌≡◌, ◌<◌, ◌+◌, ◌^◌, map, option_map};
+ghost use Rattle.rp_tree.specs.ExpressionViews as e;
+ghost use Rattle.rp_tree.specs.StatementViews as v;
+ghost use Rattle.rp_tree.specs.Maps as m;
+ghost use Rattle.rp_tree.specs.Maps.{no_blocks, without_blocks};
+ghost use Rattle.rp_scope.specs.Numbers as n;
+ghost use Rattle.rp_scope.specs.Numbers.{block_numbers, block_count, IsNumbered};
+ghost use Rattle.rp_scope.specs.NumberSteps.{past, renumbered, branch_numbers};
+
+use crate::numbers::{
+    following, number_expr, number_option, number_params, number_place, number_target, number_walk,
+};
+use rp_tree::{Block, Branch, Except, Expr, Place, Stmt, StmtForm, Tree};
+
+/// Numbers the code blocks of the tree: 1, 2, 3 and so on in the order of their first tokens. The program itself is
+/// block 0; a `def`, a `lambda` and a comprehension are code blocks, a class is none (Python Language Reference,
+/// Structure of a program).
+///
+/// Only these numbers change. No memory is asked for. A tree cannot have 2^64 code blocks in this machine's memory; if
+/// it had, all from there on would have the greatest number.
+pub fn number(tree: &mut Tree)
+    ensures kept { without_blocks (v.view_tree tree.new) ≡ without_blocks (v.view_tree tree.old) }
+    ensures numbers { block_numbers (v.view_tree tree.new) ≡ renumbered 1 (block_numbers (v.view_tree tree.old)) }
+    ensures numbered { block_count (v.view_tree tree.old) + 1 < 2 ^ 64
+        → IsNumbered (v.view_tree tree.old) (v.view_tree tree.new) }
+{
+    let _next = number_block(&mut tree.body, 1);
+}
+
+fn number_value(value: &mut Option<Expr>, first: usize) -> usize
+    ensures kept { option_map (m.map_expr no_blocks) (option_map e.view_expr value.new)
+        ≡ option_map (m.map_expr no_blocks) (option_map e.view_expr value.old) }
+    ensures numbers { n.option_numbers (option_map e.view_expr value.new)
+        ≡ renumbered first (n.option_numbers (option_map e.view_expr value.old)) }
+    ensures next { result ≡ past (n.option_numbers (option_map e.view_expr value.old)) first }
+{
+    match value {
+        None => first,
+        Some(expr) => number_expr(expr, first),
+    }
+}
+
+fn number_places(places: &mut [Place], first: usize) -> usize
+    ensures kept { map (m.map_place no_blocks) (map e.view_place places.new)
+        ≡ map (m.map_place no_blocks) (map e.view_place places.old) }
+    ensures numbers { n.places_numbers (map e.view_place places.new)
+        ≡ renumbered first (n.places_numbers (map e.view_place places.old)) }
+    ensures next { result ≡ past (n.places_numbers (map e.view_place places.old)) first }
+{
+    let mut next = first;
+    'places: for place in places.iter_mut() {
+        next = number_place(place, next);
+    }
+    next
+}
+
+#[cycle(number_stmt)]
+fn number_stmt(stmt: &mut Stmt, first: usize) -> usize
+    ensures kept { m.map_stmt no_blocks (v.view_stmt stmt.new) ≡ m.map_stmt no_blocks (v.view_stmt stmt.old) }
+    ensures numbers { n.stmt_numbers (v.view_stmt stmt.new) ≡ renumbered first (n.stmt_numbers (v.view_stmt stmt.old)) }
+    ensures next { result ≡ past (n.stmt_numbers (v.view_stmt stmt.old)) first }
+{
+    number_stmt_form(&mut stmt.form, first)
+}
+
+#[cycle(number_stmt)]
+#[tactic(auto, using(rp_tree::proofs::StatementEquations::variants, crate::proofs::Runs::append_runs))]
+fn number_stmt_form(form: &mut StmtForm, first: usize) -> usize
+    ensures kept { m.map_stmt_form no_blocks (v.view_stmt_form form.new)
+        ≡ m.map_stmt_form no_blocks (v.view_stmt_form form.old) }
+    ensures numbers { n.stmt_form_numbers (v.view_stmt_form form.new)
+        ≡ renumbered first (n.stmt_form_numbers (v.view_stmt_form form.old)) }
+    ensures next { result ≡ past (n.stmt_form_numbers (v.view_stmt_form form.old)) first }
+{
+    match form {
+        StmtForm::Expr(expr) => number_expr(expr, first),
+        StmtForm::Assign(places, value) => {
+            let value_first = number_places(places, first);
+            number_expr(value, value_first)
+        }
+        StmtForm::Unpack(target, value, _) => {
+            let next = number_target(target, first);
+            number_expr(value, next)
+        }
+        StmtForm::Aug { place, value, .. } => {
+            let next = number_place(place, first);
+            number_expr(value, next)
+        }
+        StmtForm::Del(places) => number_places(places, first),
+        StmtForm::Pass => first,
+        StmtForm::Break => first,
+        StmtForm::Continue => first,
+        StmtForm::Return(value) => number_value(value, first),
+        StmtForm::Raise(value) => number_value(value, first),
+        StmtForm::Assert(test, message) => {
+            let next = number_expr(test, first);
+            number_value(message, next)
+        }
+        StmtForm::Global(_) => first,
+        StmtForm::If(branches, other) => {
+            let other_first = number_branches(branches, first);
+            match other {
+                None => other_first,
+                Some(stmts) => number_block(stmts, other_first),
+            }
+        }
+        StmtForm::While(test, body) => {
+            let repeated_first = number_expr(test, first);
+            number_block(body, repeated_first)
+        }
+        StmtForm::For(walk, body) => {
+            let walked_first = number_walk(walk, first);
+            number_block(body, walked_first)
+        }
+        StmtForm::Try {
+            body,
+            handlers,
+            other,
+            last,
+        } => {
+            let handlers_first = number_block(body, first);
+            let other_first = number_handlers(handlers, handlers_first);
+            match other {
+                None => match last {
+                    None => other_first,
+                    Some(finals) => number_block(finals, other_first),
+                },
+                Some(stmts) => {
+                    let finals_first = number_block(stmts, other_first);
+                    match last {
+                        None => finals_first,
+                        Some(finals) => number_block(finals, finals_first),
+                    }
+                }
+            }
+        }
+        StmtForm::Def(block, _named, params, body) => {
+            *block = Block(first);
+            let params_first = following(first);
+            let body_first = number_params(params, params_first);
+            number_block(body, body_first)
+        }
+        StmtForm::Class(_named, body) => number_block(body, first),
+    }
+}
+
+#[cycle(number_stmt)]
+fn number_block(stmts: &mut [Stmt], first: usize) -> usize
+    ensures kept { m.map_stmts no_blocks (v.view_stmts stmts.new) ≡ m.map_stmts no_blocks (v.view_stmts stmts.old) }
+    ensures numbers { block_numbers (v.view_stmts stmts.new)
+        ≡ renumbered first (block_numbers (v.view_stmts stmts.old)) }
+    ensures next { result ≡ past (block_numbers (v.view_stmts stmts.old)) first }
+{
+    let mut next = first;
+    'stmts: for stmt in stmts.iter_mut() {
+        next = number_stmt(stmt, next);
+    }
+    next
+}
+
+#[cycle(number_stmt)]
+#[tactic(auto, using(crate::proofs::Runs::append_runs))]
+fn number_branch(branch: &mut Branch, first: usize) -> usize
+    ensures test { m.map_expr no_blocks (v.view_branch branch.new).0
+        ≡ m.map_expr no_blocks (v.view_branch branch.old).0 }
+    ensures body { m.map_stmts no_blocks (v.view_branch branch.new).1
+        ≡ m.map_stmts no_blocks (v.view_branch branch.old).1 }
+    ensures numbers { branch_numbers (v.view_branch branch.new)
+        ≡ renumbered first (branch_numbers (v.view_branch branch.old)) }
+    ensures next { result ≡ past (branch_numbers (v.view_branch branch.old)) first }
+{
+    let body_first = number_expr(&mut branch.test, first);
+    number_block(&mut branch.body, body_first)
+}
+
+#[cycle(number_stmt)]
+fn number_branches(branches: &mut [Branch], first: usize) -> usize
+    ensures kept { m.map_branches no_blocks (v.branches_of (map v.view_branch branches.new))
+        ≡ m.map_branches no_blocks (v.branches_of (map v.view_branch branches.old)) }
+    ensures numbers { n.branches_numbers (v.branches_of (map v.view_branch branches.new))
+        ≡ renumbered first (n.branches_numbers (v.branches_of (map v.view_branch branches.old))) }
+    ensures next { result ≡ past (n.branches_numbers (v.branches_of (map v.view_branch branches.old))) first }
+{
+    let mut next = first;
+    'branches: for branch in branches.iter_mut() {
+        next = number_branch(branch, next);
+    }
+    next
+}
+
+#[cycle(number_stmt)]
+#[tactic(auto, using(crate::proofs::Runs::append_runs))]
+fn number_handler(handler: &mut Except, first: usize) -> usize
+    ensures kept { m.map_except no_blocks (v.view_except handler.new)
+        ≡ m.map_except no_blocks (v.view_except handler.old) }
+    ensures numbers { n.except_numbers (v.view_except handler.new)
+        ≡ renumbered first (n.except_numbers (v.view_except handler.old)) }
+    ensures next { result ≡ past (n.except_numbers (v.view_except handler.old)) first }
+{
+    let body_first = number_value(&mut handler.kind, first);
+    number_block(&mut handler.body, body_first)
+}
+
+#[cycle(number_stmt)]
+fn number_handlers(handlers: &mut [Except], first: usize) -> usize
+    ensures kept { m.map_excepts no_blocks (v.excepts_of (map v.view_except handlers.new))
+        ≡ m.map_excepts no_blocks (v.excepts_of (map v.view_except handlers.old)) }
+    ensures numbers { n.excepts_numbers (v.excepts_of (map v.view_except handlers.new))
+        ≡ renumbered first (n.excepts_numbers (v.excepts_of (map v.view_except handlers.old))) }
+    ensures next { result ≡ past (n.excepts_numbers (v.excepts_of (map v.view_except handlers.old))) first }
+{
+    let mut next = first;
+    'handlers: for handler in handlers.iter_mut() {
+        next = number_handler(handler, next);
+    }
+    next
+}

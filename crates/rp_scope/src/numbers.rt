@@ -1,0 +1,364 @@
+//! The numbers of the code blocks in expressions and in their parts, set in place.
+
+ghost use Rattle.std.specs.Prelude.{◌≡◌, map, option_map};
+ghost use Rattle.rp_tree.specs.ExpressionViews as v;
+ghost use Rattle.rp_tree.specs.Maps as m;
+ghost use Rattle.rp_tree.specs.Maps.{no_blocks};
+ghost use Rattle.rp_scope.specs.Numbers as n;
+ghost use Rattle.rp_scope.specs.NumberSteps.{after, past, renumbered, slice_numbers};
+
+use rp_base::BinOp;
+use rp_tree::{
+    Arg, Block, Clause, Expr, ExprForm, Named, Params, Place, Slice, Target, Test, Trailer, Walk,
+};
+
+/// The number after a number; the greatest one that 64 bits have stays.
+#[tactic(auto, unfolding(crate::specs::NumberSteps::after))]
+pub fn following(number: usize) -> usize
+    ensures { result ≡ after number }
+{
+    number.saturating_add(1)
+}
+
+/// Numbers the code blocks in the expression from `first` on, in the order of their first tokens. Answers the number
+/// that follows.
+#[cycle(number_expr)]
+pub fn number_expr(expr: &mut Expr, first: usize) -> usize
+    ensures kept { m.map_expr no_blocks (v.view_expr expr.new) ≡ m.map_expr no_blocks (v.view_expr expr.old) }
+    ensures numbers { n.expr_numbers (v.view_expr expr.new) ≡ renumbered first (n.expr_numbers (v.view_expr expr.old)) }
+    ensures next { result ≡ past (n.expr_numbers (v.view_expr expr.old)) first }
+{
+    number_form(&mut expr.form, first)
+}
+
+#[cycle(number_expr)]
+#[tactic(auto, using(rp_tree::proofs::ExpressionEquations::variants, crate::proofs::Runs::append_runs))]
+fn number_form(form: &mut ExprForm, first: usize) -> usize
+    ensures kept { m.map_form no_blocks (v.view_form form.new) ≡ m.map_form no_blocks (v.view_form form.old) }
+    ensures numbers { n.form_numbers (v.view_form form.new) ≡ renumbered first (n.form_numbers (v.view_form form.old)) }
+    ensures next { result ≡ past (n.form_numbers (v.view_form form.old)) first }
+{
+    match form {
+        ExprForm::Name(_) => first,
+        ExprForm::Int(_) => first,
+        ExprForm::Text(_) => first,
+        ExprForm::Const(_) => first,
+        ExprForm::Tuple(exprs) => number_exprs(exprs, first),
+        ExprForm::List(exprs) => number_exprs(exprs, first),
+        ExprForm::Dict(pairs) => number_pairs(pairs, first),
+        ExprForm::ListOf(block, element, clauses) => {
+            *block = Block(first);
+            let element_first = following(first);
+            let clauses_first = number_expr(element, element_first);
+            number_clauses(clauses, clauses_first)
+        }
+        ExprForm::DictOf(block, key, value, clauses) => {
+            *block = Block(first);
+            let key_first = following(first);
+            let value_first = number_expr(key, key_first);
+            let walks_first = number_expr(value, value_first);
+            number_clauses(clauses, walks_first)
+        }
+        ExprForm::Lambda(block, params, body) => {
+            *block = Block(first);
+            let params_first = following(first);
+            let body_first = number_params(params, params_first);
+            number_expr(body, body_first)
+        }
+        ExprForm::Cond { test, yes, no } => {
+            let next = number_expr(yes, first);
+            let next = number_expr(test, next);
+            number_expr(no, next)
+        }
+        ExprForm::Or(exprs) => number_exprs(exprs, first),
+        ExprForm::And(exprs) => number_exprs(exprs, first),
+        ExprForm::Not(operand) => number_expr(operand, first),
+        ExprForm::Compare(operand, tests) => {
+            let tests_first = number_expr(operand, first);
+            number_tests(tests, tests_first)
+        }
+        ExprForm::Chain(operand, operands) => {
+            let operands_first = number_expr(operand, first);
+            number_operands(operands, operands_first)
+        }
+        ExprForm::Unary(_, operand) => number_expr(operand, first),
+        ExprForm::Power(base, exponent) => {
+            let next = number_expr(base, first);
+            number_expr(exponent, next)
+        }
+        ExprForm::Primary(atom, trailers) => {
+            let trailers_first = number_expr(atom, first);
+            number_trailers(trailers, trailers_first)
+        }
+    }
+}
+
+/// Numbers the code blocks in an expression that may be missing.
+#[cycle(number_expr)]
+pub fn number_option(expr: &mut Option<Expr>, first: usize) -> usize
+    ensures kept { m.map_maybe no_blocks (v.maybe_of (option_map v.view_expr expr.new))
+        ≡ m.map_maybe no_blocks (v.maybe_of (option_map v.view_expr expr.old)) }
+    ensures numbers { n.maybe_numbers (v.maybe_of (option_map v.view_expr expr.new))
+        ≡ renumbered first (n.maybe_numbers (v.maybe_of (option_map v.view_expr expr.old))) }
+    ensures next { result ≡ past (n.maybe_numbers (v.maybe_of (option_map v.view_expr expr.old))) first }
+{
+    match expr {
+        None => first,
+        Some(expr) => number_expr(expr, first),
+    }
+}
+
+#[cycle(number_expr)]
+fn number_exprs(exprs: &mut [Expr], first: usize) -> usize
+    ensures kept { m.map_exprs no_blocks (v.exprs_of (map v.view_expr exprs.new))
+        ≡ m.map_exprs no_blocks (v.exprs_of (map v.view_expr exprs.old)) }
+    ensures numbers { n.exprs_numbers (v.exprs_of (map v.view_expr exprs.new))
+        ≡ renumbered first (n.exprs_numbers (v.exprs_of (map v.view_expr exprs.old))) }
+    ensures next { result ≡ past (n.exprs_numbers (v.exprs_of (map v.view_expr exprs.old))) first }
+{
+    let mut next = first;
+    'exprs: for expr in exprs.iter_mut() {
+        next = number_expr(expr, next);
+    }
+    next
+}
+
+#[cycle(number_expr)]
+fn number_pairs(pairs: &mut [(Expr, Expr)], first: usize) -> usize
+    ensures kept { m.map_pairs no_blocks (v.pairs_of (map v.view_pair pairs.new))
+        ≡ m.map_pairs no_blocks (v.pairs_of (map v.view_pair pairs.old)) }
+    ensures numbers { n.pairs_numbers (v.pairs_of (map v.view_pair pairs.new))
+        ≡ renumbered first (n.pairs_numbers (v.pairs_of (map v.view_pair pairs.old))) }
+    ensures next { result ≡ past (n.pairs_numbers (v.pairs_of (map v.view_pair pairs.old))) first }
+{
+    let mut next = first;
+    'pairs: for pair in pairs.iter_mut() {
+        let between = number_expr(&mut pair.0, next);
+        next = number_expr(&mut pair.1, between);
+    }
+    next
+}
+
+#[cycle(number_expr)]
+fn number_tests(tests: &mut [(Test, Expr)], first: usize) -> usize
+    ensures kept { m.map_tests no_blocks (v.tests_of (map v.view_test tests.new))
+        ≡ m.map_tests no_blocks (v.tests_of (map v.view_test tests.old)) }
+    ensures numbers { n.tests_numbers (v.tests_of (map v.view_test tests.new))
+        ≡ renumbered first (n.tests_numbers (v.tests_of (map v.view_test tests.old))) }
+    ensures next { result ≡ past (n.tests_numbers (v.tests_of (map v.view_test tests.old))) first }
+{
+    let mut next = first;
+    'tests: for test in tests.iter_mut() {
+        next = number_expr(&mut test.1, next);
+    }
+    next
+}
+
+#[cycle(number_expr)]
+fn number_operands(operands: &mut [(BinOp, Expr)], first: usize) -> usize
+    ensures kept { m.map_ops no_blocks (v.ops_of (map v.view_op operands.new))
+        ≡ m.map_ops no_blocks (v.ops_of (map v.view_op operands.old)) }
+    ensures numbers { n.ops_numbers (v.ops_of (map v.view_op operands.new))
+        ≡ renumbered first (n.ops_numbers (v.ops_of (map v.view_op operands.old))) }
+    ensures next { result ≡ past (n.ops_numbers (v.ops_of (map v.view_op operands.old))) first }
+{
+    let mut next = first;
+    'operands: for operand in operands.iter_mut() {
+        next = number_expr(&mut operand.1, next);
+    }
+    next
+}
+
+#[cycle(number_expr)]
+fn number_clauses(clauses: &mut [Clause], first: usize) -> usize
+    ensures kept { m.map_clauses no_blocks (v.clauses_of (map v.view_clause clauses.new))
+        ≡ m.map_clauses no_blocks (v.clauses_of (map v.view_clause clauses.old)) }
+    ensures numbers { n.clauses_numbers (v.clauses_of (map v.view_clause clauses.new))
+        ≡ renumbered first (n.clauses_numbers (v.clauses_of (map v.view_clause clauses.old))) }
+    ensures next { result ≡ past (n.clauses_numbers (v.clauses_of (map v.view_clause clauses.old))) first }
+{
+    let mut next = first;
+    'clauses: for clause in clauses.iter_mut() {
+        next = number_clause(clause, next);
+    }
+    next
+}
+
+#[cycle(number_expr)]
+#[tactic(auto, using(crate::proofs::Runs::append_runs))]
+fn number_clause(clause: &mut Clause, first: usize) -> usize
+    ensures kept { m.map_clause no_blocks (v.view_clause clause.new)
+        ≡ m.map_clause no_blocks (v.view_clause clause.old) }
+    ensures numbers { n.clause_numbers (v.view_clause clause.new)
+        ≡ renumbered first (n.clause_numbers (v.view_clause clause.old)) }
+    ensures next { result ≡ past (n.clause_numbers (v.view_clause clause.old)) first }
+{
+    let tests_first = number_walk(&mut clause.walk, first);
+    number_exprs(&mut clause.tests, tests_first)
+}
+
+/// Numbers the code blocks in what a loop goes over.
+#[cycle(number_expr)]
+#[tactic(auto, using(crate::proofs::Runs::append_runs))]
+pub fn number_walk(walk: &mut Walk, first: usize) -> usize
+    ensures kept { m.map_walk no_blocks (v.view_walk walk.new) ≡ m.map_walk no_blocks (v.view_walk walk.old) }
+    ensures numbers { n.walk_numbers (v.view_walk walk.new) ≡ renumbered first (n.walk_numbers (v.view_walk walk.old)) }
+    ensures next { result ≡ past (n.walk_numbers (v.view_walk walk.old)) first }
+{
+    let of_first = number_target(&mut walk.target, first);
+    number_expr(&mut walk.of, of_first)
+}
+
+/// Numbers the code blocks in a target.
+#[cycle(number_expr)]
+pub fn number_target(target: &mut Target, first: usize) -> usize
+    ensures kept { m.map_target no_blocks (v.view_target target.new)
+        ≡ m.map_target no_blocks (v.view_target target.old) }
+    ensures numbers { n.target_numbers (v.view_target target.new)
+        ≡ renumbered first (n.target_numbers (v.view_target target.old)) }
+    ensures next { result ≡ past (n.target_numbers (v.view_target target.old)) first }
+{
+    match target {
+        Target::Place(place) => number_place(place, first),
+        Target::Group(targets) => number_targets(targets, first),
+    }
+}
+
+#[cycle(number_expr)]
+fn number_targets(targets: &mut [Target], first: usize) -> usize
+    ensures kept { m.map_targets no_blocks (v.targets_of (map v.view_target targets.new))
+        ≡ m.map_targets no_blocks (v.targets_of (map v.view_target targets.old)) }
+    ensures numbers { n.targets_numbers (v.targets_of (map v.view_target targets.new))
+        ≡ renumbered first (n.targets_numbers (v.targets_of (map v.view_target targets.old))) }
+    ensures next { result ≡ past (n.targets_numbers (v.targets_of (map v.view_target targets.old))) first }
+{
+    let mut next = first;
+    'targets: for target in targets.iter_mut() {
+        next = number_target(target, next);
+    }
+    next
+}
+
+/// Numbers the code blocks in a place.
+#[cycle(number_expr)]
+#[tactic(auto, using(crate::proofs::Runs::append_runs))]
+pub fn number_place(place: &mut Place, first: usize) -> usize
+    ensures kept { m.map_place no_blocks (v.view_place place.new) ≡ m.map_place no_blocks (v.view_place place.old) }
+    ensures numbers { n.place_numbers (v.view_place place.new)
+        ≡ renumbered first (n.place_numbers (v.view_place place.old)) }
+    ensures next { result ≡ past (n.place_numbers (v.view_place place.old)) first }
+{
+    match place {
+        Place::Name(_) => first,
+        Place::Attr(object, _, _) => number_expr(object, first),
+        Place::Item(container, key, _) => {
+            let key_first = number_expr(container, first);
+            number_expr(key, key_first)
+        }
+    }
+}
+
+/// Numbers the code blocks in the defaults of parameters.
+#[cycle(number_expr)]
+pub fn number_params(params: &mut Params, first: usize) -> usize
+    ensures kept { m.map_params no_blocks (v.view_params params.new)
+        ≡ m.map_params no_blocks (v.view_params params.old) }
+    ensures numbers { n.params_numbers (v.view_params params.new)
+        ≡ renumbered first (n.params_numbers (v.view_params params.old)) }
+    ensures next { result ≡ past (n.params_numbers (v.view_params params.old)) first }
+{
+    number_defaults(&mut params.plain, first)
+}
+
+#[cycle(number_expr)]
+fn number_defaults(plain: &mut [(Named, Option<Expr>)], first: usize) -> usize
+    ensures kept { m.map_plain no_blocks (v.plain_of (map v.view_plain plain.new))
+        ≡ m.map_plain no_blocks (v.plain_of (map v.view_plain plain.old)) }
+    ensures numbers { n.plain_numbers (v.plain_of (map v.view_plain plain.new))
+        ≡ renumbered first (n.plain_numbers (v.plain_of (map v.view_plain plain.old))) }
+    ensures next { result ≡ past (n.plain_numbers (v.plain_of (map v.view_plain plain.old))) first }
+{
+    let mut next = first;
+    'plain: for param in plain.iter_mut() {
+        if let Some(default) = &mut param.1 {
+            next = number_expr(default, next);
+        }
+    }
+    next
+}
+
+#[cycle(number_expr)]
+#[tactic(auto, using(rp_tree::proofs::ExpressionEquations::trailer_slice))]
+fn number_trailer(trailer: &mut Trailer, first: usize) -> usize
+    ensures kept { m.map_trailer no_blocks (v.view_trailer trailer.new)
+        ≡ m.map_trailer no_blocks (v.view_trailer trailer.old) }
+    ensures numbers { n.trailer_numbers (v.view_trailer trailer.new)
+        ≡ renumbered first (n.trailer_numbers (v.view_trailer trailer.old)) }
+    ensures next { result ≡ past (n.trailer_numbers (v.view_trailer trailer.old)) first }
+{
+    match trailer {
+        Trailer::Attr(_, _) => first,
+        Trailer::Item(key, _) => number_expr(key, first),
+        Trailer::Slice(slice, _guard) => number_slice(slice, first),
+        Trailer::Call(args, _guard) => number_args(args, first),
+    }
+}
+
+#[cycle(number_expr)]
+#[tactic(auto, using(crate::proofs::Runs::append_runs))]
+fn number_slice(slice: &mut Slice, first: usize) -> usize
+    ensures from { m.map_maybe no_blocks (v.view_slice slice.new).0 ≡ m.map_maybe no_blocks (v.view_slice slice.old).0 }
+    ensures to { m.map_maybe no_blocks (v.view_slice slice.new).1 ≡ m.map_maybe no_blocks (v.view_slice slice.old).1 }
+    ensures step { m.map_maybe no_blocks (v.view_slice slice.new).2 ≡ m.map_maybe no_blocks (v.view_slice slice.old).2 }
+    ensures numbers { slice_numbers (v.view_slice slice.new)
+        ≡ renumbered first (slice_numbers (v.view_slice slice.old)) }
+    ensures next { result ≡ past (slice_numbers (v.view_slice slice.old)) first }
+{
+    let to_first = number_option(&mut slice.from, first);
+    let step_first = number_option(&mut slice.to, to_first);
+    number_option(&mut slice.step, step_first)
+}
+
+#[cycle(number_expr)]
+fn number_trailers(trailers: &mut [Trailer], first: usize) -> usize
+    ensures kept { m.map_trailers no_blocks (v.trailers_of (map v.view_trailer trailers.new))
+        ≡ m.map_trailers no_blocks (v.trailers_of (map v.view_trailer trailers.old)) }
+    ensures numbers { n.trailers_numbers (v.trailers_of (map v.view_trailer trailers.new))
+        ≡ renumbered first (n.trailers_numbers (v.trailers_of (map v.view_trailer trailers.old))) }
+    ensures next { result ≡ past (n.trailers_numbers (v.trailers_of (map v.view_trailer trailers.old))) first }
+{
+    let mut next = first;
+    'trailers: for trailer in trailers.iter_mut() {
+        next = number_trailer(trailer, next);
+    }
+    next
+}
+
+#[cycle(number_expr)]
+fn number_arg(arg: &mut Arg, first: usize) -> usize
+    ensures kept { m.map_arg no_blocks (v.view_arg arg.new) ≡ m.map_arg no_blocks (v.view_arg arg.old) }
+    ensures numbers { n.arg_numbers (v.view_arg arg.new) ≡ renumbered first (n.arg_numbers (v.view_arg arg.old)) }
+    ensures next { result ≡ past (n.arg_numbers (v.view_arg arg.old)) first }
+{
+    match arg {
+        Arg::Plain(expr) => number_expr(expr, first),
+        Arg::Star(expr) => number_expr(expr, first),
+        Arg::Key(_, expr) => number_expr(expr, first),
+        Arg::Stars(expr) => number_expr(expr, first),
+    }
+}
+
+#[cycle(number_expr)]
+fn number_args(args: &mut [Arg], first: usize) -> usize
+    ensures kept { m.map_args no_blocks (v.args_of (map v.view_arg args.new))
+        ≡ m.map_args no_blocks (v.args_of (map v.view_arg args.old)) }
+    ensures numbers { n.args_numbers (v.args_of (map v.view_arg args.new))
+        ≡ renumbered first (n.args_numbers (v.args_of (map v.view_arg args.old))) }
+    ensures next { result ≡ past (n.args_numbers (v.args_of (map v.view_arg args.old))) first }
+{
+    let mut next = first;
+    'arguments: for arg in args.iter_mut() {
+        next = number_arg(arg, next);
+    }
+    next
+}

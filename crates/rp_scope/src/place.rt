@@ -1,0 +1,12 @@
+//! Where a code block finds a name.
+
+/// Where a code block finds a name (Python Language Reference, Naming and binding, Resolution of names).
+#[derive(Clone, Copy, Debug, PartialEq, Eq)]
+pub enum Place2 {
+    /// Among its own local names: the place there.
+    Local(usize),
+    /// Among the local names of a block around it: how many blocks outwards, from 1, and the place there.
+    Outer(usize, usize),
+    /// In the program's block, or in none.
+    Global,
+}
