@@ -1,4 +1,5 @@
 //! Reading attributes.
+#![tactic(auto, using(rp_store::proofs::Shapes::goes_on))]
 
 ghost use Rattle.std.specs.Prelude.{◌≡◌, ℕ, IfOk, IfSome, OnErr};
 ghost use Rattle.rp_attributes.specs.Attributes.{attribute, attribute_at, bound, rock_attribute};
@@ -16,15 +17,15 @@ use rp_ops::{new_object, word_of};
 use rp_store::{Callee, Object, Store};
 use std::alloc::Global;
 
-/// `a.name`, read by code of a side on a value whose access decision has been made (Python Language Reference, Attribute
-/// references): the field of an instance, else a method bound to the object. It is made for the owner of the object, or
-/// for the side where the value is a text, and costs a cell. What is got through a proxy is lent.
+/// `a.name`, read by code of a side on a value whose access decision has been made (Python Language Reference,
+/// Attribute references): the field of an instance, else a method bound to the object. It is made for the owner of the
+/// object, or for the side where the value is a text, and costs a cell. What is got through a proxy is lent.
 ///
 /// # Errors
 /// - `Raised` with `AttributeError`, whose text is the name, where there is no such attribute.
 /// - `StopCells` where the cell is over the limit.
-/// - `Memory` where a growth was refused, there is none for the text of the exception, or the count of a text's owners is
-///   full.
+/// - `Memory` where a growth was refused, there is none for the text of the exception, or the count of a text's owners
+///   is full.
 ///
 /// The store is then as before.
 pub fn attribute(

@@ -1,5 +1,5 @@
 //! Attributes: reading, storing and deleting, on values whose access decisions have been made.
-#![tactic(auto, using(rp_store::proofs::Shapes::goes_on))]
+#![tactic(auto)]
 
 mod attribute_writers;
 mod attributes;

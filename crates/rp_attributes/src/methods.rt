@@ -89,8 +89,8 @@ pub(crate) fn text_method(word: &str) -> Option<NativeId>
     method_named(&TEXT_METHODS, word)
 }
 
-/// What is called by the method of the object at a place: a function of an instance's class, or a built-in method of the
-/// object's kind.
+/// What is called by the method of the object at a place: a function of an instance's class, or a built-in method of
+/// the object's kind.
 pub(crate) fn method_of(store: &Store, names: &Names, at: Oid, name: Name) -> Option<Callee>
     requires held { IsHeld store.now.heap at }
     ensures method { (steps : ℕ) → result

@@ -1,6 +1,7 @@
 //! The trait of the files of the outside.
 
-ghost use Rattle.std.specs.Prelude.{◌≡◌, ◌<◌, ◌≤◌, ◌+◌, ◌==◌, ℕ, Bool, true, false, not, length, take, drop, List, Option, Some, None, option_map, IfOk, IfSome, OnOk, OnErr, IsErrOf};
+ghost use Rattle.std.specs.Prelude.{◌≡◌, ◌<◌, ◌≤◌, ◌+◌, ◌==◌, ℕ, Bool, true, false, not, length, take, drop, List};
+ghost use Rattle.std.specs.Prelude.{Option, Some, None, option_map, IfOk, IfSome, OnOk, OnErr, IsErrOf};
 ghost use Rattle.rp_base.specs.Reading.{ReadsFront};
 
 use crate::text::Text;
@@ -72,7 +73,8 @@ pub trait Files {
 
         ensures bound { IfOk result (λ n. n ≤ length into.new) }
         ensures ends { IfOk result (λ n. is_open self.new ≡ not (n == 0)) }
-        ensures told { IfOk result (λ n. IfSome (rest self.old) (λ bytes. ReadsFront n bytes into.new (rest self.new))) }
+        ensures told { IfOk result (λ n. IfSome (rest self.old)
+            (λ bytes. ReadsFront n bytes into.new (rest self.new))) }
 
         ensures sound { OnOk result (faults self.new ≡ faults self.old) }
         ensures failed { OnErr result (faults self.old < faults self.new) };

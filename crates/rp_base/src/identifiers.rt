@@ -3,7 +3,8 @@
 ghost use Rattle.std.specs.Prelude.{◌≡◌, ◌↔◌, ◌&&◌, IfOk, IfSome, IsTrue, chars, length, nat_le};
 ghost use Rattle.std.specs.List.{list_all};
 ghost use Rattle.unicode_ident.specs.Ident.{is_xid_continue};
-ghost use Rattle.rp_base.specs.Identifier.{IsIdentifier, begins_well, identifier_of, is_identifier, is_identifier_word, is_start, longest_name};
+ghost use Rattle.rp_base.specs.Identifier.{IsIdentifier, begins_well, identifier_of, is_identifier, is_identifier_word};
+ghost use Rattle.rp_base.specs.Identifier.{is_start, longest_name};
 ghost use Rattle.rp_base.specs.Keyword.{is_keyword};
 
 use crate::memory::Memory;
@@ -43,8 +44,8 @@ pub fn identifier(alloc: Global, word: &str) -> Result<Option<Text>, Memory>
     }
 }
 
-/// Whether a word is an identifier, spelled in its form NFKC, of at most `LONGEST_NAME` bytes (UAX 31, UAX 15). It takes
-/// memory only for a word of which the characters alone do not tell whether it is in that form.
+/// Whether a word is an identifier, spelled in its form NFKC, of at most `LONGEST_NAME` bytes (UAX 31, UAX 15). It
+/// takes memory only for a word of which the characters alone do not tell whether it is in that form.
 ///
 /// # Errors
 /// `Memory` where a growth was refused.

@@ -1,8 +1,11 @@
 //! Files in memory, which fail where they are told to.
 
-ghost use Rattle.std.specs.Prelude.{◌≡◌, ◌≢◌, ◌<◌, ◌≤◌, ◌+◌, ◌==◌, ◌↔◌, ◌⊎◌, [], min, true, false, not, length, Some, None, option_map, IsTrue, IsSome, IsNone, IsOk, IfOk, IfSome, OnOk, OnErr, IsErr, IsErrOf};
+ghost use Rattle.std.specs.Prelude.{◌≡◌, ◌≢◌, ◌<◌, ◌≤◌, ◌+◌, ◌==◌, ◌↔◌, ◌⊎◌, [], min, true, false, not, length, Some};
+ghost use Rattle.std.specs.Prelude.{None, option_map, IsTrue, IsSome, IsNone, IsOk, IfOk, IfSome, OnOk, OnErr, IsErr};
+ghost use Rattle.std.specs.Prelude.{IsErrOf};
 ghost use Rattle.std.specs.Option.{option_copied};
-ghost use Rattle.rp_base.specs.InMemory.{after_fault, after_work, begun_at, bytes_at, file_at, last_bytes, new_plan, next_number, FailsNext};
+ghost use Rattle.rp_base.specs.InMemory.{after_fault, after_work, begun_at, bytes_at, file_at, last_bytes, new_plan};
+ghost use Rattle.rp_base.specs.InMemory.{next_number, FailsNext};
 ghost use Rattle.rp_base.specs.Reading.{ReadsFront};
 
 use crate::files::{Failed, Files, NoFile};

@@ -1,6 +1,7 @@
 //! The words of the program, each held once.
 
-ghost use Rattle.std.specs.Prelude.{◌≡◌, ◌<◌, [], All, IfOk, IfSome, IsOk, IsTrue, OnErr, OnOk, Some, chars, fold, is_some, length, map, slice_get};
+ghost use Rattle.std.specs.Prelude.{◌≡◌, ◌<◌, [], All, IfOk, IfSome, IsOk, IsTrue, OnErr, OnOk, Some, chars, fold};
+ghost use Rattle.std.specs.Prelude.{is_some, length, map, slice_get};
 ghost use Rattle.rp_base.specs.Identifier.{IsIdentifier};
 ghost use Rattle.rp_base.specs.Names.{HoldsEachOnce, first_words, is_held, with_word};
 

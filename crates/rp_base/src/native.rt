@@ -51,8 +51,8 @@ impl NativeId {
     ghost use Rattle.std.specs.Prelude.{◌≡◌};
     ghost use Rattle.rp_base.specs.Native.{native_name};
 
-    /// The functions that scripts may call (Python Library Reference, "Built-in Functions"); `removeSecurityProxy` is for
-    /// trusted code alone.
+    /// The functions that scripts may call (Python Library Reference, "Built-in Functions"); `removeSecurityProxy` is
+    /// for trusted code alone.
     pub const FUNCTIONS: [NativeId; 18] = [
         NativeId::Len,
         NativeId::Bool,

@@ -21,7 +21,8 @@ pub trait Sink {
         requires some { 0 < length piece.now }
 
         ensures bound { IfOk result (λ n. (0 < n) × (n ≤ length piece.now)) }
-        ensures appended { IfOk result (λ n. written self.new ≡ option_map (λ bytes. bytes ++ take n piece.now) (written self.old)) }
+        ensures appended { IfOk result (λ n. written self.new
+            ≡ option_map (λ bytes. bytes ++ take n piece.now) (written self.old)) }
         ensures same { OnErr result (written self.new ≡ written self.old) }
 
         ensures sound { OnOk result (faults self.new ≡ faults self.old) }

@@ -1,6 +1,7 @@
 //! Shared texts, and the text that grows.
 
-ghost use Rattle.std.specs.Prelude.{◌≡◌, ◌≤◌, ◌↔◌, ◌++◌, [], chars, IfOk, IfSome, IsSome, IsTrue, MatchOption, OnOk, OnErr, length, slice_get, slice_range, string_bytes};
+ghost use Rattle.std.specs.Prelude.{◌≡◌, ◌≤◌, ◌↔◌, ◌++◌, [], chars, IfOk, IfSome, IsSome, IsTrue, MatchOption, OnOk};
+ghost use Rattle.std.specs.Prelude.{OnErr, length, slice_get, slice_range, string_bytes};
 ghost use Rattle.std.specs.Str.{IsAscii};
 ghost use Rattle.rp_base.specs.Characters.{AreThose};
 ghost use Rattle.rp_base.specs.Same.{same_text};
@@ -30,9 +31,9 @@ pub enum Characters<'a> {
     Wide(&'a [char]),
 }
 
-/// A shared text, seen as the list of its characters, which knows how many they are and finds one by its place in constant
-/// time. It takes its UTF-8 bytes, and four bytes more for each character where not all are ASCII. Texts are compared by
-/// their UTF-8 bytes, which is the order of their characters.
+/// A shared text, seen as the list of its characters, which knows how many they are and finds one by its place in
+/// constant time. It takes its UTF-8 bytes, and four bytes more for each character where not all are ASCII. Texts are
+/// compared by their UTF-8 bytes, which is the order of their characters.
 #[derive(Drop)]
 pub struct Text {
     shared: Rc<Letters>,
@@ -47,7 +48,8 @@ impl Model for Text {
     ghost view = { λ t. chars (string_bytes t.shared.value.text) };
 
     ghost invariant = { λ t. let kept = t.shared.value in let letters = chars (string_bytes kept.text) in
-        (kept.count ≡ length letters) × MatchOption kept.wide (IsAscii letters) (λ v. (v.items ≡ letters) × ¬ IsAscii letters) };
+        (kept.count ≡ length letters)
+        × MatchOption kept.wide (IsAscii letters) (λ v. (v.items ≡ letters) × ¬ IsAscii letters) };
 }
 
 impl Text {
@@ -139,7 +141,8 @@ fn count(text: &str) -> usize
 /// The characters by place of a text that has so many, where not all are ASCII.
 fn wide_letters(alloc: Global, text: &str, count: usize) -> Result<Option<Vec<char>>, Memory>
     requires { count ≡ length (chars text.now) }
-    ensures { IfOk result (λ wide. MatchOption wide (IsAscii (chars text.now)) (λ v. (v.items ≡ chars text.now) × ¬ IsAscii (chars text.now))) }
+    ensures { IfOk result (λ wide. MatchOption wide (IsAscii (chars text.now)) (λ v. (v.items ≡ chars text.now)
+        × ¬ IsAscii (chars text.now))) }
 {
     if text.len() == count {
         return Ok(None);

@@ -90,7 +90,8 @@ fn read(alloc: Global, classes: u64, names: &mut Names) -> Result<Decl, Failure>
 
 /// The interaction of the principal.
 fn interaction_of(alloc: Global, decl: &Decl) -> Result<Interaction, Failure>
-    ensures { IfOk result (λ i. (names : List (List ℕ)) → AreInOrder (declarations_view names decl.now) → AnswersAs names decl.now i) }
+    ensures { IfOk result (λ i. (names : List (List ℕ)) → AreInOrder (declarations_view names decl.now)
+        → AnswersAs names decl.now i) }
 {
     let who = principal(alloc)?;
     let interaction = Interaction::new(alloc, decl, who.as_slice())?;

@@ -1,4 +1,6 @@
 //! Arguments are bound to parameters.
+#![tactic(auto, using(rp_store::proofs::Shapes::goes_on))]
+
 ghost use Rattle.std.specs.Prelude.{◌≡◌, ℕ, All, IfOk, drop, length, true};
 ghost use Rattle.rp_ops.specs.Outcome.{Meets, Raises, state_of};
 ghost use Rattle.rp_store.specs.Counters.{KeepsCounters};
@@ -23,17 +25,17 @@ use std::alloc::Global;
 /// of the store (Python Language Reference, Calls): a slot with its value for each parameter, those without a star
 /// first, then `*NAME`, then `**NAME`. Positional arguments fill the parameters without a star in order, and those that
 /// are left over go to `*NAME` as a tuple of the side. An argument by name fills the parameter without a star that has
-/// its name, and goes to `**NAME` as an entry of a dict of the side where there is none. A parameter that is still empty
-/// takes its default. The tuple and then the dict are made, each also where it is empty, for a cell and one for each
-/// element or entry. It takes no step.
+/// its name, and goes to `**NAME` as an entry of a dict of the side where there is none. A parameter that is still
+/// empty takes its default. The tuple and then the dict are made, each also where it is empty, for a cell and one for
+/// each element or entry. It takes no step.
 ///
 /// # Errors
 /// - `Raised` with `TypeError` and the text `arguments`, where an argument has no place, a parameter is filled twice, a
 ///   name is given twice, or a parameter stays empty. The store is then as before.
 /// - `StopCells` where the cells of the tuple are over the limit, the store being as before, or then those of the dict,
 ///   where the tuple is made.
-/// - `Memory` where a growth was refused, there is none for the text of the exception, or the count of a text's owners is
-///   full.
+/// - `Memory` where a growth was refused, there is none for the text of the exception, or the count of a text's owners
+///   is full.
 pub fn bind(
     alloc: Global,
     store: &mut Store,
@@ -171,8 +173,8 @@ fn with_dict(
 /// The slots with that of a new object.
 ///
 /// # Errors
-/// `StopCells` where the cells of the object are over the limit, `Memory` where a growth was refused. The store is then as
-/// before.
+/// `StopCells` where the cells of the object are over the limit, `Memory` where a growth was refused. The store is then
+/// as before.
 fn with_object(
     store: &mut Store,
     side: Side,

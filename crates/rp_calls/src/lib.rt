@@ -1,5 +1,5 @@
 //! The arguments of a call, bound to the parameters of a function.
-#![tactic(auto, using(rp_store::proofs::Shapes::goes_on))]
+#![tactic(auto)]
 
 mod binding;
 mod named_arguments;

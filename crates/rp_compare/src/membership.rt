@@ -15,13 +15,14 @@ use std::alloc::Global;
 
 /// `a in of` (Python Language Reference, Membership test operations): in a list or a tuple by equality, where each
 /// element takes a step, up to the first that is equal; in a dict by key; in a text as a part of it. No answer gives a
-/// step back. An instance whose class has `__contains__` is for the caller to ask: this raises `operand` for each instance.
+/// step back. An instance whose class has `__contains__` is for the caller to ask: this raises `operand` for each
+/// instance.
 ///
 /// # Errors
-/// - `Raised` with `TypeError` and the text `operand`, where the second value is no list, tuple, dict or text, or is a text
-///   and the first is none; or with the text `key`, where it is a dict, be it empty, and the first can be no key.
-/// - `Raised` with `RecursionError` and the text `depth`, where `equal` raises it of the first value and an element, which
-///   are at depth 1.
+/// - `Raised` with `TypeError` and the text `operand`, where the second value is no list, tuple, dict or text, or is a
+///   text and the first is none; or with the text `key`, where it is a dict, be it empty, and the first can be no key.
+/// - `Raised` with `RecursionError` and the text `depth`, where `equal` raises it of the first value and an element,
+///   which are at depth 1.
 /// - `StopSteps` where no step is left.
 /// - `Memory` where there is none for the text of the exception, or the count of a text's owners is full.
 pub fn contains(

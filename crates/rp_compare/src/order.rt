@@ -11,7 +11,8 @@ use rp_store::Store;
 use std::alloc::Global;
 
 /// `a op b` (Python Language Reference, Value comparisons). Numbers and truth values have an order by value, texts by
-/// their code points; all values can be equal, and equality takes the steps that `equal` takes. No answer gives a step back.
+/// their code points; all values can be equal, and equality takes the steps that `equal` takes. No answer gives a step
+/// back.
 ///
 /// # Errors
 /// - `Raised` with `TypeError` and the text `operand`, where values of these kinds have no order; or, of `==` and `!=`,

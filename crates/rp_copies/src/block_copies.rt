@@ -52,7 +52,8 @@ fn copy_names(alloc: Global, names: &[Named]) -> Result<Vec<Named>, Memory>
 
 /// The copied statements, as a block that is there where the one they were copied from is.
 fn as_block(block: &Option<Vec<Stmt>>, copied: Vec<Stmt>) -> Option<Vec<Stmt>>
-    ensures { v.view_stmts copied.items ≡ v.view_stmts (v.block_items block.now) → v.view_maybe_stmts result ≡ v.view_maybe_stmts block.now }
+    ensures { v.view_stmts copied.items ≡ v.view_stmts (v.block_items block.now) → v.view_maybe_stmts result
+        ≡ v.view_maybe_stmts block.now }
 {
     match block {
         None => None,

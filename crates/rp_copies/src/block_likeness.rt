@@ -22,7 +22,8 @@ pub fn same(left: &Tree, right: &Tree) -> bool
 }
 
 fn is_same_option_expr(left: &Option<Expr>, right: &Option<Expr>) -> bool
-    ensures { IsTrue result ↔ (option_map (m.map_expr shape) (option_map view_expr left.now) ≡ option_map (m.map_expr shape) (option_map view_expr right.now)) }
+    ensures { IsTrue result ↔ (option_map (m.map_expr shape) (option_map view_expr left.now)
+        ≡ option_map (m.map_expr shape) (option_map view_expr right.now)) }
 {
     match (left, right) {
         (None, None) => true,
@@ -33,8 +34,12 @@ fn is_same_option_expr(left: &Option<Expr>, right: &Option<Expr>) -> bool
 
 /// Whether a block is there in both places or in neither.
 fn are_there_alike(left: &Option<Vec<Stmt>>, right: &Option<Vec<Stmt>>) -> bool
-    ensures alike { IsTrue result → (m.map_stmts shape (v.view_stmts (v.block_items left.now)) ≡ m.map_stmts shape (v.view_stmts (v.block_items right.now))) ↔ (m.map_maybe_stmts shape (v.view_maybe_stmts left.now) ≡ m.map_maybe_stmts shape (v.view_maybe_stmts right.now)) }
-    ensures apart { m.map_maybe_stmts shape (v.view_maybe_stmts left.now) ≡ m.map_maybe_stmts shape (v.view_maybe_stmts right.now) → IsTrue result }
+    ensures alike { IsTrue result → (m.map_stmts shape (v.view_stmts (v.block_items left.now))
+        ≡ m.map_stmts shape (v.view_stmts (v.block_items right.now)))
+        ↔ (m.map_maybe_stmts shape (v.view_maybe_stmts left.now)
+        ≡ m.map_maybe_stmts shape (v.view_maybe_stmts right.now)) }
+    ensures apart { m.map_maybe_stmts shape (v.view_maybe_stmts left.now)
+        ≡ m.map_maybe_stmts shape (v.view_maybe_stmts right.now) → IsTrue result }
 {
     match (left, right) {
         (None, None) => true,
@@ -44,7 +49,8 @@ fn are_there_alike(left: &Option<Vec<Stmt>>, right: &Option<Vec<Stmt>>) -> bool
 }
 
 fn are_same_places(left: &[Place], right: &[Place]) -> bool
-    ensures { IsTrue result ↔ (map (m.map_place shape) (map view_place left.now) ≡ map (m.map_place shape) (map view_place right.now)) }
+    ensures { IsTrue result ↔ (map (m.map_place shape) (map view_place left.now)
+        ≡ map (m.map_place shape) (map view_place right.now)) }
 {
     let mut rest = right;
     'places: for place in left {
@@ -95,7 +101,8 @@ fn is_same_stmt(left: &Stmt, right: &Stmt) -> bool
 #[cycle(is_same_stmt)]
 #[tactic(auto, using(rp_tree::proofs::StatementEquations::variants))]
 fn is_same_stmt_form(left: &StmtForm, right: &StmtForm) -> bool
-    ensures { IsTrue result ↔ (m.map_stmt_form shape (v.view_stmt_form left.now) ≡ m.map_stmt_form shape (v.view_stmt_form right.now)) }
+    ensures { IsTrue result ↔ (m.map_stmt_form shape (v.view_stmt_form left.now)
+        ≡ m.map_stmt_form shape (v.view_stmt_form right.now)) }
 {
     match (left, right) {
         (StmtForm::Expr(a), StmtForm::Expr(b)) => is_same_expr(a, b),
@@ -149,7 +156,8 @@ fn is_same_stmt_form(left: &StmtForm, right: &StmtForm) -> bool
 
 #[cycle(is_same_stmt)]
 fn is_same_try(left: &StmtForm, right: &StmtForm) -> bool
-    ensures { IsTry (v.view_stmt_form left.now) → IsTrue result ↔ (m.map_stmt_form shape (v.view_stmt_form left.now) ≡ m.map_stmt_form shape (v.view_stmt_form right.now)) }
+    ensures { IsTry (v.view_stmt_form left.now) → IsTrue result
+        ↔ (m.map_stmt_form shape (v.view_stmt_form left.now) ≡ m.map_stmt_form shape (v.view_stmt_form right.now)) }
 {
     match (left, right) {
         (
@@ -209,7 +217,8 @@ fn are_same_stmts(left: &[Stmt], right: &[Stmt]) -> bool
 
 #[cycle(is_same_stmt)]
 fn are_same_branches(left: &[Branch], right: &[Branch]) -> bool
-    ensures { IsTrue result ↔ (m.map_branches shape (v.branches_of (map v.view_branch left.now)) ≡ m.map_branches shape (v.branches_of (map v.view_branch right.now))) }
+    ensures { IsTrue result ↔ (m.map_branches shape (v.branches_of (map v.view_branch left.now))
+        ≡ m.map_branches shape (v.branches_of (map v.view_branch right.now))) }
 {
     let mut rest = right;
     'branches: for branch in left {
@@ -233,7 +242,8 @@ fn are_same_branches(left: &[Branch], right: &[Branch]) -> bool
 
 #[cycle(is_same_stmt)]
 fn are_same_handlers(left: &[Except], right: &[Except]) -> bool
-    ensures { IsTrue result ↔ (m.map_excepts shape (v.excepts_of (map v.view_except left.now)) ≡ m.map_excepts shape (v.excepts_of (map v.view_except right.now))) }
+    ensures { IsTrue result ↔ (m.map_excepts shape (v.excepts_of (map v.view_except left.now))
+        ≡ m.map_excepts shape (v.excepts_of (map v.view_except right.now))) }
 {
     let mut rest = right;
     'handlers: for handler in left {
@@ -255,7 +265,8 @@ fn are_same_handlers(left: &[Except], right: &[Except]) -> bool
 
 #[cycle(is_same_stmt)]
 fn is_same_handler(left: &Except, right: &Except) -> bool
-    ensures { IsTrue result ↔ (m.map_except shape (v.view_except left.now) ≡ m.map_except shape (v.view_except right.now)) }
+    ensures { IsTrue result ↔ (m.map_except shape (v.view_except left.now)
+        ≡ m.map_except shape (v.view_except right.now)) }
 {
     is_same_option_expr(&left.kind, &right.kind)
         && is_same_option_named(&left.name, &right.name)

@@ -25,7 +25,7 @@ pub fn copy_expr(alloc: Global, expr: &Expr) -> Result<Expr, Memory>
 }
 
 #[cycle(copy_expr)]
-#[tactic(auto, using(rp_tree::proofs::ExpressionEquations::form_dict, rp_tree::proofs::ExpressionEquations::form_compare, rp_tree::proofs::ExpressionEquations::form_chain))]
+#[tactic(auto, using(crate::proofs::Variants::forms))]
 fn copy_form(alloc: Global, form: &ExprForm) -> Result<ExprForm, Memory>
     ensures { IfOk result (λ made. v.view_form made ≡ v.view_form form.now) }
 {

@@ -37,7 +37,7 @@ pub fn is_same_expr(left: &Expr, right: &Expr) -> bool
 }
 
 #[cycle(is_same_expr)]
-#[tactic(auto, using(rp_tree::proofs::ExpressionEquations::form_dict, rp_tree::proofs::ExpressionEquations::form_compare, rp_tree::proofs::ExpressionEquations::form_chain))]
+#[tactic(auto, using(crate::proofs::Variants::forms))]
 fn is_same_form(left: &ExprForm, right: &ExprForm) -> bool
     ensures { IsTrue result ↔ (m.map_form shape (v.view_form left.now) ≡ m.map_form shape (v.view_form right.now)) }
 {
@@ -81,7 +81,8 @@ fn is_same_form(left: &ExprForm, right: &ExprForm) -> bool
 
 #[cycle(is_same_expr)]
 fn are_same_exprs(left: &[Expr], right: &[Expr]) -> bool
-    ensures { IsTrue result ↔ (m.map_exprs shape (v.exprs_of (map v.view_expr left.now)) ≡ m.map_exprs shape (v.exprs_of (map v.view_expr right.now))) }
+    ensures { IsTrue result ↔ (m.map_exprs shape (v.exprs_of (map v.view_expr left.now))
+        ≡ m.map_exprs shape (v.exprs_of (map v.view_expr right.now))) }
 {
     let mut rest = right;
     'exprs: for expr in left {
@@ -103,7 +104,8 @@ fn are_same_exprs(left: &[Expr], right: &[Expr]) -> bool
 
 #[cycle(is_same_expr)]
 fn are_same_pairs(left: &[(Expr, Expr)], right: &[(Expr, Expr)]) -> bool
-    ensures { IsTrue result ↔ (m.map_pairs shape (v.pairs_of (map v.view_pair left.now)) ≡ m.map_pairs shape (v.pairs_of (map v.view_pair right.now))) }
+    ensures { IsTrue result ↔ (m.map_pairs shape (v.pairs_of (map v.view_pair left.now))
+        ≡ m.map_pairs shape (v.pairs_of (map v.view_pair right.now))) }
 {
     let mut rest = right;
     'pairs: for pair in left {
@@ -125,7 +127,8 @@ fn are_same_pairs(left: &[(Expr, Expr)], right: &[(Expr, Expr)]) -> bool
 
 #[cycle(is_same_expr)]
 fn are_same_tests(left: &[(Test, Expr)], right: &[(Test, Expr)]) -> bool
-    ensures { IsTrue result ↔ (m.map_tests shape (v.tests_of (map v.view_test left.now)) ≡ m.map_tests shape (v.tests_of (map v.view_test right.now))) }
+    ensures { IsTrue result ↔ (m.map_tests shape (v.tests_of (map v.view_test left.now))
+        ≡ m.map_tests shape (v.tests_of (map v.view_test right.now))) }
 {
     let mut rest = right;
     'tests: for test in left {
@@ -147,7 +150,8 @@ fn are_same_tests(left: &[(Test, Expr)], right: &[(Test, Expr)]) -> bool
 
 #[cycle(is_same_expr)]
 fn are_same_operands(left: &[(BinOp, Expr)], right: &[(BinOp, Expr)]) -> bool
-    ensures { IsTrue result ↔ (m.map_ops shape (v.ops_of (map v.view_op left.now)) ≡ m.map_ops shape (v.ops_of (map v.view_op right.now))) }
+    ensures { IsTrue result ↔ (m.map_ops shape (v.ops_of (map v.view_op left.now))
+        ≡ m.map_ops shape (v.ops_of (map v.view_op right.now))) }
 {
     let mut rest = right;
     'operands: for operand in left {
@@ -169,7 +173,8 @@ fn are_same_operands(left: &[(BinOp, Expr)], right: &[(BinOp, Expr)]) -> bool
 
 #[cycle(is_same_expr)]
 fn are_same_clauses(left: &[Clause], right: &[Clause]) -> bool
-    ensures { IsTrue result ↔ (m.map_clauses shape (v.clauses_of (map v.view_clause left.now)) ≡ m.map_clauses shape (v.clauses_of (map v.view_clause right.now))) }
+    ensures { IsTrue result ↔ (m.map_clauses shape (v.clauses_of (map v.view_clause left.now))
+        ≡ m.map_clauses shape (v.clauses_of (map v.view_clause right.now))) }
 {
     let mut rest = right;
     'clauses: for clause in left {
@@ -191,7 +196,8 @@ fn are_same_clauses(left: &[Clause], right: &[Clause]) -> bool
 
 #[cycle(is_same_expr)]
 fn are_same_targets(left: &[Target], right: &[Target]) -> bool
-    ensures { IsTrue result ↔ (m.map_targets shape (v.targets_of (map v.view_target left.now)) ≡ m.map_targets shape (v.targets_of (map v.view_target right.now))) }
+    ensures { IsTrue result ↔ (m.map_targets shape (v.targets_of (map v.view_target left.now))
+        ≡ m.map_targets shape (v.targets_of (map v.view_target right.now))) }
 {
     let mut rest = right;
     'targets: for target in left {
@@ -213,7 +219,8 @@ fn are_same_targets(left: &[Target], right: &[Target]) -> bool
 
 #[cycle(is_same_expr)]
 fn are_same_plain(left: &[(Named, Option<Expr>)], right: &[(Named, Option<Expr>)]) -> bool
-    ensures { IsTrue result ↔ (m.map_plain shape (v.plain_of (map v.view_plain left.now)) ≡ m.map_plain shape (v.plain_of (map v.view_plain right.now))) }
+    ensures { IsTrue result ↔ (m.map_plain shape (v.plain_of (map v.view_plain left.now))
+        ≡ m.map_plain shape (v.plain_of (map v.view_plain right.now))) }
 {
     let mut rest = right;
     'plain: for param in left {
@@ -244,7 +251,8 @@ fn are_same_plain(left: &[(Named, Option<Expr>)], right: &[(Named, Option<Expr>)
 
 #[cycle(is_same_expr)]
 fn are_same_trailers(left: &[Trailer], right: &[Trailer]) -> bool
-    ensures { IsTrue result ↔ (m.map_trailers shape (v.trailers_of (map v.view_trailer left.now)) ≡ m.map_trailers shape (v.trailers_of (map v.view_trailer right.now))) }
+    ensures { IsTrue result ↔ (m.map_trailers shape (v.trailers_of (map v.view_trailer left.now))
+        ≡ m.map_trailers shape (v.trailers_of (map v.view_trailer right.now))) }
 {
     let mut rest = right;
     'trailers: for trailer in left {
@@ -266,7 +274,8 @@ fn are_same_trailers(left: &[Trailer], right: &[Trailer]) -> bool
 
 #[cycle(is_same_expr)]
 fn are_same_args(left: &[Arg], right: &[Arg]) -> bool
-    ensures { IsTrue result ↔ (m.map_args shape (v.args_of (map v.view_arg left.now)) ≡ m.map_args shape (v.args_of (map v.view_arg right.now))) }
+    ensures { IsTrue result ↔ (m.map_args shape (v.args_of (map v.view_arg left.now))
+        ≡ m.map_args shape (v.args_of (map v.view_arg right.now))) }
 {
     let mut rest = right;
     'args: for arg in left {
@@ -288,7 +297,8 @@ fn are_same_args(left: &[Arg], right: &[Arg]) -> bool
 
 #[cycle(is_same_expr)]
 fn is_same_option(left: &Option<Expr>, right: &Option<Expr>) -> bool
-    ensures { IsTrue result ↔ (m.map_maybe shape (v.maybe_of (option_map v.view_expr left.now)) ≡ m.map_maybe shape (v.maybe_of (option_map v.view_expr right.now))) }
+    ensures { IsTrue result ↔ (m.map_maybe shape (v.maybe_of (option_map v.view_expr left.now))
+        ≡ m.map_maybe shape (v.maybe_of (option_map v.view_expr right.now))) }
 {
     match (left, right) {
         (None, None) => true,
@@ -299,7 +309,8 @@ fn is_same_option(left: &Option<Expr>, right: &Option<Expr>) -> bool
 
 #[cycle(is_same_expr)]
 fn is_same_clause(left: &Clause, right: &Clause) -> bool
-    ensures { IsTrue result ↔ (m.map_clause shape (v.view_clause left.now) ≡ m.map_clause shape (v.view_clause right.now)) }
+    ensures { IsTrue result ↔ (m.map_clause shape (v.view_clause left.now)
+        ≡ m.map_clause shape (v.view_clause right.now)) }
 {
     is_same_walk(&left.walk, &right.walk) && are_same_exprs(&left.tests, &right.tests)
 }
@@ -314,9 +325,10 @@ pub fn is_same_walk(left: &Walk, right: &Walk) -> bool
 }
 
 #[cycle(is_same_expr)]
-#[tactic(auto, using(rp_tree::proofs::ExpressionEquations::target_place, rp_tree::proofs::ExpressionEquations::target_group))]
+#[tactic(auto, using(crate::proofs::Variants::targets))]
 pub fn is_same_target(left: &Target, right: &Target) -> bool
-    ensures { IsTrue result ↔ (m.map_target shape (v.view_target left.now) ≡ m.map_target shape (v.view_target right.now)) }
+    ensures { IsTrue result ↔ (m.map_target shape (v.view_target left.now)
+        ≡ m.map_target shape (v.view_target right.now)) }
 {
     match (left, right) {
         (Target::Place(left), Target::Place(right)) => is_same_place(left, right),
@@ -326,7 +338,7 @@ pub fn is_same_target(left: &Target, right: &Target) -> bool
 }
 
 #[cycle(is_same_expr)]
-#[tactic(auto, using(rp_tree::proofs::ExpressionEquations::place_name, rp_tree::proofs::ExpressionEquations::place_attr, rp_tree::proofs::ExpressionEquations::place_item))]
+#[tactic(auto, using(crate::proofs::Variants::places))]
 pub fn is_same_place(left: &Place, right: &Place) -> bool
     ensures { IsTrue result ↔ (m.map_place shape (v.view_place left.now) ≡ m.map_place shape (v.view_place right.now)) }
 {
@@ -347,7 +359,8 @@ pub fn is_same_place(left: &Place, right: &Place) -> bool
 #[cycle(is_same_expr)]
 #[tactic(auto, using(rp_tree::proofs::ExpressionEquations::params_out))]
 pub fn is_same_params(left: &Params, right: &Params) -> bool
-    ensures { IsTrue result ↔ (m.map_params shape (v.view_params left.now) ≡ m.map_params shape (v.view_params right.now)) }
+    ensures { IsTrue result ↔ (m.map_params shape (v.view_params left.now)
+        ≡ m.map_params shape (v.view_params right.now)) }
 {
     are_same_plain(&left.plain, &right.plain)
         && is_same_option_named(&left.list, &right.list)
@@ -355,9 +368,10 @@ pub fn is_same_params(left: &Params, right: &Params) -> bool
 }
 
 #[cycle(is_same_expr)]
-#[tactic(auto, using(rp_tree::proofs::ExpressionEquations::trailer_attr, rp_tree::proofs::ExpressionEquations::trailer_item, rp_tree::proofs::ExpressionEquations::trailer_slice, rp_tree::proofs::ExpressionEquations::trailer_call))]
+#[tactic(auto, using(crate::proofs::Variants::trailers))]
 fn is_same_trailer(left: &Trailer, right: &Trailer) -> bool
-    ensures { IsTrue result ↔ (m.map_trailer shape (v.view_trailer left.now) ≡ m.map_trailer shape (v.view_trailer right.now)) }
+    ensures { IsTrue result ↔ (m.map_trailer shape (v.view_trailer left.now)
+        ≡ m.map_trailer shape (v.view_trailer right.now)) }
 {
     match (left, right) {
         (Trailer::Attr(n, g), Trailer::Attr(o, h)) => is_same_named(n, o) && g == h,
@@ -370,7 +384,10 @@ fn is_same_trailer(left: &Trailer, right: &Trailer) -> bool
 
 #[cycle(is_same_expr)]
 fn is_same_slice(left: &Slice, right: &Slice) -> bool
-    ensures { IsTrue result ↔ ((m.map_maybe shape (v.view_slice left.now).0 ≡ m.map_maybe shape (v.view_slice right.now).0) × (m.map_maybe shape (v.view_slice left.now).1 ≡ m.map_maybe shape (v.view_slice right.now).1) × (m.map_maybe shape (v.view_slice left.now).2 ≡ m.map_maybe shape (v.view_slice right.now).2)) }
+    ensures { IsTrue result ↔ ((m.map_maybe shape (v.view_slice left.now).0
+        ≡ m.map_maybe shape (v.view_slice right.now).0)
+        × (m.map_maybe shape (v.view_slice left.now).1 ≡ m.map_maybe shape (v.view_slice right.now).1)
+        × (m.map_maybe shape (v.view_slice left.now).2 ≡ m.map_maybe shape (v.view_slice right.now).2)) }
 {
     is_same_option(&left.from, &right.from)
         && is_same_option(&left.to, &right.to)
@@ -378,7 +395,7 @@ fn is_same_slice(left: &Slice, right: &Slice) -> bool
 }
 
 #[cycle(is_same_expr)]
-#[tactic(auto, using(rp_tree::proofs::ExpressionEquations::arg_plain, rp_tree::proofs::ExpressionEquations::arg_star, rp_tree::proofs::ExpressionEquations::arg_key, rp_tree::proofs::ExpressionEquations::arg_stars))]
+#[tactic(auto, using(crate::proofs::Variants::args))]
 fn is_same_arg(left: &Arg, right: &Arg) -> bool
     ensures { IsTrue result ↔ (m.map_arg shape (v.view_arg left.now) ≡ m.map_arg shape (v.view_arg right.now)) }
 {

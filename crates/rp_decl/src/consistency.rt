@@ -4,7 +4,8 @@ ghost use Rattle.std.specs.Prelude.{◌≡◌, ◌∷◌, [], IfOk, chars, codes
 ghost use Rattle.std.specs.Option.{option_map_or};
 ghost use Rattle.toml.specs.Data.{get_member};
 ghost use Rattle.toml.specs.View.{table_view, view};
-ghost use Rattle.rp_decl.specs.Consistency.{class_faults, class_names, group_faults, group_ids, permission_faults, role_faults, role_ids, unknown};
+ghost use Rattle.rp_decl.specs.Consistency.{class_faults, class_names, group_faults, group_ids, permission_faults};
+ghost use Rattle.rp_decl.specs.Consistency.{role_faults, role_ids, unknown};
 ghost use Rattle.rp_decl.specs.Document.{members_of, records_of, text_at, text_of};
 ghost use Rattle.rp_decl.specs.Order.{least};
 
@@ -103,7 +104,9 @@ impl Naming for Like {
 }
 
 fn unknown_like(alloc: Global, known: &Sorted, class: &Table) -> Result<Option<Text>, Memory>
-    ensures { IfOk result (λ fault. fault ≡ least (unknown known.now (option_map_or (λ name. name ∷ []) (text_at (codes "like") (table_view class.now)) []))) }
+    ensures { IfOk result (λ fault. fault
+        ≡ least (unknown known.now (option_map_or (λ name. name ∷ [])
+        (text_at (codes "like") (table_view class.now)) []))) }
 {
     match member(class, "like") {
         Some(name) => unknown_text(alloc, known, str_of(name)),

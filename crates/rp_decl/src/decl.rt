@@ -64,7 +64,8 @@ impl Decl {
     ghost use Rattle.rp_decl.specs.InOrder.{AreInOrder};
     ghost use Rattle.rp_decl.specs.Reading.{IsAllKnown, IsKnownBy};
     ghost use Rattle.rp_decl.specs.View.{declarations_view};
-    ghost use Rattle.rp_decl.specs.Places.{GrowsTo, IsHeldBy, IsClassWithin, IsRoleWithin, IsGroupWithin, IsPrincipalWithin};
+    ghost use Rattle.rp_decl.specs.Places.{GrowsTo, IsHeldBy, IsClassWithin, IsRoleWithin, IsGroupWithin};
+    ghost use Rattle.rp_decl.specs.Places.{IsPrincipalWithin};
 
     /// What a document declares, where all that it names is known.
     pub(crate) fn read(
@@ -145,7 +146,8 @@ impl Decl {
 
     pub fn principals(&self) -> &[PrincipalDecl]
         ensures value { result.now ≡ self.now.principals }
-        ensures within { All (IsPrincipalWithin (length self.now.permissions) (length self.now.roles) (length self.now.groups)) result.now }
+        ensures within { All (IsPrincipalWithin (length self.now.permissions) (length self.now.roles)
+            (length self.now.groups)) result.now }
     {
         self.principals.as_slice()
     }

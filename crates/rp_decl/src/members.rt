@@ -108,7 +108,8 @@ impl Record for ClassDecl {
 /// The class that a class is like.
 fn like_of(names: &mut Names, class: &Value) -> Result<Option<Name>, Memory>
     requires { IfSome (text_at (codes "like") (members_of (view class.now))) IsName }
-    ensures like { IfOk result (λ like. FromNowOn names.new (λ names. ShowsLike names like (text_at (codes "like") (members_of (view class.now))))) }
+    ensures like { IfOk result (λ like. FromNowOn names.new
+        (λ names. ShowsLike names like (text_at (codes "like") (members_of (view class.now))))) }
     ensures grown { GrowsTo names.old names.new }
 {
     match class {
@@ -119,7 +120,8 @@ fn like_of(names: &mut Names, class: &Value) -> Result<Option<Name>, Memory>
 
 fn like_at(names: &mut Names, class: &Table) -> Result<Option<Name>, Memory>
     requires { IfSome (text_at (codes "like") (table_view class.now)) IsName }
-    ensures like { IfOk result (λ like. FromNowOn names.new (λ names. ShowsLike names like (text_at (codes "like") (table_view class.now)))) }
+    ensures like { IfOk result (λ like. FromNowOn names.new
+        (λ names. ShowsLike names like (text_at (codes "like") (table_view class.now)))) }
     ensures grown { GrowsTo names.old names.new }
 {
     match member(class, "like") {

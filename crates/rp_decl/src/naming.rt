@@ -33,7 +33,8 @@ pub(crate) fn unknown_at<N: Naming>(
     document: &Table,
     key: &str,
 ) -> Result<Option<Text>, Memory>
-    ensures { IfOk result (λ fault. fault ≡ least (unknown known.now (named_at (N.named naming.now) key.now (table_view document.now)))) }
+    ensures { IfOk result (λ fault. fault
+        ≡ least (unknown known.now (named_at (N.named naming.now) key.now (table_view document.now)))) }
 {
     match member(document, key) {
         Some(value) => unknown_within(alloc, naming, known, value),
@@ -47,7 +48,8 @@ fn unknown_within<N: Naming>(
     known: &Sorted,
     value: &Value,
 ) -> Result<Option<Text>, Memory>
-    ensures { IfOk result (λ fault. fault ≡ least (unknown known.now (each_named (N.named naming.now) (members_of (view value.now))))) }
+    ensures { IfOk result (λ fault. fault
+        ≡ least (unknown known.now (each_named (N.named naming.now) (members_of (view value.now))))) }
 {
     match value {
         Value::Table(table) => each_unknown(alloc, naming, known, table),
@@ -61,7 +63,8 @@ fn each_unknown<N: Naming>(
     known: &Sorted,
     table: &Table,
 ) -> Result<Option<Text>, Memory>
-    ensures { IfOk result (λ fault. fault ≡ least (unknown known.now (each_named (N.named naming.now) (table_view table.now)))) }
+    ensures { IfOk result (λ fault. fault
+        ≡ least (unknown known.now (each_named (N.named naming.now) (table_view table.now)))) }
 {
     let mut least = None;
     for (_key, value) in table.iter() {
@@ -92,7 +95,8 @@ pub(crate) fn unknown_in_array(
     value: &Value,
     key: &str,
 ) -> Result<Option<Text>, Memory>
-    ensures { IfOk result (λ fault. fault ≡ least (unknown known.now (texts_at key.now (members_of (view value.now))))) }
+    ensures { IfOk result (λ fault. fault
+        ≡ least (unknown known.now (texts_at key.now (members_of (view value.now))))) }
 {
     match value {
         Value::Table(table) => unknown_in_array_at(alloc, known, table, key),
@@ -141,7 +145,8 @@ pub(crate) fn unknown_in_rows(
     value: &Value,
     key: &str,
 ) -> Result<Option<Text>, Memory>
-    ensures { IfOk result (λ fault. fault ≡ least (unknown known.now (needed (each_at row_of key.now (members_of (view value.now)))))) }
+    ensures { IfOk result (λ fault. fault
+        ≡ least (unknown known.now (needed (each_at row_of key.now (members_of (view value.now)))))) }
 {
     match value {
         Value::Table(table) => unknown_in_rows_at(alloc, known, table, key),
@@ -155,7 +160,8 @@ fn unknown_in_rows_at(
     table: &Table,
     key: &str,
 ) -> Result<Option<Text>, Memory>
-    ensures { IfOk result (λ fault. fault ≡ least (unknown known.now (needed (each_at row_of key.now (table_view table.now))))) }
+    ensures { IfOk result (λ fault. fault
+        ≡ least (unknown known.now (needed (each_at row_of key.now (table_view table.now))))) }
 {
     match member(table, key) {
         Some(value) => unknown_of_rows(alloc, known, value),
@@ -164,7 +170,8 @@ fn unknown_in_rows_at(
 }
 
 fn unknown_of_rows(alloc: Global, known: &Sorted, value: &Value) -> Result<Option<Text>, Memory>
-    ensures { IfOk result (λ fault. fault ≡ least (unknown known.now (needed (each_member row_of (members_of (view value.now)))))) }
+    ensures { IfOk result (λ fault. fault
+        ≡ least (unknown known.now (needed (each_member row_of (members_of (view value.now)))))) }
 {
     match value {
         Value::Table(rows) => unknown_row(alloc, known, rows),
@@ -173,7 +180,8 @@ fn unknown_of_rows(alloc: Global, known: &Sorted, value: &Value) -> Result<Optio
 }
 
 fn unknown_row(alloc: Global, known: &Sorted, rows: &Table) -> Result<Option<Text>, Memory>
-    ensures { IfOk result (λ fault. fault ≡ least (unknown known.now (needed (each_member row_of (table_view rows.now))))) }
+    ensures { IfOk result (λ fault. fault
+        ≡ least (unknown known.now (needed (each_member row_of (table_view rows.now))))) }
 {
     let mut least = None;
     for (_name, permission) in rows.iter() {

@@ -2,8 +2,10 @@
 
 ghost use Rattle.std.specs.Prelude.{◌≡◌, ℕ, List, [], IfOk, IfErr, OnOk, Ok, Result};
 ghost use Rattle.toml.specs.View.{table_view};
-ghost use Rattle.rp_decl.specs.Consistency.{IsConsistent, class_faults, class_names, group_faults, group_ids, permission_faults, role_faults, role_ids};
-ghost use Rattle.rp_decl.specs.Declares.{Declares, KeepsVersion1, Refusal, class, consistent, group, permission, refuse, role, shape};
+ghost use Rattle.rp_decl.specs.Consistency.{IsConsistent, class_faults, class_names, group_faults, group_ids};
+ghost use Rattle.rp_decl.specs.Consistency.{permission_faults, role_faults, role_ids};
+ghost use Rattle.rp_decl.specs.Declares.{Declares, KeepsVersion1, Refusal, class, consistent, group, permission};
+ghost use Rattle.rp_decl.specs.Declares.{refuse, role, shape};
 ghost use Rattle.rp_decl.specs.Document.{records_of};
 ghost use Rattle.rp_decl.specs.Faults.{HasFault, IsFaultHeld, Tells};
 ghost use Rattle.rp_decl.specs.InOrder.{AreInOrder};
@@ -54,10 +56,13 @@ fn declared(
     version: usize,
     document: &Table,
 ) -> Result<Decl, DeclFault>
-    ensures ok { IfOk result (λ d. refuse shape (faults_of version (table_view document.now)) (consistent (records_of (table_view document.now))) ≡ Ok (declarations_view names.new d)) }
+    ensures ok { IfOk result (λ d. refuse shape (faults_of version (table_view document.now))
+        (consistent (records_of (table_view document.now))) ≡ Ok (declarations_view names.new d)) }
     ensures held { IfOk result (IsHeldBy names.new) }
     ensures ordered { IfOk result (λ d. AreInOrder (declarations_view names.new d)) }
-    ensures fault { IfErr result (λ fault. Tells names.new fault (refuse shape (faults_of version (table_view document.now)) (consistent (records_of (table_view document.now))))) }
+    ensures fault { IfErr result (λ fault. Tells names.new fault
+        (refuse shape (faults_of version (table_view document.now))
+        (consistent (records_of (table_view document.now))))) }
     ensures fault_held { IfErr result (IsFaultHeld names.new) }
     ensures grown { GrowsTo names.old names.new }
 {
@@ -72,7 +77,8 @@ fn declared(
 
 fn check_shape(alloc: Global, version: usize, document: &Table) -> Result<(), DeclFault>
     ensures ok { OnOk result (faults_of version (table_view document.now) ≡ []) }
-    ensures fault { IfErr result (λ fault. (names : List (List ℕ)) (next : Result Declarations Refusal) → Tells names fault (refuse shape (faults_of version (table_view document.now)) next)) }
+    ensures fault { IfErr result (λ fault. (names : List (List ℕ)) (next : Result Declarations Refusal)
+        → Tells names fault (refuse shape (faults_of version (table_view document.now)) next)) }
     ensures fault_held { IfErr result (λ fault. (names : List (List ℕ)) → IsFaultHeld names fault) }
 {
     match shape_fault(alloc, version, document)? {
@@ -84,7 +90,8 @@ fn check_shape(alloc: Global, version: usize, document: &Table) -> Result<(), De
 fn check_permissions(alloc: Global, document: &Table, permissions: &Sorted) -> Result<(), DeclFault>
     requires { permissions.now ≡ (records_of (table_view document.now)).permissions }
     ensures ok { OnOk result (permission_faults (records_of (table_view document.now)) ≡ []) }
-    ensures fault { IfErr result (λ fault. (names : List (List ℕ)) (next : Result Declarations Refusal) → Tells names fault (refuse permission (permission_faults (records_of (table_view document.now))) next)) }
+    ensures fault { IfErr result (λ fault. (names : List (List ℕ)) (next : Result Declarations Refusal)
+        → Tells names fault (refuse permission (permission_faults (records_of (table_view document.now))) next)) }
     ensures fault_held { IfErr result (λ fault. (names : List (List ℕ)) → IsFaultHeld names fault) }
 {
     match permission_fault(alloc, document, permissions)? {
@@ -101,7 +108,8 @@ fn check_classes(
 ) -> Result<(), DeclFault>
     requires { faults_of version (table_view document.now) ≡ [] }
     ensures ok { OnOk result (class_faults (records_of (table_view document.now)) ≡ []) }
-    ensures fault { IfErr result (λ fault. (next : Result Declarations Refusal) → Tells names.new fault (refuse class (class_faults (records_of (table_view document.now))) next)) }
+    ensures fault { IfErr result (λ fault. (next : Result Declarations Refusal)
+        → Tells names.new fault (refuse class (class_faults (records_of (table_view document.now))) next)) }
     ensures fault_held { IfErr result (IsFaultHeld names.new) }
     ensures grown { GrowsTo names.old names.new }
 {
@@ -115,7 +123,8 @@ fn check_classes(
 fn check_groups(alloc: Global, document: &Table, groups: &Sorted) -> Result<(), DeclFault>
     requires { groups.now ≡ group_ids (records_of (table_view document.now)) }
     ensures ok { OnOk result (group_faults (records_of (table_view document.now)) ≡ []) }
-    ensures fault { IfErr result (λ fault. (names : List (List ℕ)) (next : Result Declarations Refusal) → Tells names fault (refuse group (group_faults (records_of (table_view document.now))) next)) }
+    ensures fault { IfErr result (λ fault. (names : List (List ℕ)) (next : Result Declarations Refusal)
+        → Tells names fault (refuse group (group_faults (records_of (table_view document.now))) next)) }
     ensures fault_held { IfErr result (λ fault. (names : List (List ℕ)) → IsFaultHeld names fault) }
 {
     match group_fault(alloc, document, groups)? {
@@ -127,7 +136,8 @@ fn check_groups(alloc: Global, document: &Table, groups: &Sorted) -> Result<(), 
 fn check_roles(alloc: Global, document: &Table, roles: &Sorted) -> Result<(), DeclFault>
     requires { roles.now ≡ role_ids (records_of (table_view document.now)) }
     ensures ok { OnOk result (role_faults (records_of (table_view document.now)) ≡ []) }
-    ensures fault { IfErr result (λ fault. (names : List (List ℕ)) (next : Result Declarations Refusal) → Tells names fault (refuse role (role_faults (records_of (table_view document.now))) next)) }
+    ensures fault { IfErr result (λ fault. (names : List (List ℕ)) (next : Result Declarations Refusal)
+        → Tells names fault (refuse role (role_faults (records_of (table_view document.now))) next)) }
     ensures fault_held { IfErr result (λ fault. (names : List (List ℕ)) → IsFaultHeld names fault) }
 {
     match role_fault(alloc, document, roles)? {

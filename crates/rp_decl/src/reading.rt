@@ -39,7 +39,8 @@ pub(crate) trait Record: Drop + Sized {
         value: &Value,
     ) -> Result<Self, Memory>
         requires { is_known known.now (said key.now (view value.now)) }
-        ensures record_read { IfOk result (λ r. FromNowOn names.new (λ names. shows names known.now r (said key.now (view value.now)))) }
+        ensures record_read { IfOk result
+            (λ r. FromNowOn names.new (λ names. shows names known.now r (said key.now (view value.now)))) }
         ensures grown { GrowsTo names.old names.new };
 }
 
@@ -52,7 +53,8 @@ pub(crate) fn records_at<R: Record>(
     key: &str,
 ) -> Result<Vec<R>, Memory>
     requires { AllByRecursion (R.is_known known.now) (each_at R.said key.now (table_view table.now)) }
-    ensures records { IfOk result (λ records. FromNowOn names.new (λ names. Shows (R.shows names known.now) records.items (each_at R.said key.now (table_view table.now)) [])) }
+    ensures records { IfOk result (λ records. FromNowOn names.new
+        (λ names. Shows (R.shows names known.now) records.items (each_at R.said key.now (table_view table.now)) [])) }
     ensures ordered { IfOk result (λ records. AreAscending (each_at key_text key.now (table_view table.now))) }
     ensures grown { GrowsTo names.old names.new }
 {
@@ -69,7 +71,9 @@ fn records_in<R: Record>(
     value: &Value,
 ) -> Result<Vec<R>, Memory>
     requires { AllByRecursion (R.is_known known.now) (each_member R.said (members_of (view value.now))) }
-    ensures records { IfOk result (λ records. FromNowOn names.new (λ names. Shows (R.shows names known.now) records.items (each_member R.said (members_of (view value.now))) [])) }
+    ensures records { IfOk result (λ records. FromNowOn names.new
+        (λ names. Shows (R.shows names known.now) records.items
+        (each_member R.said (members_of (view value.now))) [])) }
     ensures ordered { IfOk result (λ records. AreAscending (each_member key_text (members_of (view value.now)))) }
     ensures grown { GrowsTo names.old names.new }
 {
@@ -86,7 +90,8 @@ fn each_record<R: Record>(
     table: &Table,
 ) -> Result<Vec<R>, Memory>
     requires { AllByRecursion (R.is_known known.now) (each_member R.said (table_view table.now)) }
-    ensures records { IfOk result (λ records. FromNowOn names.new (λ names. Shows (R.shows names known.now) records.items (each_member R.said (table_view table.now)) [])) }
+    ensures records { IfOk result (λ records. FromNowOn names.new
+        (λ names. Shows (R.shows names known.now) records.items (each_member R.said (table_view table.now)) [])) }
     ensures ordered { IfOk result (λ records. AreAscending (each_member key_text (table_view table.now))) }
     ensures grown { GrowsTo names.old names.new }
 {
@@ -107,7 +112,9 @@ pub(crate) fn records_of<R: Record>(
     key: &str,
 ) -> Result<Vec<R>, Memory>
     requires { AllByRecursion (R.is_known known.now) (each_at R.said key.now (members_of (view value.now))) }
-    ensures records { IfOk result (λ records. FromNowOn names.new (λ names. Shows (R.shows names known.now) records.items (each_at R.said key.now (members_of (view value.now))) [])) }
+    ensures records { IfOk result (λ records. FromNowOn names.new
+        (λ names. Shows (R.shows names known.now) records.items
+        (each_at R.said key.now (members_of (view value.now))) [])) }
     ensures ordered { IfOk result (λ records. AreAscending (each_at key_text key.now (members_of (view value.now)))) }
     ensures grown { GrowsTo names.old names.new }
 {
@@ -166,7 +173,8 @@ fn places_at<P: Place>(
     key: &str,
 ) -> Result<Vec<P>, Memory>
     requires { AllByRecursion (IsAmong known.now) (texts_at key.now (table_view table.now)) }
-    ensures { IfOk result (λ places. Shows (λ p. ShowsPlace known.now (P.number p)) places.items (texts_at key.now (table_view table.now)) []) }
+    ensures { IfOk result (λ places. Shows (λ p. ShowsPlace known.now (P.number p)) places.items
+        (texts_at key.now (table_view table.now)) []) }
 {
     match member(table, key) {
         Some(value) => places_in(alloc, known, value),
@@ -182,7 +190,8 @@ pub(crate) fn places_of<P: Place>(
     key: &str,
 ) -> Result<Vec<P>, Memory>
     requires { AllByRecursion (IsAmong known.now) (texts_at key.now (members_of (view value.now))) }
-    ensures { IfOk result (λ places. Shows (λ p. ShowsPlace known.now (P.number p)) places.items (texts_at key.now (members_of (view value.now))) []) }
+    ensures { IfOk result (λ places. Shows (λ p. ShowsPlace known.now (P.number p)) places.items
+        (texts_at key.now (members_of (view value.now))) []) }
 {
     match value {
         Value::Table(table) => places_at(alloc, known, table, key),
@@ -192,7 +201,8 @@ pub(crate) fn places_of<P: Place>(
 
 fn places_in<P: Place>(alloc: Global, known: &Sorted, value: &Value) -> Result<Vec<P>, Memory>
     requires { AllByRecursion (IsAmong known.now) (texts_of (view value.now)) }
-    ensures { IfOk result (λ places. Shows (λ p. ShowsPlace known.now (P.number p)) places.items (texts_of (view value.now)) []) }
+    ensures { IfOk result (λ places. Shows (λ p. ShowsPlace known.now (P.number p)) places.items
+        (texts_of (view value.now)) []) }
 {
     match value {
         Value::Array(items) => each_place(alloc, known, items),
@@ -202,7 +212,8 @@ fn places_in<P: Place>(alloc: Global, known: &Sorted, value: &Value) -> Result<V
 
 fn each_place<P: Place>(alloc: Global, known: &Sorted, items: &Array) -> Result<Vec<P>, Memory>
     requires { AllByRecursion (IsAmong known.now) (item_texts (array_view items.now)) }
-    ensures { IfOk result (λ places. Shows (λ p. ShowsPlace known.now (P.number p)) places.items (item_texts (array_view items.now)) []) }
+    ensures { IfOk result (λ places. Shows (λ p. ShowsPlace known.now (P.number p)) places.items
+        (item_texts (array_view items.now)) []) }
 {
     let mut places = Vec::new(alloc);
     for item in items {
@@ -220,7 +231,8 @@ pub(crate) fn names_at(
     key: &str,
 ) -> Result<Vec<Name>, Memory>
     requires { AllByRecursion IsName (texts_at key.now (table_view table.now)) }
-    ensures shown { IfOk result (λ words. FromNowOn names.new (λ names. Shows (ShowsName names) words.items (texts_at key.now (table_view table.now)) [])) }
+    ensures shown { IfOk result (λ words. FromNowOn names.new
+        (λ names. Shows (ShowsName names) words.items (texts_at key.now (table_view table.now)) [])) }
     ensures grown { GrowsTo names.old names.new }
 {
     match member(table, key) {
@@ -231,7 +243,8 @@ pub(crate) fn names_at(
 
 fn names_in(alloc: Global, names: &mut Names, value: &Value) -> Result<Vec<Name>, Memory>
     requires { AllByRecursion IsName (texts_of (view value.now)) }
-    ensures shown { IfOk result (λ words. FromNowOn names.new (λ names. Shows (ShowsName names) words.items (texts_of (view value.now)) [])) }
+    ensures shown { IfOk result (λ words. FromNowOn names.new
+        (λ names. Shows (ShowsName names) words.items (texts_of (view value.now)) [])) }
     ensures grown { GrowsTo names.old names.new }
 {
     match value {
@@ -242,7 +255,8 @@ fn names_in(alloc: Global, names: &mut Names, value: &Value) -> Result<Vec<Name>
 
 fn each_name(alloc: Global, names: &mut Names, items: &Array) -> Result<Vec<Name>, Memory>
     requires { AllByRecursion IsName (item_texts (array_view items.now)) }
-    ensures shown { IfOk result (λ words. FromNowOn names.new (λ names. Shows (ShowsName names) words.items (item_texts (array_view items.now)) [])) }
+    ensures shown { IfOk result (λ words. FromNowOn names.new
+        (λ names. Shows (ShowsName names) words.items (item_texts (array_view items.now)) [])) }
     ensures grown { GrowsTo names.old names.new }
 {
     let mut words = Vec::new(alloc);

@@ -1,7 +1,8 @@
 //! Rings of classes that are like one another.
 
 ghost use Rattle.std.specs.List.{list_any};
-ghost use Rattle.std.specs.Prelude.{◌<◌, ◌||◌, ◌≡◌, ℕ, List, IfOk, None, Some, codes, false, filter, get_or, if◌then◌else◌, length, map, option_and_then};
+ghost use Rattle.std.specs.Prelude.{◌<◌, ◌||◌, ◌≡◌, ℕ, List, IfOk, None, Some, codes, false, filter, get_or};
+ghost use Rattle.std.specs.Prelude.{if◌then◌else◌, length, map, option_and_then};
 ghost use Rattle.toml.specs.View.{table_view, view};
 ghost use Rattle.rp_decl.specs.Consistency.{class_names, is_on_ring};
 ghost use Rattle.rp_decl.specs.Document.{class_of, each_at, each_member, members_of, records_of, text_at};
@@ -22,7 +23,8 @@ pub(crate) fn ring_fault(
     document: &Table,
 ) -> Result<Option<Text>, Memory>
     requires { classes.now ≡ class_names (records_of (table_view document.now)) }
-    ensures { IfOk result (λ fault. let d = records_of (table_view document.now) in fault ≡ least (filter (is_on_ring d) (class_names d))) }
+    ensures { IfOk result (λ fault. let d = records_of (table_view document.now) in fault
+        ≡ least (filter (is_on_ring d) (class_names d))) }
 {
     let likes = likes(alloc, classes, document)?;
     let rings = on_rings(alloc, likes.as_slice())?;
@@ -56,16 +58,19 @@ fn is_marked(marks: &[bool], place: usize) -> bool
 
 /// For each place whether it is reached again from itself.
 fn on_rings(alloc: Global, likes: &[Option<usize>]) -> Result<Vec<bool>, Memory>
-    ensures { IfOk result (λ rings. (place : ℕ) → place < length likes.now → get_or rings.items place false ≡ is_reached likes.now (length likes.now) place) }
+    ensures { IfOk result (λ rings. (place : ℕ) → place < length likes.now → get_or rings.items place false
+        ≡ is_reached likes.now (length likes.now) place) }
 {
     let ends = ends(alloc, likes)?;
     led_to(alloc, ends.as_slice())
 }
 
-/// Where each place leads in more steps than there are places, which is on a ring: a chain with no ring has no place twice.
+/// Where each place leads in more steps than there are places, which is on a ring: a chain with no ring has no place
+/// twice.
 fn ends(alloc: Global, likes: &[Option<usize>]) -> Result<Vec<Option<usize>>, Memory>
     ensures as_many { IfOk result (λ ends. length ends.items ≡ length likes.now) }
-    ensures on_rings { IfOk result (λ ends. (place : ℕ) → list_any (is_place place) ends.items ≡ is_reached likes.now (length likes.now) place) }
+    ensures on_rings { IfOk result (λ ends. (place : ℕ) → list_any (is_place place) ends.items
+        ≡ is_reached likes.now (length likes.now) place) }
 {
     let mut ends = twice(alloc, likes)?;
     let mut steps = 2;
@@ -98,7 +103,8 @@ fn from(ends: &[Option<usize>], place: Option<usize>) -> Option<usize>
 
 /// For each place whether one of the ends is there.
 fn led_to(alloc: Global, ends: &[Option<usize>]) -> Result<Vec<bool>, Memory>
-    ensures { IfOk result (λ marks. (place : ℕ) → place < length ends.now → get_or marks.items place false ≡ list_any (is_place place) ends.now) }
+    ensures { IfOk result (λ marks. (place : ℕ) → place < length ends.now → get_or marks.items place false
+        ≡ list_any (is_place place) ends.now) }
 {
     let mut marks = vec![in alloc; false; ends.len()]?;
     for end in ends.iter() {
@@ -110,7 +116,8 @@ fn led_to(alloc: Global, ends: &[Option<usize>]) -> Result<Vec<bool>, Memory>
 /// Marks a place, where there is one among the marks.
 fn mark(marks: &mut [bool], end: Option<usize>)
     ensures as_many { length marks.new ≡ length marks.old }
-    ensures marked { (place : ℕ) → place < length marks.old → get_or marks.new place false ≡ (is_place place end || get_or marks.old place false) }
+    ensures marked { (place : ℕ) → place < length marks.old → get_or marks.new place false
+        ≡ (is_place place end || get_or marks.old place false) }
 {
     if let Some(place) = end {
         if place < marks.len() {
@@ -130,7 +137,8 @@ fn next(likes: &[Option<usize>], place: usize) -> Option<usize>
 
 /// For each class the place of the class that it is like.
 fn likes(alloc: Global, classes: &Sorted, document: &Table) -> Result<Vec<Option<usize>>, Memory>
-    ensures { IfOk result (λ likes. likes.items ≡ map (like_place classes.now) (each_at class_of (codes "class") (table_view document.now))) }
+    ensures { IfOk result (λ likes. likes.items
+        ≡ map (like_place classes.now) (each_at class_of (codes "class") (table_view document.now))) }
 {
     match member(document, "class") {
         Some(value) => likes_in(alloc, classes, value),
@@ -139,7 +147,8 @@ fn likes(alloc: Global, classes: &Sorted, document: &Table) -> Result<Vec<Option
 }
 
 fn likes_in(alloc: Global, classes: &Sorted, value: &Value) -> Result<Vec<Option<usize>>, Memory>
-    ensures { IfOk result (λ likes. likes.items ≡ map (like_place classes.now) (each_member class_of (members_of (view value.now)))) }
+    ensures { IfOk result (λ likes. likes.items
+        ≡ map (like_place classes.now) (each_member class_of (members_of (view value.now)))) }
 {
     match value {
         Value::Table(table) => each_like(alloc, classes, table),
@@ -148,7 +157,8 @@ fn likes_in(alloc: Global, classes: &Sorted, value: &Value) -> Result<Vec<Option
 }
 
 fn each_like(alloc: Global, classes: &Sorted, table: &Table) -> Result<Vec<Option<usize>>, Memory>
-    ensures { IfOk result (λ likes. likes.items ≡ map (like_place classes.now) (each_member class_of (table_view table.now))) }
+    ensures { IfOk result (λ likes. likes.items
+        ≡ map (like_place classes.now) (each_member class_of (table_view table.now))) }
 {
     let mut likes = Vec::new(alloc);
     for (_name, class) in table.iter() {

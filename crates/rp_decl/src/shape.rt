@@ -5,7 +5,8 @@ ghost use Rattle.toml.specs.Data.{Data};
 ghost use Rattle.toml.specs.View.{view, array_view, table_view};
 ghost use Rattle.rp_decl.specs.Order.{least};
 ghost use Rattle.rp_decl.specs.Path.{path_of};
-ghost use Rattle.rp_decl.specs.Shape.{all_members, are_texts, entries, entry_member, is_array, is_text, table_of, text, texts, unless};
+ghost use Rattle.rp_decl.specs.Shape.{all_members, are_texts, entries, entry_member, is_array, is_text, table_of, text};
+ghost use Rattle.rp_decl.specs.Shape.{texts, unless};
 ghost use Rattle.rp_decl.specs.Test.{admits};
 
 use crate::least::lesser_of;
@@ -50,7 +51,8 @@ pub(crate) trait Keyed {
         key: &'p str,
         value: &'p Value,
     ) -> Result<Option<Text>, Memory>
-        ensures { IfOk result (λ fault. fault ≡ least (member_faults self.now (path_of path.now) key.now (view value.now))) };
+        ensures { IfOk result (λ fault. fault
+            ≡ least (member_faults self.now (path_of path.now) key.now (view value.now))) };
 }
 
 /// The fault that there is at a path.
@@ -133,7 +135,8 @@ pub(crate) fn keyed_fault<'p, K: Keyed>(
     path: &'p Path<'p>,
     value: &'p Value,
 ) -> Result<Option<Text>, Memory>
-    ensures { IfOk result (λ fault. fault ≡ least (table_of (K.member_faults keys.now (path_of path.now)) (path_of path.now) (view value.now))) }
+    ensures { IfOk result (λ fault. fault
+        ≡ least (table_of (K.member_faults keys.now (path_of path.now)) (path_of path.now) (view value.now))) }
 {
     match value {
         Value::Table(table) => members_fault(alloc, keys, path, table),
@@ -148,7 +151,8 @@ pub(crate) fn members_fault<'p, K: Keyed>(
     path: &'p Path<'p>,
     table: &'p Table,
 ) -> Result<Option<Text>, Memory>
-    ensures { IfOk result (λ fault. fault ≡ least (all_members (K.member_faults keys.now (path_of path.now)) (table_view table.now))) }
+    ensures { IfOk result (λ fault. fault
+        ≡ least (all_members (K.member_faults keys.now (path_of path.now)) (table_view table.now))) }
 {
     let mut least = None;
     for (key, value) in table.iter() {
@@ -165,7 +169,8 @@ pub(crate) fn entries_fault<'p, E: Entry>(
     path: &'p Path<'p>,
     value: &'p Value,
 ) -> Result<Option<Text>, Memory>
-    ensures { IfOk result (λ fault. fault ≡ least (entries (E.admits entry.now) (E.faults entry.now) (path_of path.now) (view value.now))) }
+    ensures { IfOk result (λ fault. fault
+        ≡ least (entries (E.admits entry.now) (E.faults entry.now) (path_of path.now) (view value.now))) }
 {
     match value {
         Value::Table(table) => each_entry_fault(alloc, entry, path, table),
@@ -179,7 +184,9 @@ fn each_entry_fault<'p, E: Entry>(
     path: &'p Path<'p>,
     table: &'p Table,
 ) -> Result<Option<Text>, Memory>
-    ensures { IfOk result (λ fault. fault ≡ least (all_members (entry_member (E.admits entry.now) (E.faults entry.now) (path_of path.now)) (table_view table.now))) }
+    ensures { IfOk result (λ fault. fault
+        ≡ least (all_members (entry_member (E.admits entry.now) (E.faults entry.now) (path_of path.now))
+        (table_view table.now))) }
 {
     let mut least = None;
     for (key, value) in table.iter() {
@@ -197,7 +204,9 @@ fn entry_fault<'p, E: Entry>(
     key: &str,
     value: &'p Value,
 ) -> Result<Option<Text>, Memory>
-    ensures { IfOk result (λ fault. fault ≡ least (unless (E.admits entry.now (chars key.now)) (path_of path.now) ++ E.faults entry.now (path_of path.now) (view value.now))) }
+    ensures { IfOk result (λ fault. fault
+        ≡ least (unless (E.admits entry.now (chars key.now)) (path_of path.now) ++ E.faults entry.now
+        (path_of path.now) (view value.now))) }
 {
     let passes = entry.admits(alloc, key)?;
     let fault = fault_unless(alloc, passes, path)?;

@@ -6,7 +6,9 @@ ghost use Rattle.toml.specs.Data.{get_member, same_key, table as table_data};
 ghost use Rattle.toml.specs.View.{view, array_view, table_view};
 ghost use Rattle.rp_decl.specs.Order.{least};
 ghost use Rattle.rp_decl.specs.Path.{path_of};
-ghost use Rattle.rp_decl.specs.Shape.{at_key, faults_of, field_items, field_members, field_value, group_keys, keyed_member, object, object_keys, principal_keys, rows, unless, version_2_keys, within};
+ghost use Rattle.rp_decl.specs.Shape.{at_key, faults_of, field_items, field_members, field_value, group_keys};
+ghost use Rattle.rp_decl.specs.Shape.{keyed_member, object, object_keys, principal_keys, rows, unless, version_2_keys};
+ghost use Rattle.rp_decl.specs.Shape.{within};
 
 use crate::document::is_key;
 use crate::least::lesser_of;
@@ -378,7 +380,8 @@ fn version_2_fault<'p>(
     key: &str,
     value: &'p Value,
 ) -> Result<Option<Text>, Memory>
-    ensures { IfOk result (λ fault. fault ≡ least (at_key (version_2_keys version) key.now (path_of path.now) (view value.now))) }
+    ensures { IfOk result (λ fault. fault
+        ≡ least (at_key (version_2_keys version) key.now (path_of path.now) (view value.now))) }
 {
     if version == 2 && is_key(key, "role") {
         let keys = IdArrays {

@@ -3,7 +3,8 @@
 ghost use Rattle.std.specs.Prelude.{◌≡◌, ◌∷◌, [], IfOk, OnOk, chars, codes, fold};
 ghost use Rattle.std.specs.BTreeSet.{insert_key};
 ghost use Rattle.toml.specs.View.{array_view, table_view, view};
-ghost use Rattle.rp_decl.specs.Document.{each_at, each_member, item_texts, key_text, members_of, public, text_of, texts_at, texts_of};
+ghost use Rattle.rp_decl.specs.Document.{each_at, each_member, item_texts, key_text, members_of, public, text_of};
+ghost use Rattle.rp_decl.specs.Document.{texts_at, texts_of};
 ghost use Rattle.rp_decl.specs.InOrder.{AreAscending};
 ghost use Rattle.rp_decl.specs.Order.{place_of, sorted_set, text_cmp};
 
@@ -77,7 +78,8 @@ impl Sorted {
 
     /// The permissions of a document, `zope.Public` among them.
     pub(crate) fn permissions(alloc: Global, document: &Table) -> Result<Sorted, Memory>
-        ensures { IfOk result (λ s. s ≡ sorted_set (public ∷ texts_at (codes "permissions") (table_view document.now))) }
+        ensures { IfOk result (λ s. s ≡ sorted_set
+            (public ∷ texts_at (codes "permissions") (table_view document.now))) }
     {
         let mut ids = BTreeSet::new(alloc);
         ids.insert(Text::new(alloc, PUBLIC)?)?;
@@ -129,7 +131,8 @@ fn insert_texts_at(
     table: &Table,
     key: &str,
 ) -> Result<(), Memory>
-    ensures { OnOk result (set.new.keys ≡ fold (insert_key text_cmp) set.old.keys (texts_at key.now (table_view table.now))) }
+    ensures { OnOk result (set.new.keys ≡ fold (insert_key text_cmp) set.old.keys
+        (texts_at key.now (table_view table.now))) }
 {
     match member(table, key) {
         Some(value) => insert_array(alloc, set, value),

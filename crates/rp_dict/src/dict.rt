@@ -1,5 +1,6 @@
 //! The dict that callers see.
-ghost use Rattle.std.specs.Prelude.{◌≡◌, ◌↔◌, ◌^◌, ◌<◌, [], IfErr, IfOk, IsTrue, None, OnErr, OnOk, Some, length, option_map, slice_get};
+ghost use Rattle.std.specs.Prelude.{◌≡◌, ◌↔◌, ◌^◌, ◌<◌, [], IfErr, IfOk, IsTrue, None, OnErr, OnOk, Some, length};
+ghost use Rattle.std.specs.Prelude.{option_map, slice_get};
 ghost use Rattle.std.specs.Option.{option_copied};
 ghost use Rattle.std.specs.Map.{lookup, remove_entry};
 ghost use Rattle.std.specs.Map.Iter.{deref_pair};
@@ -85,8 +86,9 @@ impl<K: Eq + Hash, V> Dict<K, V> {
         self.form.get(key)
     }
 
-    /// The pair at a place, counted from 0. None exactly where the place is not below the length. It takes constant time
-    /// until a key is taken out; then it may take a step for each 1,024 pairs and 1,024 more. `walk` gives all in turn.
+    /// The pair at a place, counted from 0. None exactly where the place is not below the length. It takes constant
+    /// time until a key is taken out; then it may take a step for each 1,024 pairs and 1,024 more. `walk` gives all in
+    /// turn.
     pub fn at(&self, i: usize) -> Option<(&K, &V)>
         ensures pair { option_map deref_pair result ≡ slice_get self.now i }
         ensures distinct { HasDistinctKeys K.eq self.now }

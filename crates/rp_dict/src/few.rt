@@ -1,5 +1,6 @@
 //! Pairs in one vector, walked from the front.
-ghost use Rattle.std.specs.Prelude.{◌≡◌, ◌∷◌, [], IfErr, IfOk, MatchOption, None, OnErr, OnOk, Some, drop, option_map, position, slice_get};
+ghost use Rattle.std.specs.Prelude.{◌≡◌, ◌∷◌, [], IfErr, IfOk, MatchOption, None, OnErr, OnOk, Some, drop, option_map};
+ghost use Rattle.std.specs.Prelude.{position, slice_get};
 ghost use Rattle.std.specs.Option.{option_copied};
 ghost use Rattle.std.specs.Map.{lookup, remove_entry};
 ghost use Rattle.std.specs.Map.Iter.{deref_pair};
@@ -30,7 +31,8 @@ pub fn at<K, V>(pairs: &[(K, V)], i: usize) -> Option<(&K, &V)>
 
 /// The first pair at a place or after it, and the place after it.
 pub fn next<'a, K, V>(pairs: &'a [(K, V)], place: usize) -> Option<(usize, &'a K, &'a V)>
-    ensures { MatchOption result (drop place pairs.now ≡ []) (λ r. drop place pairs.now ≡ (r.1.now, r.2.now) ∷ drop r.0 pairs.now) }
+    ensures { MatchOption result (drop place pairs.now ≡ []) (λ r. drop place pairs.now
+        ≡ (r.1.now, r.2.now) ∷ drop r.0 pairs.now) }
 {
     if place < pairs.len() {
         let pair = &pairs[place];

@@ -1,5 +1,6 @@
 //! The two forms in which a dict is kept.
-ghost use Rattle.std.specs.Prelude.{◌≡◌, ◌^◌, ◌<◌, [], IfErr, IfOk, None, OnErr, OnOk, Some, length, option_map, slice_get};
+ghost use Rattle.std.specs.Prelude.{◌≡◌, ◌^◌, ◌<◌, [], IfErr, IfOk, None, OnErr, OnOk, Some, length, option_map};
+ghost use Rattle.std.specs.Prelude.{slice_get};
 ghost use Rattle.std.specs.Option.{option_copied};
 ghost use Rattle.std.specs.Map.{lookup, remove_entry};
 ghost use Rattle.std.specs.Map.Iter.{deref_pair};
@@ -168,7 +169,8 @@ impl<K: Eq + Hash, A, B> Form<K, (A, B)> {
     /// comes back.
     pub(crate) fn set_second(&mut self, key: &K, value: B) -> Result<B, B>
         ensures set { pairs_of self.new ≡ with_second (K.eq key.now) value (pairs_of self.old) }
-        ensures held { IfOk result (λ old. option_map (λ pair. pair.1) (lookup (K.eq key.now) (pairs_of self.old)) ≡ Some old) }
+        ensures held { IfOk result (λ old. option_map (λ pair. pair.1) (lookup (K.eq key.now) (pairs_of self.old))
+            ≡ Some old) }
         ensures absent { IfErr result (λ same. (same ≡ value) × (lookup (K.eq key.now) (pairs_of self.old) ≡ None)) }
         ensures same { OnErr result (pairs_of self.new ≡ pairs_of self.old) }
     {

@@ -186,7 +186,8 @@ pub(crate) fn lower<K: Eq + Hash, V>(
     requires pair { rank map.now.entries place + 1 ≡ rank map.now.entries (place + 1) }
     requires within { place < length map.now.entries }
     ensures blocks { (mark : ℕ) → AreBlocks ranks.new.counts.items (slice_set map.now.entries place (Dead mark, None)) }
-    ensures stand { (mark : ℕ) → IsPlace ranks.new.index ranks.new.place (slice_set map.now.entries place (Dead mark, None)) }
+    ensures stand { (mark : ℕ) → IsPlace ranks.new.index ranks.new.place
+        (slice_set map.now.entries place (Dead mark, None)) }
 {
     lower_block(map, &mut ranks.counts, place);
     if place < ranks.place {

@@ -1,5 +1,6 @@
 //! Many pairs in a hash table, from which a key is taken out in amortised constant time.
-ghost use Rattle.std.specs.Prelude.{◌≡◌, ◌^◌, ◌<◌, ◌≤◌, ◌+◌, [], Err, None, Ok, OnErr, OnOk, IfErr, IfOk, MatchOption, Option, Some, filter, length, remove, slice_get, slice_index_or, slice_set};
+ghost use Rattle.std.specs.Prelude.{◌≡◌, ◌^◌, ◌<◌, ◌≤◌, ◌+◌, [], Err, None, Ok, OnErr, OnOk, IfErr, IfOk, MatchOption};
+ghost use Rattle.std.specs.Prelude.{Option, Some, filter, length, remove, slice_get, slice_index_or, slice_set};
 ghost use Rattle.std.specs.Option.{option_copied, option_map};
 ghost use Rattle.std.specs.Map.Iter.{deref_pair};
 ghost use Rattle.std.specs.Map.{lookup, remove_entry};
@@ -240,8 +241,10 @@ fn second_set<K: Eq + Hash, A, B>(
     value: B,
 ) -> Result<B, B>
     requires { place < length map.old.entries }
-    ensures set { (d : Slot K × Option (A × B)) → map.new.entries ≡ slice_set map.old.entries place (second_changed value (slice_index_or map.old.entries place d)) }
-    ensures held { (d : Slot K × Option (A × B)) → MatchOption (slice_index_or map.old.entries place d).1 (result ≡ Err value) (λ pair. result ≡ Ok pair.1) }
+    ensures set { (d : Slot K × Option (A × B)) → map.new.entries
+        ≡ slice_set map.old.entries place (second_changed value (slice_index_or map.old.entries place d)) }
+    ensures held { (d : Slot K × Option (A × B))
+        → MatchOption (slice_index_or map.old.entries place d).1 (result ≡ Err value) (λ pair. result ≡ Ok pair.1) }
 {
     let Some(held) = map.get_index_mut(place) else {
         return Err(value);

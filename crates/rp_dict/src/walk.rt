@@ -60,7 +60,8 @@ impl<'a, K: Eq + Hash, V> Walk<'a, K, V> {
 
     /// The next pair. None exactly where none is left.
     pub fn next(&mut self) -> Option<(&'a K, &'a V)>
-        ensures { MatchOption result ((self.old ≡ []) × (self.new ≡ [])) (λ p. self.old ≡ (p.0.now, p.1.now) ∷ self.new) }
+        ensures { MatchOption result ((self.old ≡ []) × (self.new ≡ [])) (λ p. self.old
+            ≡ (p.0.now, p.1.now) ∷ self.new) }
     {
         match next_of(&self.rest, self.place) {
             Some((place, key, value)) => {
@@ -77,7 +78,8 @@ fn next_of<'a, K: Eq + Hash, V>(
     rest: &Rest<'a, K, V>,
     place: usize,
 ) -> Option<(usize, &'a K, &'a V)>
-    ensures { MatchOption result (rest_of rest.now place ≡ []) (λ r. rest_of rest.now place ≡ (r.1.now, r.2.now) ∷ rest_of rest.now r.0) }
+    ensures { MatchOption result (rest_of rest.now place ≡ []) (λ r. rest_of rest.now place
+        ≡ (r.1.now, r.2.now) ∷ rest_of rest.now r.0) }
 {
     match rest {
         Rest::Few(pairs) => few::next(*pairs, place),
@@ -90,7 +92,8 @@ fn next_pair<'a, K: Eq + Hash, V>(
     map: &'a IndexMap<Slot<K>, Option<V>, Seed>,
     place: usize,
 ) -> Option<(usize, &'a K, &'a V)>
-    ensures { MatchOption result (live (drop place map.now.entries) ≡ []) (λ r. live (drop place map.now.entries) ≡ (r.1.now, r.2.now) ∷ live (drop r.0 map.now.entries)) }
+    ensures { MatchOption result (live (drop place map.now.entries) ≡ []) (λ r. live (drop place map.now.entries)
+        ≡ (r.1.now, r.2.now) ∷ live (drop r.0 map.now.entries)) }
 {
     let mut at = place;
     while at < map.len() {
@@ -106,7 +109,8 @@ fn next_pair<'a, K: Eq + Hash, V>(
 }
 
 pub(crate) fn pair<'a, K, V>(slot: &'a Slot<K>, value: &'a Option<V>) -> Option<(&'a K, &'a V)>
-    ensures { (ps : List (K × V)) → MatchOption result (before slot.now value.now ps ≡ ps) (λ p. before slot.now value.now ps ≡ (p.0.now, p.1.now) ∷ ps) }
+    ensures { (ps : List (K × V)) → MatchOption result (before slot.now value.now ps ≡ ps)
+        (λ p. before slot.now value.now ps ≡ (p.0.now, p.1.now) ∷ ps) }
 {
     match slot {
         Slot::Live(key) => match value {

@@ -102,7 +102,8 @@ pub fn atom(alloc: Global, tokens: &[Token], depth: usize) -> Read<'_, Expr>
 #[cycle(expr)]
 #[tactic(auto, using(rp_tree::proofs::ExpressionEquations::variants))]
 fn atom_at<'a>(alloc: Global, token: &Token, rest: &'a [Token], depth: usize) -> Read<'a, Expr>
-    ensures { Gives (λ x. (v.view_expr x.0, x.1.now)) result (r.atom_by token.now.kind (r.readers depth) token.now.line rest.now) }
+    ensures { Gives (λ x. (v.view_expr x.0, x.1.now)) result
+        (r.atom_by token.now.kind (r.readers depth) token.now.line rest.now) }
 {
     let line = token.line;
     match &token.kind {

@@ -25,7 +25,8 @@ fn part(alloc: Global, tokens: &[Token], depth: usize) -> Read<'_, Target>
 
 #[cycle(expr)]
 fn parts(alloc: Global, first: Target, tokens: &[Token], depth: usize) -> Read<'_, Vec<Target>>
-    ensures { Gives (λ x. (v.targets_of (map v.view_target x.0.items), x.1.now)) result (r.parts (r.readers depth) (v.view_target first) tokens.now) }
+    ensures { Gives (λ x. (v.targets_of (map v.view_target x.0.items), x.1.now)) result
+        (r.parts (r.readers depth) (v.view_target first) tokens.now) }
 {
     let mut found = Vec::with_capacity(alloc, 1)?;
     found.push(first)?;
@@ -57,7 +58,8 @@ pub fn target(alloc: Global, tokens: &[Token], depth: usize) -> Read<'_, Target>
 
 #[cycle(expr)]
 fn ifs(alloc: Global, tokens: &[Token], depth: usize) -> Read<'_, Vec<Expr>>
-    ensures { Gives (λ x. (v.exprs_of (map v.view_expr x.0.items), x.1.now)) result (r.ifs (r.readers depth) tokens.now) }
+    ensures { Gives (λ x. (v.exprs_of (map v.view_expr x.0.items), x.1.now)) result
+        (r.ifs (r.readers depth) tokens.now) }
 {
     let mut found = Vec::new(alloc);
     let mut rest = tokens;
@@ -89,7 +91,8 @@ fn clause(alloc: Global, tokens: &[Token], depth: usize) -> Read<'_, Clause>
 /// The clauses of a comprehension.
 #[cycle(expr)]
 pub fn clauses(alloc: Global, tokens: &[Token], depth: usize) -> Read<'_, Vec<Clause>>
-    ensures { Gives (λ x. (v.clauses_of (map v.view_clause x.0.items), x.1.now)) result (r.clauses (r.readers depth) tokens.now) }
+    ensures { Gives (λ x. (v.clauses_of (map v.view_clause x.0.items), x.1.now)) result
+        (r.clauses (r.readers depth) tokens.now) }
 {
     let mut found = Vec::new(alloc);
     let mut rest = tokens;

@@ -14,7 +14,8 @@ use std::alloc::Global;
 
 /// An atom with the trailers that are left.
 fn with_trailers(alloc: Global, atom: Expr, trailers: Vec<Trailer>) -> Result<Expr, Fault>
-    ensures { Gives v.view_expr result (Some (c.with_trailers (v.view_expr atom) (v.trailers_of (map v.view_trailer trailers.items)))) }
+    ensures { Gives v.view_expr result (Some
+        (c.with_trailers (v.view_expr atom) (v.trailers_of (map v.view_trailer trailers.items)))) }
 {
     if trailers.is_empty() {
         return Ok(atom);
@@ -36,7 +37,8 @@ fn trailed_place(of: Expr, trailer: Trailer) -> Result<Place, Fault>
 }
 
 fn primary_place(alloc: Global, atom: Expr, trailers: Vec<Trailer>) -> Result<Place, Fault>
-    ensures { (line : _) → Gives v.view_place result (c.place_form line (t.primary (v.view_expr atom) (v.trailers_of (map v.view_trailer trailers.items)))) }
+    ensures { (line : _) → Gives v.view_place result
+        (c.place_form line (t.primary (v.view_expr atom) (v.trailers_of (map v.view_trailer trailers.items)))) }
 {
     let mut trailers = trailers;
     match trailers.pop() {
@@ -104,7 +106,8 @@ fn group_of(alloc: Global, exprs: Vec<Expr>) -> Result<Target, Fault>
 
 #[cycle(target)]
 fn targets_of(alloc: Global, exprs: Vec<Expr>) -> Result<Vec<Target>, Fault>
-    ensures { Gives (λ x. v.targets_of (map v.view_target x.items)) result (c.as_targets (v.exprs_of (map v.view_expr exprs.items))) }
+    ensures { Gives (λ x. v.targets_of (map v.view_target x.items)) result
+        (c.as_targets (v.exprs_of (map v.view_expr exprs.items))) }
 {
     let mut found = Vec::new(alloc);
     'exprs: for expr in exprs {

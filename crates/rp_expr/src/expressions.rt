@@ -95,7 +95,8 @@ fn lambda(alloc: Global, line: Line, tokens: &[Token], depth: usize) -> Read<'_,
 #[cycle(expr)]
 #[tactic(auto, unfolding(rp_grammar::specs::ExpressionReading::conditional), using(rp_tree::proofs::ExpressionEquations::variants))]
 fn conditional(alloc: Global, yes: Expr, tokens: &[Token], depth: usize) -> Read<'_, Expr>
-    ensures { Gives (λ x. (v.view_expr x.0, x.1.now)) result (r.conditional (r.readers depth) (v.view_expr yes) tokens.now) }
+    ensures { Gives (λ x. (v.view_expr x.0, x.1.now)) result
+        (r.conditional (r.readers depth) (v.view_expr yes) tokens.now) }
 {
     let (test, rest) = or(alloc, tokens, depth)?;
     let rest = after_else(rest)?;

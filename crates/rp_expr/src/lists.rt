@@ -16,7 +16,8 @@ use std::alloc::Global;
 /// An expression, and those behind it and a comma.
 #[cycle(expr)]
 pub fn exprs(alloc: Global, first: Expr, tokens: &[Token], depth: usize) -> Read<'_, Vec<Expr>>
-    ensures { Gives (λ x. (v.exprs_of (map v.view_expr x.0.items), x.1.now)) result (r.exprs (r.readers depth) (v.view_expr first) tokens.now) }
+    ensures { Gives (λ x. (v.exprs_of (map v.view_expr x.0.items), x.1.now)) result
+        (r.exprs (r.readers depth) (v.view_expr first) tokens.now) }
 {
     let mut found = Vec::with_capacity(alloc, 1)?;
     found.push(first)?;
@@ -36,7 +37,8 @@ pub fn exprs(alloc: Global, first: Expr, tokens: &[Token], depth: usize) -> Read
 #[cycle(expr)]
 #[tactic(auto, unfolding(rp_grammar::specs::ExpressionReading::others))]
 pub fn others(alloc: Global, first: Expr, tokens: &[Token], depth: usize) -> Read<'_, Vec<Expr>>
-    ensures { Gives (λ x. (v.exprs_of (map v.view_expr x.0.items), x.1.now)) result (r.others (r.readers depth) (v.view_expr first) tokens.now) }
+    ensures { Gives (λ x. (v.exprs_of (map v.view_expr x.0.items), x.1.now)) result
+        (r.others (r.readers depth) (v.view_expr first) tokens.now) }
 {
     if is_comma(tokens) {
         return exprs(alloc, first, skip(tokens), depth);
@@ -66,7 +68,8 @@ fn pairs(
     tokens: &[Token],
     depth: usize,
 ) -> Read<'_, Vec<(Expr, Expr)>>
-    ensures { Gives (λ x. (v.pairs_of (map v.view_pair x.0.items), x.1.now)) result (r.pairs (r.readers depth) (v.view_pair first) tokens.now) }
+    ensures { Gives (λ x. (v.pairs_of (map v.view_pair x.0.items), x.1.now)) result
+        (r.pairs (r.readers depth) (v.view_pair first) tokens.now) }
 {
     let mut found = Vec::with_capacity(alloc, 1)?;
     found.push(first)?;
@@ -91,7 +94,8 @@ pub fn other_pairs(
     tokens: &[Token],
     depth: usize,
 ) -> Read<'_, Vec<(Expr, Expr)>>
-    ensures { Gives (λ x. (v.pairs_of (map v.view_pair x.0.items), x.1.now)) result (r.other_pairs (r.readers depth) (v.view_pair first) tokens.now) }
+    ensures { Gives (λ x. (v.pairs_of (map v.view_pair x.0.items), x.1.now)) result
+        (r.other_pairs (r.readers depth) (v.view_pair first) tokens.now) }
 {
     if is_comma(tokens) {
         return pairs(alloc, first, skip(tokens), depth);

@@ -32,7 +32,9 @@ pub fn slicing(
     to: Option<Expr>,
     step: Option<Expr>,
 ) -> Result<Trailer, Fault>
-    ensures { Gives view_trailer result (Some (t.slice (maybe_of (option_map view_expr from)) (maybe_of (option_map view_expr to)) (maybe_of (option_map view_expr step)) None)) }
+    ensures { Gives view_trailer result (Some
+        (t.slice (maybe_of (option_map view_expr from)) (maybe_of (option_map view_expr to))
+        (maybe_of (option_map view_expr step)) None)) }
 {
     let slice = Box::new(alloc, Slice { from, to, step })?;
     Ok(Trailer::Slice(slice, None))

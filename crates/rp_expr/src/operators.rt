@@ -61,7 +61,8 @@ fn operations(
     tokens: &[Token],
     depth: usize,
 ) -> Read<'_, Vec<(BinOp, Expr)>>
-    ensures { Gives (λ x. (v.ops_of (map v.view_op x.0.items), x.1.now)) result (r.operations (suc level) (r.chain (r.readers depth) level) tokens.now) }
+    ensures { Gives (λ x. (v.ops_of (map v.view_op x.0.items), x.1.now)) result
+        (r.operations (suc level) (r.chain (r.readers depth) level) tokens.now) }
 {
     let mut found = Vec::new(alloc);
     let mut rest = tokens;
@@ -83,7 +84,8 @@ fn chained(
     tokens: &[Token],
     depth: usize,
 ) -> Read<'_, Expr>
-    ensures { Gives (λ x. (v.view_expr x.0, x.1.now)) result (r.chained_at (suc level) (r.chain (r.readers depth) level) (v.view_expr first) tokens.now) }
+    ensures { Gives (λ x. (v.view_expr x.0, x.1.now)) result
+        (r.chained_at (suc level) (r.chain (r.readers depth) level) (v.view_expr first) tokens.now) }
 {
     if !is_operator(level, tokens) {
         return Ok((first, tokens));
@@ -187,7 +189,8 @@ fn test(alloc: Global, tokens: &[Token], depth: usize) -> Read<'_, (Test, Expr)>
 
 #[cycle(expr)]
 fn tests(alloc: Global, tokens: &[Token], depth: usize) -> Read<'_, Vec<(Test, Expr)>>
-    ensures { Gives (λ x. (v.tests_of (map v.view_test x.0.items), x.1.now)) result (r.tests (r.readers depth) tokens.now) }
+    ensures { Gives (λ x. (v.tests_of (map v.view_test x.0.items), x.1.now)) result
+        (r.tests (r.readers depth) tokens.now) }
 {
     let mut found = Vec::new(alloc);
     let mut rest = tokens;
@@ -228,7 +231,8 @@ pub fn not(alloc: Global, tokens: &[Token], depth: usize) -> Read<'_, Expr>
 
 #[cycle(expr)]
 fn ands(alloc: Global, first: Expr, tokens: &[Token], depth: usize) -> Read<'_, Vec<Expr>>
-    ensures { Gives (λ x. (v.exprs_of (map v.view_expr x.0.items), x.1.now)) result (r.ands (r.readers depth) (v.view_expr first) tokens.now) }
+    ensures { Gives (λ x. (v.exprs_of (map v.view_expr x.0.items), x.1.now)) result
+        (r.ands (r.readers depth) (v.view_expr first) tokens.now) }
 {
     let mut found = Vec::with_capacity(alloc, 1)?;
     found.push(first)?;
@@ -257,7 +261,8 @@ fn and(alloc: Global, tokens: &[Token], depth: usize) -> Read<'_, Expr>
 
 #[cycle(expr)]
 fn ors(alloc: Global, first: Expr, tokens: &[Token], depth: usize) -> Read<'_, Vec<Expr>>
-    ensures { Gives (λ x. (v.exprs_of (map v.view_expr x.0.items), x.1.now)) result (r.ors (r.readers depth) (v.view_expr first) tokens.now) }
+    ensures { Gives (λ x. (v.exprs_of (map v.view_expr x.0.items), x.1.now)) result
+        (r.ors (r.readers depth) (v.view_expr first) tokens.now) }
 {
     let mut found = Vec::with_capacity(alloc, 1)?;
     found.push(first)?;

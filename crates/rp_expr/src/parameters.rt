@@ -63,7 +63,8 @@ fn star_params(tokens: &[Token]) -> Read<'_, (Option<Named>, Option<Named>)>
 #[cycle(expr)]
 #[tactic(auto, unfolding(rp_grammar::specs::ExpressionReading::plain))]
 fn plain(alloc: Global, defaults: bool, tokens: &[Token], depth: usize) -> Read<'_, (Plain, bool)>
-    ensures { Gives (λ x. ((g.plain_item (v.view_plain x.0.0), x.0.1), x.1.now)) result (r.plain (r.readers depth) defaults tokens.now) }
+    ensures { Gives (λ x. ((g.plain_item (v.view_plain x.0.0), x.0.1), x.1.now)) result
+        (r.plain (r.readers depth) defaults tokens.now) }
 {
     let (name, rest) = name(tokens)?;
     if is_equal(rest) {
@@ -78,7 +79,8 @@ fn plain(alloc: Global, defaults: bool, tokens: &[Token], depth: usize) -> Read<
 
 #[cycle(expr)]
 fn plains(alloc: Global, tokens: &[Token], depth: usize) -> Read<'_, (Vec<Plain>, bool)>
-    ensures { Gives (λ x. ((v.plain_of (map v.view_plain x.0.0.items), x.0.1), x.1.now)) result (r.plains (r.readers depth) tokens.now) }
+    ensures { Gives (λ x. ((v.plain_of (map v.view_plain x.0.0.items), x.0.1), x.1.now)) result
+        (r.plains (r.readers depth) tokens.now) }
 {
     let mut found = Vec::new(alloc);
     let mut defaults = false;

@@ -23,7 +23,8 @@ use std::alloc::Global;
 #[cycle(expr)]
 #[tactic(auto, unfolding(rp_grammar::specs::ExpressionReading::maybe))]
 fn maybe(alloc: Global, tokens: &[Token], depth: usize) -> Read<'_, Option<Expr>>
-    ensures { Gives (λ x. (v.maybe_of (option_map v.view_expr x.0), x.1.now)) result (r.maybe (r.readers depth) tokens.now) }
+    ensures { Gives (λ x. (v.maybe_of (option_map v.view_expr x.0), x.1.now)) result
+        (r.maybe (r.readers depth) tokens.now) }
 {
     if !starts(tokens) {
         return Ok((None, tokens));
@@ -35,7 +36,8 @@ fn maybe(alloc: Global, tokens: &[Token], depth: usize) -> Read<'_, Option<Expr>
 #[cycle(expr)]
 #[tactic(auto, unfolding(rp_grammar::specs::ExpressionReading::slice), using(rp_tree::proofs::ExpressionEquations::variants))]
 fn slice(alloc: Global, from: Option<Expr>, tokens: &[Token], depth: usize) -> Read<'_, Trailer>
-    ensures { Gives (λ x. (v.view_trailer x.0, x.1.now)) result (r.slice (r.readers depth) (v.maybe_of (option_map v.view_expr from)) tokens.now) }
+    ensures { Gives (λ x. (v.view_trailer x.0, x.1.now)) result
+        (r.slice (r.readers depth) (v.maybe_of (option_map v.view_expr from)) tokens.now) }
 {
     let (to, rest) = maybe(alloc, tokens, depth)?;
     if !is_colon(rest) {
@@ -66,7 +68,8 @@ fn subscript(alloc: Global, tokens: &[Token], depth: usize) -> Read<'_, Trailer>
 #[cycle(expr)]
 #[tactic(auto, unfolding(rp_grammar::specs::ExpressionReading::positional), using(rp_tree::proofs::ExpressionEquations::variants))]
 fn positional(alloc: Global, named: bool, tokens: &[Token], depth: usize) -> Read<'_, (Arg, bool)>
-    ensures { Gives (λ x. ((v.view_arg x.0.0, x.0.1), x.1.now)) result (r.positional (r.readers depth) named tokens.now) }
+    ensures { Gives (λ x. ((v.view_arg x.0.0, x.0.1), x.1.now)) result
+        (r.positional (r.readers depth) named tokens.now) }
 {
     if named {
         return Err(Fault::Syntax);
@@ -111,7 +114,8 @@ fn arg(alloc: Global, named: bool, tokens: &[Token], depth: usize) -> Read<'_, (
 
 #[cycle(expr)]
 fn args(alloc: Global, tokens: &[Token], depth: usize) -> Read<'_, Vec<Arg>>
-    ensures { Gives (λ x. (v.args_of (map v.view_arg x.0.items), x.1.now)) result (r.args (r.readers depth) tokens.now) }
+    ensures { Gives (λ x. (v.args_of (map v.view_arg x.0.items), x.1.now)) result
+        (r.args (r.readers depth) tokens.now) }
 {
     let mut found = Vec::new(alloc);
     let mut named = false;
@@ -159,7 +163,8 @@ fn trailer(alloc: Global, tokens: &[Token], depth: usize) -> Read<'_, Trailer>
 
 #[cycle(expr)]
 fn trailers(alloc: Global, tokens: &[Token], depth: usize) -> Read<'_, Vec<Trailer>>
-    ensures { Gives (λ x. (v.trailers_of (map v.view_trailer x.0.items), x.1.now)) result (r.trailers (r.readers depth) tokens.now) }
+    ensures { Gives (λ x. (v.trailers_of (map v.view_trailer x.0.items), x.1.now)) result
+        (r.trailers (r.readers depth) tokens.now) }
 {
     let mut found = Vec::new(alloc);
     let mut rest = tokens;
@@ -171,8 +176,8 @@ fn trailers(alloc: Global, tokens: &[Token], depth: usize) -> Read<'_, Vec<Trail
     Ok((found, rest))
 }
 
-/// The primary at the front of some tokens, an atom with what trails it, and the tokens behind it (Python Language Reference,
-/// Primaries). Expressions are read within it as deep as `depth` goes.
+/// The primary at the front of some tokens, an atom with what trails it, and the tokens behind it (Python Language
+/// Reference, Primaries). Expressions are read within it as deep as `depth` goes.
 ///
 /// # Errors
 /// `Syntax` where the front of the tokens spells no primary within the depth, `Memory` where a growth was refused.

@@ -64,7 +64,10 @@ fn statement(form: &StmtForm, names: &Names) -> Option<Stmt>
 /// The assignment to a name that is the only place.
 fn assignment(places: &[Place], value: &ExprForm, names: &Names) -> Option<Stmt>
     ensures gives { option_map (statement_view names.now) result
-        ≡ allowed_statement (option_and_then (λ x. option_map (source.assign (word names.now x)) (expression_by (word names.now) (v.view_form value.now))) (target_in (map v.view_place places.now))) }
+        ≡ allowed_statement (option_and_then
+        (λ x. option_map (source.assign (word names.now x))
+        (expression_by (word names.now) (v.view_form value.now)))
+        (target_in (map v.view_place places.now))) }
     ensures held { IfSome result (IsStatementHeld names.now) }
 {
     let target = target(places)?;
@@ -100,7 +103,8 @@ fn bound(place: &Place) -> Option<Name>
 /// The call of `print` that an expression is.
 fn call(form: &ExprForm, names: &Names) -> Option<Stmt>
     ensures gives { option_map (statement_view names.now) result
-        ≡ allowed_statement (option_map source.print (option_and_then (expression_by (word names.now)) (printed_by (word names.now) (v.view_form form.now)))) }
+        ≡ allowed_statement (option_map source.print
+        (option_and_then (expression_by (word names.now)) (printed_by (word names.now) (v.view_form form.now)))) }
     ensures held { IfSome result (IsStatementHeld names.now) }
 {
     let value = expression(printed(form, names)?, names)?;

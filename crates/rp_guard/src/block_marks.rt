@@ -1,17 +1,18 @@
 //! The marks of statements and of whole trees, set in place.
 
-ghost use Rattle.std.specs.Prelude.{◌≡◌, IfOk, IsOk, map};
-ghost use Rattle.rp_tree.specs.ExpressionViews.{view_place};
+ghost use Rattle.std.specs.Prelude.{◌≡◌, IfOk, IsOk, Some, map};
+ghost use Rattle.rp_tree.specs.ExpressionViews.{view_expr, view_place, view_target};
 ghost use Rattle.rp_tree.specs.StatementViews as v;
 ghost use Rattle.rp_tree.specs.Maps as m;
-ghost use Rattle.rp_tree.specs.Marks.{table, guard, HasNoGuards, Rewrites};
+ghost use Rattle.rp_tree.specs.Maps.{inplace_site};
+ghost use Rattle.rp_tree.specs.Marks.{table, guard, guard_at, HasNoGuards, Rewrites};
 ghost use Rattle.rp_tree.specs.Guarded.{Guarded};
 ghost use Rattle.rp_tree.specs.Augmented.{AugmentsNames};
 
 use crate::marks::{mark_expr, mark_option, mark_params, mark_place, mark_target, mark_walk};
 use crate::table::inplace_guard;
 use rp_base::Memory;
-use rp_tree::{Branch, Except, Guard, Place, Stmt, StmtForm, Tree};
+use rp_tree::{Branch, Except, Expr, Guard, Place, Stmt, StmtForm, Target, Tree};
 
 /// The tree with each form that is to be guarded marked by its guard, and nothing else changed (RestrictedPython,
 /// transformer). Where each augmented assignment in it is one to a name, as the policy of scripts asks, no form is left
@@ -38,6 +39,34 @@ fn mark_places(places: &mut [Place])
     }
 }
 
+fn mark_assigned(places: &mut [Place], value: &mut Expr)
+    ensures places { map view_place places.new ≡ map (m.map_place table) (map view_place places.old) }
+    ensures value { view_expr value.new ≡ m.map_expr table (view_expr value.old) }
+{
+    mark_places(places);
+    mark_expr(value);
+}
+
+fn mark_unpacked(target: &mut Target, value: &mut Expr, guard: &mut Option<Guard>)
+    ensures target { view_target target.new ≡ m.map_target table (view_target target.old) }
+    ensures value { view_expr value.new ≡ m.map_expr table (view_expr value.old) }
+    ensures guard { guard.new ≡ Some Guard.Unpack }
+{
+    mark_target(target);
+    mark_expr(value);
+    *guard = Some(Guard::Unpack);
+}
+
+fn mark_augmented(place: &mut Place, value: &mut Expr, guard: &mut Option<Guard>)
+    ensures place { view_place place.new ≡ m.map_place table (view_place place.old) }
+    ensures value { view_expr value.new ≡ m.map_expr table (view_expr value.old) }
+    ensures guard { guard.new ≡ guard_at (inplace_site (view_place place.old)) }
+{
+    *guard = inplace_guard(place);
+    mark_place(place);
+    mark_expr(value);
+}
+
 #[cycle(mark_stmt)]
 fn mark_stmt(stmt: &mut Stmt)
     ensures { v.view_stmt stmt.new ≡ m.map_stmt table (v.view_stmt stmt.old) }
@@ -52,36 +81,22 @@ fn mark_stmt_form(form: &mut StmtForm)
 {
     match form {
         StmtForm::Expr(expr) => mark_expr(expr),
-        StmtForm::Assign(places, value) => {
-            mark_places(places);
-            mark_expr(value);
-        }
-        StmtForm::Unpack(target, value, guard) => {
-            mark_target(target);
-            mark_expr(value);
-            *guard = Some(Guard::Unpack);
-        }
+        StmtForm::Assign(places, value) => mark_assigned(places, value),
+        StmtForm::Unpack(target, value, guard) => mark_unpacked(target, value, guard),
         StmtForm::Aug {
             place,
             value,
             guard,
             ..
-        } => {
-            *guard = inplace_guard(place);
-            mark_place(place);
-            mark_expr(value);
-        }
+        } => mark_augmented(place, value, guard),
         StmtForm::Del(places) => mark_places(places),
-        StmtForm::Pass => {}
-        StmtForm::Break => {}
-        StmtForm::Continue => {}
+        StmtForm::Pass | StmtForm::Break | StmtForm::Continue | StmtForm::Global(_) => {}
         StmtForm::Return(value) => mark_option(value),
         StmtForm::Raise(value) => mark_option(value),
         StmtForm::Assert(test, message) => {
             mark_expr(test);
             mark_option(message);
         }
-        StmtForm::Global(_) => {}
         StmtForm::If(branches, other) => {
             mark_branches(branches);
             if let Some(stmts) = other {

@@ -5,9 +5,9 @@ ghost use Rattle.rp_hash.specs.Words as words;
 
 use std::hash::{DefaultHasher, Hasher};
 
-/// SipHash-1-3 (Aumasson and Bernstein, "SipHash: a fast short-input PRF") over words: a write of eight bytes, as of a number,
-/// is one word, and so is a single byte. Any other is first hashed by std's SipHash from a secret start, and its hash is the
-/// word.
+/// SipHash-1-3 (Aumasson and Bernstein, "SipHash: a fast short-input PRF") over words: a write of eight bytes, as of a
+/// number, is one word, and so is a single byte. Any other is first hashed by std's SipHash from a secret start, and
+/// its hash is the word.
 #[derive(Clone, Copy)]
 pub struct WordHasher {
     pub(crate) v0: u64,

@@ -3,8 +3,8 @@
 use crate::hasher::WordHasher;
 use std::hash::{BuildHasher, Hasher};
 
-/// The secret of sixteen bytes from which tables hash their keys. It makes a hasher for each key. No contract tells what a key
-/// hashes to.
+/// The secret of sixteen bytes from which tables hash their keys. It makes a hasher for each key. No contract tells
+/// what a key hashes to.
 #[derive(Clone, Copy)]
 pub struct Seed {
     first: u64,

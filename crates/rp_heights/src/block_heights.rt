@@ -42,8 +42,8 @@ fn places_height(places: &[Place]) -> u32
     greatest
 }
 
-/// The height of a statement: 1 more than the greatest height of the statements, expressions, places and groups of targets
-/// in it, and the greatest `u32` where it is above that.
+/// The height of a statement: 1 more than the greatest height of the statements, expressions, places and groups of
+/// targets in it, and the greatest `u32` where it is above that.
 #[cycle(block_height)]
 pub fn stmt_height(stmt: &Stmt) -> u32
     ensures { result ≡ capped (h.stmt_height (v.view_stmt stmt.now)) }

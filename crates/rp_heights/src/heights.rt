@@ -18,7 +18,8 @@ pub fn above(height: u32) -> u32
     height.saturating_add(1)
 }
 
-/// The height of an expression: 1 more than the greatest height of its parts, and the greatest `u32` where it is above that.
+/// The height of an expression: 1 more than the greatest height of its parts, and the greatest `u32` where it is above
+/// that.
 #[cycle(expr_height)]
 pub fn expr_height(expr: &Expr) -> u32
     ensures { result ≡ capped (h.expr_height (v.view_expr expr.now)) }
@@ -172,7 +173,8 @@ pub fn place_height(place: &Place) -> u32
     }
 }
 
-/// The greatest height of the defaults of parameters, 0 where there is none, and the greatest `u32` where it is above that.
+/// The greatest height of the defaults of parameters, 0 where there is none, and the greatest `u32` where it is above
+/// that.
 #[cycle(expr_height)]
 #[tactic(auto, unfolding(rp_tree::specs::Heights::capped))]
 pub fn params_height(params: &Params) -> u32
@@ -211,7 +213,8 @@ fn trailer_height(trailer: &Trailer) -> u32
 #[cycle(expr_height)]
 #[tactic(auto, unfolding(rp_tree::specs::Heights::capped))]
 fn slice_height(slice: &Slice) -> u32
-    ensures { result ≡ capped (max (h.maybe_height (v.view_slice slice.now).0) (max (h.maybe_height (v.view_slice slice.now).1) (h.maybe_height (v.view_slice slice.now).2))) }
+    ensures { result ≡ capped (max (h.maybe_height (v.view_slice slice.now).0)
+        (max (h.maybe_height (v.view_slice slice.now).1) (h.maybe_height (v.view_slice slice.now).2))) }
 {
     maybe_height(&slice.from).max(maybe_height(&slice.to).max(maybe_height(&slice.step)))
 }

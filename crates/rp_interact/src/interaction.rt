@@ -124,7 +124,8 @@ impl Interaction {
         }
     }
 
-    /// The answer that was given last, where it was on this permission. `decide` would then give it too, and change nothing.
+    /// The answer that was given last, where it was on this permission. `decide` would then give it too, and change
+    /// nothing.
     #[inline(always)]
     pub fn last_answer(&self, permission: Perm) -> Option<bool>
         ensures answer { IfSome result (λ answer. answer ≡ has_in self.now permission) }

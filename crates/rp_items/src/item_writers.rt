@@ -1,4 +1,5 @@
 //! Setting and deleting items.
+#![tactic(auto, using(rp_store::proofs::Shapes::goes_on))]
 
 ghost use Rattle.std.specs.Prelude.{◌≡◌, ℕ, is_some, length, IsSome, OnErr};
 ghost use Rattle.std.specs.Option.{option_map_or};
@@ -21,18 +22,18 @@ use rp_ops::Refusal;
 use rp_store::{Object, Store, StoreFault, key_of};
 use std::alloc::Global;
 
-/// `a[i] = v`, on values whose access decisions have been made (Python Language Reference, Assignment statements): sets an
-/// element of a list, or the value at a key of a dict, for one cell where the key is new. A held key stays as first
+/// `a[i] = v`, on values whose access decisions have been made (Python Language Reference, Assignment statements): sets
+/// an element of a list, or the value at a key of a dict, for one cell where the key is new. A held key stays as first
 /// written. It takes no step.
 ///
 /// An instance takes no items here: where its class has `__setitem__`, the caller calls that method instead.
 ///
 /// # Errors
-/// - `Raised` with `TypeError`, whose text is `item` where `a` is no list and no dict, `index` where `i` is no index, or
-///   `key` where it can be no key, or with `IndexError` and the text `index`, where `i` is outside the elements.
+/// - `Raised` with `TypeError`, whose text is `item` where `a` is no list and no dict, `index` where `i` is no index,
+///   or `key` where it can be no key, or with `IndexError` and the text `index`, where `i` is outside the elements.
 /// - `StopCells` where a cell for a new key is over the limit.
-/// - `Memory` where a growth was refused, there is none for the text of an exception, or the count of a text's owners is
-///   full.
+/// - `Memory` where a growth was refused, there is none for the text of an exception, or the count of a text's owners
+///   is full.
 ///
 /// The store is then as before.
 pub fn set_item(
@@ -179,11 +180,11 @@ fn put_entry(store: &mut Store, at: Oid, rock: &Rock, v: Value) -> Result<(), Op
 /// An instance gives up no items here: where its class has `__delitem__`, the caller calls that method instead.
 ///
 /// # Errors
-/// - `Raised` with `TypeError`, whose text is `item` where `a` is no list and no dict, `index` where `i` is no index, or
-///   `key` where it can be no key, with `IndexError` and the text `index`, where `i` is outside the elements, or with
-///   `KeyError`, whose text is the key as it is shown inside a container, where the dict has no such key.
-/// - `Memory` where there is none for the text of an exception, the count of a text's owners is full, or the store holds no
-///   more bytes of such texts.
+/// - `Raised` with `TypeError`, whose text is `item` where `a` is no list and no dict, `index` where `i` is no index,
+///   or `key` where it can be no key, with `IndexError` and the text `index`, where `i` is outside the elements, or
+///   with `KeyError`, whose text is the key as it is shown inside a container, where the dict has no such key.
+/// - `Memory` where there is none for the text of an exception, the count of a text's owners is full, or the store
+///   holds no more bytes of such texts.
 ///
 /// The store is then as before.
 pub fn del_item(alloc: Global, store: &mut Store, a: &Value, i: &Value) -> Result<(), OpEnd>

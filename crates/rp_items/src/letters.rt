@@ -30,7 +30,8 @@ fn letter_at(letters: &[char], place: usize) -> Option<char>
     None
 }
 
-/// The characters at the places where each stands behind the last and each is ASCII, so that they are a part of the text.
+/// The characters at the places where each stands behind the last and each is ASCII, so that they are a part of the
+/// text.
 pub(crate) fn run_of(text: &Text, places: Places) -> Option<&str>
     requires small { length text.now < 2 ^ 64 }
     requires within { AreWithin (length text.now) places }

@@ -1,5 +1,5 @@
 //! Items and slices: reading, storing and deleting, on values whose access decisions have been made.
-#![tactic(auto, using(rp_store::proofs::Shapes::goes_on))]
+#![tactic(auto)]
 
 mod item_writers;
 mod items;

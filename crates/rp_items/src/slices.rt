@@ -1,5 +1,4 @@
 //! Slices.
-
 #![tactic(auto, using(rp_store::proofs::Shapes::goes_on))]
 
 ghost use Rattle.std.specs.Prelude.{◌≡◌, ◌≢◌, ◌+◌, ◌<◌, ◌≤◌, ◌^◌, ℕ, List, [], length, pos, IfOk, OnErr};
@@ -25,9 +24,10 @@ use rp_ops::{Refusal, Sequence, check_room, elements_at, new_object, new_text};
 use rp_store::{Object, Store};
 use std::alloc::Global;
 
-/// `a[from:to:step]`, on values whose access decisions have been made (Python Language Reference, Slicings). A slice of a
-/// list or a tuple is a new one, which the owner of what is sliced owns, and it holds the elements as they were stored. It
-/// costs a cell for itself and one for each element; a new text costs a cell for each byte. It takes no step.
+/// `a[from:to:step]`, on values whose access decisions have been made (Python Language Reference, Slicings). A slice of
+/// a list or a tuple is a new one, which the owner of what is sliced owns, and it holds the elements as they were
+/// stored. It costs a cell for itself and one for each element; a new text costs a cell for each byte. It takes no
+/// step.
 ///
 /// The slice of what is lent is lent, and so what is read out of it later.
 ///
@@ -37,8 +37,8 @@ use std::alloc::Global;
 /// - `Raised` with `TypeError`, whose text is `item` where `a` is no text, list or tuple, or `index` where a part is
 ///   neither a number nor a truth value nor None, or with `ValueError` and the text `slice`, where the step is 0.
 /// - `StopCells` where the cells are over the limit; then the store is as before.
-/// - `Memory` where a growth was refused, or the count of a text's owners is full. Then cells may be used, no used cell is
-///   given back, the limit stays, and no object is made.
+/// - `Memory` where a growth was refused, or the count of a text's owners is full. Then cells may be used, no used cell
+///   is given back, the limit stays, and no object is made.
 pub fn slice(
     alloc: Global,
     store: &mut Store,

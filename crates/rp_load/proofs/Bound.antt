@@ -1,13 +1,14 @@
 -- Which names are those of declared classes and objects.
-use Rattle.std.proofs.Common.{◌≡◌, ℕ, zero, suc, ◌+◌, ◌<◌, Bool, true, false, cond, if◌then◌else◌, not, ◌||◌, ◌&&◌, ◌==◌, List, [], ◌∷◌, ◌++◌, length, map, drop, get_or, Option, Some, None, option_map, chars, encode_utf8_all, nat_cmp, Ordering, Less, Equal, Greater, IsUtf8, refl, sym, ap, ◌∙◌, arith}
+use Rattle.std.proofs.Common.{◌≡◌, ℕ, ◌+◌, ◌<◌, Bool, true, false, cond, if◌then◌else◌, not, ◌||◌, ◌&&◌, ◌==◌, List, [], ◌∷◌, length, map, drop, get_or, Option, Some, None, option_map, chars, encode_utf8_all, nat_cmp, Ordering, Less, Equal, Greater, IsUtf8, refl, sym, ap, ◌∙◌, arith}
 use Rattle.std.specs.Cmp.Lexicographic.{slice_cmp}
 use Rattle.std.specs.List.{All, list_all, list_any}
-use Rattle.std.specs.Option.{option_map_or}
+use Rattle.std.specs.Map.{lookup}
+use Rattle.std.specs.Option.{is_some, option_map_or}
 use Rattle.std.proofs.lemmas.Bool.Decides.{nat_tests}
 use Rattle.std.proofs.lemmas.Str.{encodes-chars, length-le-encodes}
 use Rattle.std.proofs.lemmas.List.{drop_more}
 use Rattle.std.proofs.lemmas.List.Elements.{All-head, All-tail}
-use Rattle.std.proofs.lemmas.List.Folds.{list_all-map, list_any-append}
+use Rattle.std.proofs.lemmas.List.Folds.{list_all-map}
 use Rattle.rp_base.specs.Names.{HoldsEachOnce}
 use Rattle.rp_base.specs.Same.{same_text}
 use Rattle.rp_base.specs.declared.value.Name.{Name}
@@ -16,11 +17,14 @@ use Rattle.rp_decl.specs.Consistency.{unknown}
 use Rattle.rp_decl.specs.Order.{least, lesser_by, lesser_of, text_cmp}
 use Rattle.rp_decl.specs.Records.{Declarations}
 use Rattle.rp_decl.specs.Places.{IsHeld, IsHeldBy}
-use Rattle.rp_decl.specs.View.{Placed, class_view, declarations_view, field_view, name_text, object_view}
+use Rattle.rp_decl.specs.View.{Placed, declarations_view, field_view, name_text, object_view}
 use Rattle.rp_decl.specs.Word.{is_among}
 use Rattle.rp_decl.specs.declared.records.Field.{Field as FieldDecl}
 use Rattle.rp_decl.specs.declared.records.ObjectDecl.{ObjectDecl}
 use Rattle.rp_decl.proofs.Orders.{least-step}
+use Rattle.rp_machine.proofs.Exposed.{names-held, names-view}
+use Rattle.rp_machine.proofs.Places.{position-any}
+use Rattle.rp_machine.specs.Globals.{TellsPlaces, placed_names}
 use Rattle.rp_machine.specs.Store.{global_names}
 use Rattle.rp_store.specs.Key.{same_name}
 use Rattle.rp_load.specs.Load.{Fault, expose, fault_of, is_object_run, is_run, not_yet, unbound}
@@ -38,14 +42,14 @@ any-named of names name (x ∷ xs) once here held =
     let tail = any-named of names name xs once here (All-tail (λ x. IsHeld names (of x)) x xs held) in
     λ k. head k || tail k
 
--- a name is that of a class or an object
-pub bound-among : (names : List (List ℕ)) (d : Placed) (name : Name) → HoldsEachOnce names → IsHeldBy names d → IsHeld names name
-    → (list_any (λ c. same_name name c.name) d.classes || list_any (λ o. same_name name o.name) d.objects) ≡ is_among (global_names (declarations_view names d)) (name_text names name)
-bound-among names d name once held here =
-    let word = same_text (name_text names name) in
-    let classes = ap (list_any word) (map-through (class_view names d.permissions) (λ c. c.name) d.classes) ∙ any-named (λ c. c.name) names name d.classes once here (λ k x within. (held.classes k x within).name) in
-    let objects = ap (list_any word) (map-through (object_view names) (λ o. o.name) d.objects) ∙ any-named (λ o. o.name) names name d.objects once here (λ k x within. (held.objects k x within).name) in
-    sym (list_any-append word (map (λ c. c.name) (map (class_view names d.permissions) d.classes)) (map (λ o. o.name) (map (object_view names) d.objects)) ∙ (λ k. classes k || objects k))
+-- a name is that of a class or an object where the table has it
+pub bound-place : (names : List (List ℕ)) (d : Placed) (table : List (Name × ℕ)) (name : Name) → HoldsEachOnce names → IsHeldBy names d → IsHeld names name → TellsPlaces d table
+    → is_some (lookup (same_name name) table) ≡ is_among (global_names (declarations_view names d)) (name_text names name)
+bound-place names d table name once held here tells =
+    ap is_some (tells name)
+    ∙ position-any (same_name name) (placed_names d)
+    ∙ sym (any-named (λ n. n) names name (placed_names d) once here (names-held names d held))
+    ∙ ap (list_any (same_text (name_text names name))) (sym (names-view names d))
 
 -- one exposed name more, which is bound
 pub bound-step : (names known : List (List ℕ)) (found : Option Name) (xs : List Name) (i : ℕ) (d : Name) → i < length xs → is_among known (name_text names (get_or xs i d)) ≡ true

@@ -1,16 +1,16 @@
 -- The store of the declared classes and objects stands for what the declarations say.
-use Rattle.std.proofs.Common.{◌≡◌, ℕ, zero, suc, ◌+◌, ◌<◌, Bool, true, false, true≢false, cond, not, ◌||◌, nat_lt, List, [], ◌∷◌, ◌++◌, length, map, flat_map, filter, get_or, slice_get, position, unwrap_or, Option, Some, None, option_map, append-nil, refl, sym, ap, subst, ◌∙◌, arith}
+use Rattle.std.proofs.Common.{◌≡◌, ℕ, suc, ◌+◌, ◌<◌, Bool, true, false, true≢false, cond, not, ◌||◌, nat_lt, List, [], ◌∷◌, ◌++◌, length, map, flat_map, filter, get_or, slice_get, position, unwrap_or, Some, None, option_map, refl, sym, ap, subst, ◌∙◌, arith}
 use Rattle.std.specs.List.{All, list_any, position_or_len}
 use Rattle.std.specs.Option.{IsSomeAnd, option_map_or}
+use Rattle.std.specs.Map.{lookup}
 use Rattle.std.proofs.lemmas.Bool.Decides.{nat_tests}
 use Rattle.std.proofs.lemmas.List.{map-append}
 use Rattle.std.proofs.lemmas.List.Elements.{All-append, All-cons, All-head, All-map, All-tail}
 use Rattle.rp_base.specs.Names.{HoldsEachOnce}
 use Rattle.rp_base.specs.Same.{same_text}
 use Rattle.rp_base.specs.declared.value.Name.{Name}
-use Rattle.rp_base.specs.declared.value.Oid.{Oid}
 use Rattle.rp_decl.specs.Consistency.{IsConsistent, class_names, is_on_ring, likes, unknown}
-use Rattle.rp_decl.specs.Places.{IsClassHeld, IsHeld, IsHeldBy, IsObjectHeld}
+use Rattle.rp_decl.specs.Places.{IsHeld, IsHeldBy}
 use Rattle.rp_decl.specs.Records.{Field as DeclaredField}
 use Rattle.rp_decl.specs.View.{Placed, class_view, declarations_view, field_view, name_text, object_view}
 use Rattle.rp_decl.specs.Word.{is_among}
@@ -18,6 +18,8 @@ use Rattle.rp_decl.specs.declared.records.ClassDecl.{ClassDecl}
 use Rattle.rp_decl.specs.declared.records.Field.{Field}
 use Rattle.rp_decl.specs.declared.records.ObjectDecl.{ObjectDecl}
 use Rattle.rp_decl.proofs.Unknown.{unknown-append}
+use Rattle.rp_machine.proofs.Places.{position-front}
+use Rattle.rp_machine.specs.Globals.{TellsPlaces}
 use Rattle.rp_machine.specs.Store as store
 use Rattle.rp_machine.specs.World.{IsBegun, IsDeclaredClass, IsLoadedContent, IsRock, class_name, field_text, heap_view, thing_view}
 use Rattle.rp_proxy.specs.Faithful.{IsFaithful}
@@ -25,9 +27,9 @@ use Rattle.rp_proxy.specs.Held.{AreNamed, IsNamed}
 use Rattle.rp_proxy.specs.declared.world.World.{World}
 use Rattle.rp_store.specs.Heap.{Owned, content_at}
 use Rattle.rp_store.specs.Key.{same_name}
-use Rattle.rp_store.specs.Object.{Content, class}
+use Rattle.rp_store.specs.Object.{class}
 use Rattle.rp_store.specs.Store.{Cells}
-use Rattle.rp_load.specs.View.{class_at, class_owned, field_value, fields_of, loaded_heap, object_owned}
+use Rattle.rp_load.specs.View.{IsDeclared, class_at, class_owned, field_value, fields_of, loaded_heap, object_owned}
 use Rattle.rp_load.proofs.Bound.{any-named, map-through}
 
 -- ---- the class of an object is found
@@ -41,11 +43,11 @@ module _ {X : Type 0} (p : X → Bool) where
       by true rest h = omega arith
       by false rest h = let low = rest h in omega arith
 
-  position-is : (xs : List X) → list_any p xs ≡ true → unwrap_or (position p xs) 0 ≡ position_or_len p xs
+  position-is : (xs : List X) → list_any p xs ≡ true → position p xs ≡ Some (position_or_len p xs)
   position-is xs h =
       let low = within-list xs h in
       let yes : nat_lt (position_or_len p xs) (length xs) ≡ true = grind (arith, nat_tests) in
-      ap (λ b. unwrap_or (cond b (Some (position_or_len p xs)) None) 0) yes
+      ap (λ b. cond b (Some (position_or_len p xs)) None) yes
 
   stands-first : {Y : Type 0} (f : X → Y) (xs : List X) (rest : List Y) → list_any p xs ≡ true → (x : X) × ((p x ≡ true) × (slice_get (map f xs ++ rest) (position_or_len p xs) ≡ Some (f x)))
   stands-first f [] rest h = absurd (true≢false (sym h))
@@ -59,16 +61,20 @@ module _ {X : Type 0} (p : X → Bool) where
           let next : 1 + position_or_len p xs ≡ suc (position_or_len p xs) = omega arith in
           (y, (same, ap (slice_get (f x ∷ (map f xs ++ rest))) next ∙ found))
 
--- a class with the name is there
-abbrev pub IsDeclared : List ClassDecl → Name → Type 0
-IsDeclared classes name = list_any (λ c. same_name name c.name) classes ≡ true
-
 pub class-found : (classes : List ClassDecl) (rest : List Owned) (name : Name) → IsDeclared classes name
     → (c : ClassDecl) × ((same_name name c.name ≡ true) × (content_at (map class_owned classes ++ rest) (class_at classes name) ≡ Some (class c.name true [])))
 class-found classes rest name there =
     let (c, (same, stands)) = stands-first (λ c. same_name name c.name) class_owned classes rest there in
-    let at = position-is (λ c. same_name name c.name) classes there in
+    let at = ap (λ o. unwrap_or o 0) (position-is (λ c. same_name name c.name) classes there) in
     (c, (same, ap (λ i. option_map (λ o. o.content) (slice_get (map class_owned classes ++ rest) i)) at ∙ ap (option_map (λ o. o.content)) stands))
+
+-- a table of what is declared tells the class
+pub class-placed : (d : Placed) (table : List (Name × ℕ)) (name : Name) → TellsPlaces d table → IsDeclared d.classes name
+    → unwrap_or (lookup (same_name name) table) 0 ≡ unwrap_or (position (λ c. same_name name c.name) d.classes) 0
+class-placed d table name tells there =
+    let at = position-is (λ c. same_name name c.name) d.classes there in
+    ap (λ o. unwrap_or o 0)
+    (tells name ∙ position-front (λ (c : ClassDecl). c.name) (λ (o : ObjectDecl). o.name) (same_name name) d.classes d.objects (position_or_len (λ c. same_name name c.name) d.classes) at ∙ sym at)
 
 one-name : (m n : Name) → same_name m n ≡ true → n.0 ≡ m.0
 one-name m n h = grind (arith, nat_tests)

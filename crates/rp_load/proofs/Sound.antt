@@ -1,5 +1,5 @@
 -- What is placed may be held: the class of each object is a class of the store, and its fields are rocks.
-use Rattle.std.proofs.Common.{◌≡◌, ℕ, List, [], ◌++◌, map, get_or, append-nil, sym, ap, subst, ◌∙◌}
+use Rattle.std.proofs.Common.{◌≡◌, ◌<◌, ℕ, List, [], ◌++◌, length, map, get_or, append-nil, sym, ap, subst, ◌∙◌}
 use Rattle.std.specs.List.{All}
 use Rattle.std.specs.Option.{IsSomeAnd}
 use Rattle.std.proofs.lemmas.List.Elements.{All-map}
@@ -17,8 +17,8 @@ use Rattle.rp_store.specs.Object.{instance}
 use Rattle.rp_store.specs.Parts.{IsClass}
 use Rattle.rp_store.specs.Shape.{KeepsShape}
 use Rattle.rp_store.specs.Store.{Cells}
-use Rattle.rp_load.specs.View.{AreClassed, class_at, class_owned, field_value, fields_of}
-use Rattle.rp_load.proofs.Loaded.{IsDeclared, class-found}
+use Rattle.rp_load.specs.View.{AreClassed, IsDeclared, class_at, class_owned, field_value, fields_of}
+use Rattle.rp_load.proofs.Loaded.{class-found}
 
 fields-sound : (heap : List Owned) (fs : List (Name × Field)) → All (λ field. IsSound heap field.1) (fields_of fs)
 fields-sound heap fs = All-map (λ field. IsSound heap field.1) (λ f. (f.0, field_value f.1)) fs (λ k d within. tt)
@@ -45,3 +45,9 @@ pub classed : (d : Placed) (limit : ℕ) (empty first : Cells) (classes again : 
 classed d limit empty first classes again objects at_first p q r one there =
     let heap : first.heap ≡ map class_owned d.classes = ap (λ (s : Cells). s.heap) (one ∙ (λ k. record (at_first k) { heap = (at_first k).heap ++ map class_owned (p k) })) in
     subst (λ (t : List Owned × (List ClassDecl × List ObjectDecl)). AreClassed t.0 t.1.0 t.1.1) (sym (λ k. (heap k, (q k, r k)))) (classed-first d.classes d.objects there)
+
+-- the class of an object that is placed next
+pub placed-class : (d : Placed) (item : ObjectDecl) (i : ℕ) (at : Oid) → item ≡ get_or d.objects i item → i < length d.objects → (IsDeclared d.classes item.class → at ≡ class_at d.classes item.class)
+    → All (λ o. IsDeclared d.classes o.class) d.objects → at ≡ class_at d.classes (get_or d.objects i item).class
+placed-class d item i at here within known there =
+    known (subst (λ o. IsDeclared d.classes o.class) (sym here) (there i item within)) ∙ ap (λ o. class_at d.classes o.class) here

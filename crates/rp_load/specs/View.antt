@@ -1,6 +1,6 @@
 -- The fault of declarations, and the store of the declared classes and objects, as the program has them.
-use Rattle.std.specs.List.{All}
-use Rattle.std.specs.Prelude.{ℕ, Bool, true, List, [], ◌++◌, map, position, unwrap_or}
+use Rattle.std.specs.List.{All, list_any}
+use Rattle.std.specs.Prelude.{◌≡◌, ℕ, true, List, [], ◌++◌, map, position, unwrap_or}
 use Rattle.rp_base.specs.declared.value.Name.{Name}
 use Rattle.rp_base.specs.declared.value.Oid.{Oid}
 use Rattle.rp_base.specs.declared.value.Value.{Value}
@@ -34,6 +34,10 @@ trusted content = record { owner = record { 0 = 0 }; content = content }
 -- a declared class, which has no methods yet
 abbrev pub class_owned : ClassDecl → Owned
 class_owned c = trusted (class c.name true [])
+
+-- a class with the name is declared
+abbrev pub IsDeclared : List ClassDecl → Name → Type 0
+IsDeclared classes name = list_any (λ c. same_name name c.name) classes ≡ true
 
 -- the place of the class with a name
 abbrev pub class_at : List ClassDecl → Name → Oid

@@ -2,20 +2,21 @@
 
 ghost use Rattle.std.specs.Prelude.{◌≡◌, ◌++◌, IfOk, IfSome, IsTrue, Some, chars, map, nat_lt, option_map};
 ghost use Rattle.std.specs.Prelude.{string_bytes};
-ghost use Rattle.std.specs.List.{list_all, list_any};
+ghost use Rattle.std.specs.List.{list_all};
 ghost use Rattle.rp_decl.specs.Consistency.{unknown};
 ghost use Rattle.rp_decl.specs.Faults.{line_of};
 ghost use Rattle.rp_decl.specs.Order.{least, lesser_of};
 ghost use Rattle.rp_decl.specs.Places.{IsHeld, IsHeldBy};
-ghost use Rattle.rp_decl.specs.View.{declarations_view, field_view, name_text};
+ghost use Rattle.rp_decl.specs.View.{Placed, declarations_view, field_view, name_text};
 ghost use Rattle.rp_decl.specs.Word.{is_among};
+ghost use Rattle.rp_machine.specs.Globals.{TellsPlaces};
 ghost use Rattle.rp_machine.specs.Store.{global_names};
-ghost use Rattle.rp_store.specs.Key.{same_name};
 ghost use Rattle.rp_load.specs.Load.{fault_line, fault_of, is_run};
 ghost use Rattle.rp_load.specs.View.{IsFaultHeld, fault_view};
 
 use rp_base::{Memory, Name, Names};
-use rp_decl::{ClassDecl, Decl, Field, ObjectDecl};
+use rp_decl::{Decl, Field, ObjectDecl};
+use rp_machine::Globals;
 use std::alloc::Global;
 use std::cmp::Ordering;
 
@@ -29,21 +30,26 @@ pub enum LoadFault {
 }
 
 /// Why declarations that were read into the names are not run, if they are not.
-pub fn load_fault(decl: &Decl, names: &Names) -> Option<LoadFault>
+///
+/// # Errors
+/// `Memory` where a growth was refused.
+pub fn load_fault(alloc: Global, decl: &Decl, names: &Names) -> Result<Option<LoadFault>, Memory>
     requires held { IsHeldBy names.now decl.now }
-    ensures fault { option_map (fault_view names.now) result ≡ fault_of (declarations_view names.now decl.now) }
-    ensures held { IfSome result (IsFaultHeld names.now) }
+    ensures fault { IfOk result (λ fault. option_map (fault_view names.now) fault
+        ≡ fault_of (declarations_view names.now decl.now)) }
+    ensures held { IfOk result (λ fault. IfSome fault (IsFaultHeld names.now)) }
 {
     if !decl.module().as_str().is_empty() {
-        return Some(LoadFault::NotYet);
+        return Ok(Some(LoadFault::NotYet));
     }
-    if let Some(name) = least_unbound(decl, names) {
-        return Some(LoadFault::Expose(name));
+    let globals = Globals::new(alloc, names.seed(), decl)?;
+    if let Some(name) = least_unbound(decl, names, &globals) {
+        return Ok(Some(LoadFault::Expose(name)));
     }
     if are_run(decl.objects()) {
-        None
+        Ok(None)
     } else {
-        Some(LoadFault::NotYet)
+        Ok(Some(LoadFault::NotYet))
     }
 }
 
@@ -70,8 +76,9 @@ fn line(alloc: Global, words: &str, which: &str) -> Result<String, Memory>
 }
 
 /// The least exposed name in byte order that is that of no declared class or object.
-fn least_unbound(decl: &Decl, names: &Names) -> Option<Name>
+fn least_unbound(decl: &Decl, names: &Names, globals: &Globals) -> Option<Name>
     requires held { IsHeldBy names.now decl.now }
+    requires globals { TellsPlaces decl.now globals.now }
     ensures least { option_map (name_text names.now) result
         ≡ least (unknown (global_names (declarations_view names.now decl.now))
         (map (name_text names.now) decl.now.expose)) }
@@ -79,7 +86,7 @@ fn least_unbound(decl: &Decl, names: &Names) -> Option<Name>
 {
     let mut least = None;
     for name in decl.expose() {
-        if !is_bound(decl, names, *name) {
+        if !is_bound(names, globals, *name) {
             least = Some(lesser(names, least, *name));
         }
     }
@@ -104,26 +111,14 @@ fn lesser(names: &Names, least: Option<Name>, name: Name) -> Name
 }
 
 /// Whether a declared class or object has the name.
-fn is_bound(decl: &Decl, names: &Names, name: Name) -> bool
-    requires held { IsHeldBy names.now decl.now }
-    requires name_held { IsHeld names.now name }
-    ensures { result ≡ is_among (global_names (declarations_view names.now decl.now)) (name_text names.now name) }
+fn is_bound(names: &Names, globals: &Globals, name: Name) -> bool
+    requires { IsHeld names.now name }
+    ensures { (decl : Placed) → IsHeldBy names.now decl → TellsPlaces decl globals.now
+        → result ≡ is_among (global_names (declarations_view names.now decl)) (name_text names.now name) }
 {
     // Names tell with each word that they hold it once.
     let _text = names.text(name);
-    is_class(decl.classes(), name) || is_object(decl.objects(), name)
-}
-
-fn is_class(classes: &[ClassDecl], name: Name) -> bool
-    ensures { result ≡ list_any (λ c. same_name name c.name) classes.now }
-{
-    classes.iter().any(|class| name == class.name)
-}
-
-fn is_object(objects: &[ObjectDecl], name: Name) -> bool
-    ensures { result ≡ list_any (λ o. same_name name o.name) objects.now }
-{
-    objects.iter().any(|object| name == object.name)
+    globals.place(name).is_some()
 }
 
 /// Whether each field of the objects has a form that is run.

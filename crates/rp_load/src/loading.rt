@@ -1,22 +1,25 @@
 //! Declared classes and objects as objects of a store.
 
-ghost use Rattle.std.specs.Prelude.{◌≡◌, ◌<◌, ◌++◌, [], IfOk, None, OnOk, map, position};
+ghost use Rattle.std.specs.Prelude.{◌≡◌, ◌<◌, ◌++◌, [], IfOk, None, OnOk, map};
 ghost use Rattle.std.specs.List.{All, IsDistinct};
 ghost use Rattle.std.specs.Map.{keys_of};
 ghost use Rattle.rp_base.specs.Names.{first_words};
 ghost use Rattle.rp_decl.specs.Consistency.{IsConsistent};
 ghost use Rattle.rp_decl.specs.InOrder.{AreInOrder};
 ghost use Rattle.rp_decl.specs.Places.{GrowsTo, IsHeldBy};
-ghost use Rattle.rp_decl.specs.View.{declarations_view};
+ghost use Rattle.rp_decl.specs.View.{Placed, declarations_view};
 ghost use Rattle.rp_interact.specs.Answers.{AnswersAs};
 ghost use Rattle.rp_load.specs.Load.{fault_of};
-ghost use Rattle.rp_load.specs.View.{AreClassed, class_at, class_owned, field_value, fields_of, object_owned};
+ghost use Rattle.rp_load.specs.View.{AreClassed, IsDeclared, class_at, class_owned, field_value, fields_of};
+ghost use Rattle.rp_load.specs.View.{object_owned};
+ghost use Rattle.rp_machine.specs.Globals.{TellsPlaces};
 ghost use Rattle.rp_machine.specs.World.{IsBegun};
 ghost use Rattle.rp_store.specs.Key.{same_name};
 
 use rp_base::{Memory, Name, Names, Oid, Rock, Seed, Side, Value};
-use rp_decl::{ClassDecl, Decl, Field, ObjectDecl};
+use rp_decl::{ClassDecl, Decl, Field};
 use rp_dict::Dict;
+use rp_machine::Globals;
 use rp_proxy::{Running, World};
 use rp_store::{Object, Store};
 use std::alloc::Global;
@@ -50,13 +53,7 @@ pub fn load(
     let mut world = World::new(alloc, decl, names, limit, running)?;
     let seed = world.names.seed();
     place_classes(alloc, seed, world.decl.classes(), &mut world.store)?;
-    place_objects(
-        alloc,
-        seed,
-        world.decl.classes(),
-        world.decl.objects(),
-        &mut world.store,
-    )?;
+    place_objects(alloc, seed, &world.decl, &mut world.store)?;
     Ok(world)
 }
 
@@ -82,21 +79,17 @@ fn place_classes(
 }
 
 /// Places the declared objects behind what is in the store, without a charge.
-fn place_objects(
-    alloc: Global,
-    seed: Seed,
-    classes: &[ClassDecl],
-    objects: &[ObjectDecl],
-    store: &mut Store,
-) -> Result<(), Memory>
-    requires apart { All (λ o. IsDistinct same_name (keys_of o.fields.items)) objects.now }
-    requires classes { AreClassed store.old.heap classes.now objects.now }
+fn place_objects(alloc: Global, seed: Seed, decl: &Decl, store: &mut Store) -> Result<(), Memory>
+    requires apart { All (λ o. IsDistinct same_name (keys_of o.fields.items)) decl.now.objects }
+    requires declared { All (λ o. IsDeclared decl.now.classes o.class) decl.now.objects }
+    requires classes { AreClassed store.old.heap decl.now.classes decl.now.objects }
     ensures placed { OnOk result (store.new
-        ≡ record store.old { heap = store.old.heap ++ map (object_owned classes.now) objects.now }) }
+        ≡ record store.old { heap = store.old.heap ++ map (object_owned decl.now.classes) decl.now.objects }) }
 {
-    for object in objects {
+    let globals = Globals::new(alloc, seed, decl)?;
+    for object in decl.objects() {
         let instance = Object::Instance {
-            class: class_place(classes, object.class),
+            class: class_place(&globals, object.class),
             fields: fields_of(alloc, seed, object.fields.as_slice())?,
         };
         store.add(Side(0), instance)?;
@@ -104,17 +97,12 @@ fn place_objects(
     Ok(())
 }
 
-/// The place of the class with a name.
-fn class_place(classes: &[ClassDecl], name: Name) -> Oid
-    ensures { result ≡ class_at classes.now name }
+/// The place of a declared class.
+fn class_place(globals: &Globals, class: Name) -> Oid
+    ensures { (decl : Placed) → TellsPlaces decl globals.now → IsDeclared decl.classes class
+        → result ≡ class_at decl.classes class }
 {
-    Oid(class_position(classes, name).unwrap_or(0))
-}
-
-fn class_position(classes: &[ClassDecl], name: Name) -> Option<usize>
-    ensures { result ≡ position (λ c. same_name name c.name) classes.now }
-{
-    classes.iter().position(|class| name == class.name)
+    Oid(globals.place(class).unwrap_or(0))
 }
 
 /// The declared fields, whose names differ, with their values.

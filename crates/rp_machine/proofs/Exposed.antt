@@ -21,14 +21,11 @@ use Rattle.rp_store.specs.Key.{same_name}
 use Rattle.rp_machine.proofs.Loaded.{as_long}
 use Rattle.rp_machine.proofs.Named.{insert-variables, position-names}
 use Rattle.rp_machine.proofs.Safe.{AreSafe-insert_entry, taken-view}
+use Rattle.rp_machine.specs.Globals.{placed_names}
 use Rattle.rp_machine.specs.Meaning.{expose}
 use Rattle.rp_machine.specs.Store.{AreSafe, IsSafe, global_names, heap_of, instance_of, trusted, taken}
 use Rattle.rp_machine.specs.Store as store
 use Rattle.rp_machine.specs.World.{IsLoaded, variables_view}
-
--- the names of the declared classes and objects
-abbrev pub placed_names : Placed → List Name
-placed_names d = map (λ c. c.name) d.classes ++ map (λ o. o.name) d.objects
 
 class_names : (names permissions : List (List ℕ)) (cs : List ClassDecl) → map (λ (c : text.Class). c.name) (map (class_view names permissions) cs) ≡ map (name_text names) (map (λ (c : ClassDecl). c.name) cs)
 class_names names permissions [] = refl
@@ -38,12 +35,13 @@ object_names : (names : List (List ℕ)) (os : List ObjectDecl) → map (λ (o :
 object_names names [] = refl
 object_names names (o ∷ os) = ap (λ ns. name_text names o.name ∷ ns) (object_names names os)
 
-names-view : (names : List (List ℕ)) (d : Placed) → global_names (declarations_view names d) ≡ map (name_text names) (placed_names d)
+-- the names of what is declared
+pub names-view : (names : List (List ℕ)) (d : Placed) → global_names (declarations_view names d) ≡ map (name_text names) (placed_names d)
 names-view names d =
     (λ k. class_names names d.permissions d.classes k ++ object_names names d.objects k)
     ∙ sym (map-append (name_text names) (map (λ (c : ClassDecl). c.name) d.classes) (map (λ (o : ObjectDecl). o.name) d.objects))
 
-names-held : (names : List (List ℕ)) (d : Placed) → IsHeldBy names d → All (IsHeld names) (placed_names d)
+pub names-held : (names : List (List ℕ)) (d : Placed) → IsHeldBy names d → All (IsHeld names) (placed_names d)
 names-held names d held =
     All-append (IsHeld names) _ _
     (All-map (IsHeld names) (λ (c : ClassDecl). c.name) d.classes (All-weaker (IsClassHeld names) (λ (c : ClassDecl). IsHeld names c.name) (λ c h. h.name) d.classes held.classes))

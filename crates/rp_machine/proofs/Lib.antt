@@ -7,4 +7,5 @@ pub mod Places
 pub mod Safe
 pub mod Scenes
 pub mod Scripts
+pub mod Tabled
 pub mod Words

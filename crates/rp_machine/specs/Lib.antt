@@ -1,4 +1,5 @@
 pub mod Code
+pub mod Globals
 pub mod Meaning
 pub mod Store
 pub mod World

@@ -2,7 +2,9 @@
 #![tactic(auto)]
 
 mod exposing;
+mod globals;
 mod session;
 mod show;
 
+pub use globals::Globals;
 pub use session::Session;

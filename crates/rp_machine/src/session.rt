@@ -58,7 +58,8 @@ impl Session {
         ensures begins { IfOk result (λ s. s ≡ record {
           names = world.names;
           declarations = declarations_view world.names world.decl;
-          state = first_state (declarations_view world.names world.decl) world.store.limit world.running.session world.running.interaction.ids;
+          state = first_state (declarations_view world.names world.decl) world.store.limit
+              world.running.session world.running.interaction.ids;
         }) }
     {
         let variables = exposed(alloc, &world)?;

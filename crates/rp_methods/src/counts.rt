@@ -29,6 +29,7 @@ pub struct Counts {
 
 impl Counts {
     /// Whether these are so many.
+    #[inline(always)]
     pub(crate) fn take(self, count: usize) -> bool
         ensures { result ≡ takes self count }
     {
@@ -48,6 +49,7 @@ pub fn method_takes(store: &Store, receiver: &Value, id: NativeId, count: usize)
 }
 
 /// The kind of a value, as far as it has built-in methods.
+#[inline(always)]
 pub(crate) fn receiver_of(store: &Store, value: &Value) -> Receiver
     requires { IsSound store.now.heap value.now }
     ensures { result ≡ receiver_of store.now.heap value.now }
@@ -59,6 +61,7 @@ pub(crate) fn receiver_of(store: &Store, value: &Value) -> Receiver
     }
 }
 
+#[inline(always)]
 fn rock_receiver(rock: &Rock) -> Receiver
     ensures { result ≡ rock_receiver rock.now }
 {
@@ -68,6 +71,7 @@ fn rock_receiver(rock: &Rock) -> Receiver
     }
 }
 
+#[inline(always)]
 fn object_receiver(store: &Store, at: Oid) -> Receiver
     requires { IsHeld store.now.heap at }
     ensures { result ≡ option_map_or content_receiver (content_at store.now.heap at) Receiver.Other }
@@ -81,6 +85,7 @@ fn object_receiver(store: &Store, at: Oid) -> Receiver
 }
 
 /// The counts that a method takes; None where such a receiver does not have it.
+#[inline(always)]
 pub(crate) fn counts_of(receiver: Receiver, id: NativeId) -> Option<Counts>
     ensures { result ≡ counts_of receiver id }
 {
@@ -93,18 +98,21 @@ pub(crate) fn counts_of(receiver: Receiver, id: NativeId) -> Option<Counts>
     }
 }
 
+#[inline(always)]
 fn just(count: usize) -> Option<Counts>
     ensures { result ≡ just count }
 {
     between(count, count)
 }
 
+#[inline(always)]
 fn between(least: usize, most: usize) -> Option<Counts>
     ensures { result ≡ between least most }
 {
     Some(Counts { least, most })
 }
 
+#[inline(always)]
 fn list_counts(id: NativeId) -> Option<Counts>
     ensures { result ≡ list_counts id }
 {
@@ -121,6 +129,7 @@ fn list_counts(id: NativeId) -> Option<Counts>
     }
 }
 
+#[inline(always)]
 fn tuple_counts(id: NativeId) -> Option<Counts>
     ensures { result ≡ tuple_counts id }
 {
@@ -131,6 +140,7 @@ fn tuple_counts(id: NativeId) -> Option<Counts>
     }
 }
 
+#[inline(always)]
 fn dict_counts(id: NativeId) -> Option<Counts>
     ensures { result ≡ dict_counts id }
 {

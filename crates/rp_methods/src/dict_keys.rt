@@ -22,6 +22,7 @@ use rp_store::{Key, Store, key_of};
 use std::alloc::Global;
 
 /// `d.get(k)` and `d.get(k, x)`: the value at a key, or else the default, which is None where it is not given.
+#[inline(always)]
 pub(crate) fn get(alloc: Global, store: &Store, at: Oid, args: &[Value]) -> Result<Value, OpEnd>
     requires held { IsHeld store.now.heap at }
     requires args { AreSound store.now.heap args.now }
@@ -36,6 +37,7 @@ pub(crate) fn get(alloc: Global, store: &Store, at: Oid, args: &[Value]) -> Resu
 }
 
 /// The second argument.
+#[inline(always)]
 fn second(args: &[Value]) -> Option<&Value>
     ensures value { option_copied result ≡ slice_get args.now 1 }
     ensures sound { (heap : List Owned) → AreSound heap args.now → IfSome (option_copied result) (λ v. IsSound heap v) }
@@ -44,6 +46,7 @@ fn second(args: &[Value]) -> Option<&Value>
 }
 
 /// The argument at a place.
+#[inline(always)]
 fn argument(args: &[Value], place: usize) -> Option<&Value>
     ensures { option_copied result ≡ slice_get args.now place }
 {
@@ -51,6 +54,7 @@ fn argument(args: &[Value], place: usize) -> Option<&Value>
 }
 
 /// The second argument, or else the value.
+#[inline(always)]
 fn default_in<'a>(args: &'a [Value], other: &'a Value) -> &'a Value
     ensures value { result.now ≡ option_map_or (λ d. d) (slice_get args.now 1) other.now }
     ensures sound { (heap : List Owned) → AreSound heap args.now → IsSound heap other.now → IsSound heap result.now }
@@ -61,6 +65,7 @@ fn default_in<'a>(args: &'a [Value], other: &'a Value) -> &'a Value
     }
 }
 
+#[inline(always)]
 fn get_or(alloc: Global, store: &Store, at: Oid, k: &Value, default: &Value) -> Result<Value, OpEnd>
     requires held { IsHeld store.now.heap at }
     requires default { IsSound store.now.heap default.now }
@@ -74,6 +79,7 @@ fn get_or(alloc: Global, store: &Store, at: Oid, k: &Value, default: &Value) -> 
     }
 }
 
+#[inline(always)]
 fn get_entry(
     alloc: Global,
     store: &Store,

@@ -1,5 +1,5 @@
 //! The built-in methods of lists, tuples, dicts and texts, on values whose access decisions have been made.
-#![tactic(auto, using(rp_store::proofs::Shapes::goes_on))]
+#![tactic(auto)]
 
 mod counts;
 mod dict_keys;

@@ -24,6 +24,7 @@ use rp_store::Store;
 use std::alloc::Global;
 
 /// `xs.append(x)`: puts a value at the end of a list, for one cell.
+#[inline(always)]
 pub(crate) fn append(
     alloc: Global,
     store: &mut Store,
@@ -48,6 +49,7 @@ pub(crate) fn append(
 }
 
 /// Puts a value at the end of a list, for one cell, and answers None.
+#[inline(always)]
 fn push(store: &mut Store, at: Oid, x: Value) -> Result<Value, OpEnd>
     requires held { IsHeld store.old.heap at }
     requires list { Names store.old.heap IsList at }

@@ -10,7 +10,7 @@ ghost use Rattle.rp_store.specs.Shape.{KeepsShape};
 ghost use Rattle.rp_ops.specs.Outcome.{Meets, state_of};
 ghost use Rattle.rp_methods.specs.Dicts.{dict_method};
 ghost use Rattle.rp_methods.specs.Lists.{list_method, tuple_method};
-ghost use Rattle.rp_methods.specs.Methods.{method, method_of, object_method, rock_method};
+ghost use Rattle.rp_methods.specs.Methods.{method, method_of, object_method};
 ghost use Rattle.rp_methods.specs.Texts.{text_method};
 
 use crate::counts::{counts_of, receiver_of};
@@ -30,20 +30,20 @@ use rp_store::{Object, Store};
 use std::alloc::Global;
 
 /// `a.m(..)` of a built-in method, on values whose access decisions have been made (Python
-/// Standard Library, Built-in Types). An argument may be lent, and what is walked out of it is stored lent. What a method
-/// makes belongs to the owner of the receiver. Steps that were taken are not given back. What a method of a text
+/// Standard Library, Built-in Types). An argument may be lent, and what is walked out of it is stored lent. What a
+/// method makes belongs to the owner of the receiver. Steps that were taken are not given back. What a method of a text
 /// makes belongs to the side.
 ///
 /// # Errors
 /// - `Raised` with `TypeError`, whose text is `call` where the receiver has no such method, whatever the arguments,
 ///   `arguments` where the method takes another number of them, or `argument` where one is of another kind; with
-///   `ValueError` and the text `value`, where no element is equal to what is searched for; with `IndexError` and the text
-///   `index`, where an index is outside; with `TypeError` and the text `key`, where an argument can be no key; with
-///   `KeyError` and the key as it is shown inside a container, where `pop` finds neither the key nor a default; or what
-///   walking or comparing an argument raises.
+///   `ValueError` and the text `value`, where no element is equal to what is searched for; with `IndexError` and the
+///   text `index`, where an index is outside; with `TypeError` and the text `key`, where an argument can be no key;
+///   with `KeyError` and the key as it is shown inside a container, where `pop` finds neither the key nor a default; or
+///   what walking or comparing an argument raises.
 /// - `StopSteps` where no step is left, `StopCells` where the cells are over the limit.
-/// - `Memory` where a growth was refused, there is none for the text of an exception, or the count of a text's owners is
-///   full. Then cells may be used; the limit stays, and no used cell is given back.
+/// - `Memory` where a growth was refused, there is none for the text of an exception, or the count of a text's owners
+///   is full. Then cells may be used; the limit stays, and no used cell is given back.
 pub fn call_method(
     alloc: Global,
     store: &mut Store,
@@ -75,6 +75,7 @@ pub fn call_method(
 }
 
 /// The method, whatever the number of its arguments.
+#[inline(always)]
 fn method_of(
     alloc: Global,
     store: &mut Store,
@@ -94,12 +95,14 @@ fn method_of(
     ensures counters { KeepsCounters store.old store.new }
 {
     match receiver {
-        Value::Rock(rock) => rock_method(alloc, store, meter, side, rock, id, args),
+        Value::Rock(Rock::Text(text)) => { text_method(alloc, store, meter, side, text, id, args) }
+        Value::Rock(_) => Err(Fault::Call.end(alloc)),
         Value::Ref(at) => object_method(alloc, store, meter, *at, id, args),
         Value::Prox(at) => object_method(alloc, store, meter, *at, id, args),
     }
 }
 
+#[inline(always)]
 fn object_method(
     alloc: Global,
     store: &mut Store,
@@ -125,6 +128,7 @@ fn object_method(
     }
 }
 
+#[inline(always)]
 fn list_method(
     alloc: Global,
     store: &mut Store,
@@ -177,6 +181,7 @@ fn tuple_method(
     }
 }
 
+#[inline(always)]
 fn dict_method(
     alloc: Global,
     store: &mut Store,
@@ -202,29 +207,6 @@ fn dict_method(
         NativeId::SetDefault => setdefault(alloc, store, at, args),
         NativeId::Update => update(alloc, store, at, args),
         NativeId::Copy => copy(alloc, store, at, args),
-        _ => Err(Fault::Call.end(alloc)),
-    }
-}
-
-fn rock_method(
-    alloc: Global,
-    store: &mut Store,
-    meter: &mut Meter,
-    side: Side,
-    rock: &Rock,
-    id: NativeId,
-    args: &[Value],
-) -> Result<Value, OpEnd>
-    requires args { AreSound store.old.heap args.now }
-    ensures plain { Meets result (state_of store.new meter.new.left)
-        (rock_method side rock.now id args.now (state_of store.old meter.old.left)) }
-    ensures sound { IfOk result (λ v. IsSound store.new.heap v) }
-    ensures shape { KeepsShape store.old.heap store.new.heap }
-    ensures fewer { meter.new.left ≤ meter.old.left }
-    ensures counters { KeepsCounters store.old store.new }
-{
-    match rock {
-        Rock::Text(text) => text_method(alloc, store, meter, side, text, id, args),
         _ => Err(Fault::Call.end(alloc)),
     }
 }

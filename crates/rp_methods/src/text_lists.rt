@@ -21,8 +21,8 @@ use rp_ops::charge_copies;
 use rp_store::{Object, Store};
 use std::alloc::Global;
 
-/// `t.split()` and `t.split(u)`: a list of the pieces of a text between blanks, without empty ones, or between the places
-/// of another text. It belongs to the side, and costs its cells and those of its texts.
+/// `t.split()` and `t.split(u)`: a list of the pieces of a text between blanks, without empty ones, or between the
+/// places of another text. It belongs to the side, and costs its cells and those of its texts.
 pub(crate) fn split(
     alloc: Global,
     store: &mut Store,
@@ -144,6 +144,7 @@ fn words_of(alloc: Global, text: &str) -> Result<Vec<Value>, Memory>
 }
 
 /// Puts a new text last.
+#[inline(always)]
 fn push_text(alloc: Global, all: &mut Vec<Value>, text: &str) -> Result<(), Memory>
     ensures { OnOk result (all.new.items ≡ all.old.items ++ text_value (chars text.now) ∷ []) }
 {

@@ -1,4 +1,5 @@
 //! The methods of texts that make a text.
+#![tactic(auto, using(rp_store::proofs::Shapes::goes_on))]
 
 ghost use Rattle.std.specs.Prelude.{◌≡◌, ◌≤◌, ◌<◌, ◌+◌, ◌++◌, ℕ, List, chars, encode_utf8_all, length, map};
 ghost use Rattle.std.specs.Prelude.{string_bytes, IfNone, IfOk, IfSome, OnOk};
@@ -109,6 +110,7 @@ fn are_texts(values: &[Value]) -> bool
     values.iter().all(|value| is_text(value))
 }
 
+#[inline(always)]
 fn is_text(value: &Value) -> bool
     ensures { result ≡ is_text value.now }
 {
@@ -194,6 +196,7 @@ fn push_others(
 ///
 /// # Errors
 /// `Memory` where a growth was refused.
+#[inline(always)]
 fn push_next(all: &mut String, between: &Text, value: &Value) -> Result<(), Memory>
     ensures { OnOk result (string_bytes all.new
         ≡ string_bytes all.old ++ encode_utf8_all (between.now ++ letters_of value.now)) }

@@ -20,6 +20,7 @@ use rp_base::{Memory, OpEnd, Rock, Text, Value};
 use std::alloc::Global;
 
 /// The text that a value is.
+#[inline(always)]
 pub(crate) fn text_of(value: &Value) -> Option<&Text>
     ensures { option_copied result ≡ text_in value.now }
 {
@@ -29,6 +30,7 @@ pub(crate) fn text_of(value: &Value) -> Option<&Text>
     }
 }
 
+#[inline(always)]
 fn rock_text(rock: &Rock) -> Option<&Text>
     ensures { option_copied result ≡ rock_text rock.now }
 {
@@ -39,6 +41,7 @@ fn rock_text(rock: &Rock) -> Option<&Text>
 }
 
 /// The UTF-8 of a text.
+#[inline(always)]
 pub(crate) fn bytes(text: &Text) -> &str
     ensures { result.now ≡ encode_utf8_all text.now }
 {
@@ -46,6 +49,7 @@ pub(crate) fn bytes(text: &Text) -> &str
 }
 
 /// The UTF-8 of a text that a value is; nothing of another value.
+#[inline(always)]
 pub(crate) fn bytes_of(value: &Value) -> &str
     ensures { result.now ≡ encode_utf8_all (letters_of value.now) }
 {

@@ -6,7 +6,7 @@ use Rattle.std.specs.List.{All, sum_by}
 use Rattle.std.proofs.Math.Nat.{mul-le-mul_left}
 use Rattle.std.proofs.lemmas.List.{length-append, length-map, map-append}
 use Rattle.std.proofs.lemmas.List.Elements.{All-append, All-cons, All-head, All-nil, All-tail}
-use Rattle.std.proofs.lemmas.List.FromFn.{map-range_with_len_more}
+use Rattle.std.proofs.lemmas.List.FromFn.{length-map-range_with_len, map-range_with_len_more}
 use Rattle.std.proofs.lemmas.List.Sums.{sum_by-cons}
 use Rattle.rp_base.specs.declared.value.OpEnd.{OpEnd}
 use Rattle.rp_base.specs.declared.value.OpEnd.TheVariants as end
@@ -36,37 +36,17 @@ numbered-push n m [] v e = let same : n ≡ m = omega arith in ap (λ (k : ℕ).
 numbered-push n m (w ∷ ws) v e =
     ap (λ (rows : List (List Value)). (value.Rock (rock.Int (pos n)) ∷ w ∷ []) ∷ rows) (numbered-push (n + 1) m ws v (omega arith))
 
-length-numbered : (n : ℕ) (vs : List Value) → length (numbered n vs) ≡ length vs
+pub length-numbered : (n : ℕ) (vs : List Value) → length (numbered n vs) ≡ length vs
 length-numbered n [] = refl
 length-numbered n (v ∷ vs) = ap suc (length-numbered (n + 1) vs)
 
--- one more row
-pub numbered-more : (rows : List Row) (row : Row) (vs : List Value) (v : Value) (n : ℕ) → rows_of rows ≡ numbered 0 vs → n ≡ length rows
-    → row.items ≡ value.Rock (rock.Int (pos n)) ∷ v ∷ [] → rows_of (rows ++ row ∷ []) ≡ numbered 0 (vs ++ v ∷ [])
-numbered-more rows row vs v n so_far count is =
-    let many : length rows ≡ length vs = sym (length-map rows (λ (r : Row). r.items)) ∙ ap length so_far ∙ length-numbered 0 vs in
-    map-append (λ (r : Row). r.items) rows (row ∷ []) ∙ ap (λ (l : List (List Value)). l ++ row.items ∷ []) so_far
-    ∙ ap (λ (r : List Value). numbered 0 vs ++ r ∷ []) is ∙ sym (numbered-push 0 n vs v (omega arith))
-
-numbered-width : (n : ℕ) (vs : List Value) → All (λ row. length row ≡ 2) (numbered n vs)
+pub numbered-width : (n : ℕ) (vs : List Value) → All (λ row. length row ≡ 2) (numbered n vs)
 numbered-width n [] = All-nil (λ (row : List Value). length row ≡ 2)
 numbered-width n (v ∷ vs) = All-cons (λ (row : List Value). length row ≡ 2) (value.Rock (rock.Int (pos n)) ∷ v ∷ []) (numbered (n + 1) vs) refl (numbered-width (n + 1) vs)
 
-pair-sound : (heap : List Owned) (n : ℕ) (v : Value) → IsSound heap v → AreSound heap (value.Rock (rock.Int (pos n)) ∷ v ∷ [])
+pub pair-sound : (heap : List Owned) (n : ℕ) (v : Value) → IsSound heap v → AreSound heap (value.Rock (rock.Int (pos n)) ∷ v ∷ [])
 pair-sound heap n v h =
     All-cons (IsSound heap) (value.Rock (rock.Int (pos n))) (v ∷ []) tt (All-cons (IsSound heap) v [] h (All-nil (IsSound heap)))
-
-numbered-sound : (heap : List Owned) (n : ℕ) (vs : List Value) → AreSound heap vs → All (AreSound heap) (numbered n vs)
-numbered-sound heap n [] h = All-nil (AreSound heap)
-numbered-sound heap n (v ∷ vs) h =
-    All-cons (AreSound heap) (value.Rock (rock.Int (pos n)) ∷ v ∷ []) (numbered (n + 1) vs) (pair-sound heap n v (All-head (IsSound heap) v vs h))
-    (numbered-sound heap (n + 1) vs (All-tail (IsSound heap) v vs h))
-
-pub rows-width : (rows : List Row) (vs : List Value) → rows_of rows ≡ numbered 0 vs → All (λ row. length row ≡ 2) (rows_of rows)
-rows-width rows vs e = subst (λ (l : List (List Value)). All (λ row. length row ≡ 2) l) (sym e) (numbered-width 0 vs)
-
-pub rows-sound : (heap : List Owned) (rows : List Row) (vs : List Value) → rows_of rows ≡ numbered 0 vs → AreSound heap vs → All (AreSound heap) (rows_of rows)
-rows-sound heap rows vs e h = subst (λ (l : List (List Value)). All (AreSound heap) l) (sym e) (numbered-sound heap 0 vs h)
 
 -- ---- cells
 
@@ -130,27 +110,55 @@ table-given side rows old between new v cells steps e within first second place 
 
 -- ---- the tuples
 
+tuples-put : (side : Side) (old now new : Cells) (rows : List (List Value)) (row : List Value) → now ≡ with_tuples side rows old
+    → new ≡ added now side (object.tuple row) → new ≡ with_tuples side (rows ++ row ∷ []) old
+tuples-put side old now new rows row so_far last =
+    last ∙ ap (λ (s : Cells). added s side (object.tuple row)) so_far
+    ∙ ap (λ (heap : List Owned). record old { heap = heap })
+    (append_assoc old.heap (map (tuple_of side) rows) (tuple_of side row ∷ [])
+    ∙ ap (λ (l : List Owned). old.heap ++ l) (sym (map-append (tuple_of side) rows (row ∷ []))))
+
 pub tuples-more : (side : Side) (old now new : Cells) (ys : List Row) (row : Row) → now ≡ with_tuples side (rows_of ys) old → new ≡ added now side (object.tuple row.items)
     → new ≡ with_tuples side (rows_of (ys ++ row ∷ [])) old
 tuples-more side old now new ys row so_far last =
-    last ∙ ap (λ (s : Cells). added s side (object.tuple row.items)) so_far
-    ∙ ap (λ (heap : List Owned). record old { heap = heap })
-    (append_assoc old.heap (map (tuple_of side) (rows_of ys)) (tuple_of side row.items ∷ [])
-    ∙ ap (λ (l : List Owned). old.heap ++ l)
-    (sym (map-append (tuple_of side) (rows_of ys) (row.items ∷ [])) ∙ ap (map (tuple_of side)) (sym (map-append (λ (r : Row). r.items) ys (row ∷ [])))))
+    tuples-put side old now new (rows_of ys) row.items so_far last
+    ∙ ap (λ (rows : List (List Value)). with_tuples side rows old) (sym (map-append (λ (r : Row). r.items) ys (row ∷ [])))
+
+-- one more value behind its index
+pub pairs-more : (side : Side) (old now new : Cells) (vs : List Value) (v : Value) (n : ℕ) (row : List Value) → now ≡ with_tuples side (numbered 0 vs) old
+    → n ≡ length vs → row ≡ value.Rock (rock.Int (pos n)) ∷ v ∷ [] → new ≡ added now side (object.tuple row) → new ≡ with_tuples side (numbered 0 (vs ++ v ∷ [])) old
+pairs-more side old now new vs v n row so_far count is last =
+    tuples-put side old now new (numbered 0 vs) row so_far last
+    ∙ ap (λ (rows : List (List Value)). with_tuples side rows old)
+    (ap (λ (r : List Value). numbered 0 vs ++ r ∷ []) is ∙ sym (numbered-push 0 n vs v (omega arith)))
 
 -- the place of the next tuple
+place-behind : (side : Side) (old now : Cells) (rows : List (List Value)) (at : ℕ) → now ≡ with_tuples side rows old → at ≡ length now.heap
+    → at ≡ length old.heap + length rows
+place-behind side old now rows at so_far e =
+    e ∙ ap (λ (s : Cells). length s.heap) so_far ∙ length-append old.heap (map (tuple_of side) rows)
+    ∙ ap (λ (n : ℕ). length old.heap + n) (length-map rows (tuple_of side))
+
 pub next-place : (side : Side) (old now : Cells) (ys : List Row) (at : ℕ) → now ≡ with_tuples side (rows_of ys) old → at ≡ length now.heap → at ≡ length old.heap + length ys
 next-place side old now ys at so_far e =
-    e ∙ ap (λ (s : Cells). length s.heap) so_far ∙ length-append old.heap (map (tuple_of side) (rows_of ys))
-    ∙ ap (λ (n : ℕ). length old.heap + n) (length-map (rows_of ys) (tuple_of side) ∙ length-map ys (λ (r : Row). r.items))
+    place-behind side old now (rows_of ys) at so_far e ∙ ap (λ (n : ℕ). length old.heap + n) (length-map ys (λ (r : Row). r.items))
 
-pub references-more : (items new : List Value) (from at : ℕ) (ys : List Row) (row : Row) → items ≡ references from (length ys)
-    → at ≡ from + length ys → new ≡ items ++ value.Ref (record { 0 = at }) ∷ [] → new ≡ references from (length (ys ++ row ∷ []))
-references-more items new from at ys row so_far e push =
-    let count : length (ys ++ row ∷ []) ≡ length ys + 1 = length-append ys (row ∷ []) in
+pub pair-place : (side : Side) (old now : Cells) (vs : List Value) (at : ℕ) → now ≡ with_tuples side (numbered 0 vs) old → at ≡ length now.heap
+    → at ≡ length old.heap + length vs
+pair-place side old now vs at so_far e =
+    place-behind side old now (numbered 0 vs) at so_far e ∙ ap (λ (n : ℕ). length old.heap + n) (length-numbered 0 vs)
+
+pub references-more : {A : Type 0} (items new : List Value) (from at : ℕ) (ys : List A) (y : A) → items ≡ references from (length ys)
+    → at ≡ from + length ys → new ≡ items ++ value.Ref (record { 0 = at }) ∷ [] → new ≡ references from (length (ys ++ y ∷ []))
+references-more items new from at ys y so_far e push =
+    let count : length (ys ++ y ∷ []) ≡ length ys + 1 = length-append ys (y ∷ []) in
     push ∙ ap (λ (l : List Value). l ++ value.Ref (record { 0 = at }) ∷ []) so_far
     ∙ sym (map-range_with_len_more (λ (i : ℕ). value.Ref (record { 0 = i })) from (length ys) at (sym e)) ∙ ap (references from) (sym count)
+
+-- how many references there are
+pub references-count : (items : List Value) (from count n : ℕ) → items ≡ references from count → n ≡ length items → n ≡ count
+references-count items from count n e long =
+    long ∙ ap length e ∙ length-map-range_with_len (λ (i : ℕ). value.Ref (record { 0 = i })) from count
 
 -- ---- what is gained
 

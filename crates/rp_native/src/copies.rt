@@ -1,4 +1,6 @@
 //! Lists, tuples and dicts made of what another value holds.
+#![tactic(auto, using(rp_store::proofs::Shapes::goes_on))]
+
 ghost use Rattle.std.specs.Prelude.{◌≡◌, ◌≤◌, ℕ, map, All, IfOk, IfSome, OnErr, OnOk};
 ghost use Rattle.std.specs.Option.{option_map};
 ghost use Rattle.rp_dict.specs.Dict.{insert_entry};

@@ -32,8 +32,8 @@ pub(crate) fn is_function(id: NativeId) -> bool
     }
 }
 
-/// Whether `call_native` may be called with it. Not with `getattr` and `setattr`, which stand for forms of the language,
-/// nor with `print`, which writes a line: its caller does what they do.
+/// Whether `call_native` may be called with it. Not with `getattr` and `setattr`, which stand for forms of the
+/// language, nor with `print`, which writes a line: its caller does what they do.
 pub fn is_called_here(id: NativeId) -> bool
     ensures { result ≡ is_called_here id }
 {

@@ -1,5 +1,5 @@
 //! The built-in functions, on values whose access decisions have been made.
-#![tactic(auto, using(rp_store::proofs::Shapes::goes_on))]
+#![tactic(auto)]
 
 mod calls;
 mod copies;

@@ -1,4 +1,6 @@
 //! The line that `print` makes.
+#![tactic(auto, using(rp_store::proofs::Shapes::goes_on))]
+
 ghost use Rattle.std.specs.Prelude.{◌≡◌, ◌≤◌, ℕ, [], chars, codes};
 ghost use Rattle.rp_ops.specs.Outcome.{Meets, state_of};
 ghost use Rattle.rp_show.specs.Show.{followed, printed, show};

@@ -1,4 +1,6 @@
 //! Ranges of numbers.
+#![tactic(auto, using(rp_store::proofs::Shapes::goes_on))]
+
 ghost use Rattle.std.specs.Prelude.{◌≡◌, ◌≢◌, ◌∷◌, [], ◌+◌, ◌<◌, ◌+ℤ◌, ◌*◌, ◌*ℤ◌, ℕ, List, pos, unsigned_abs};
 ghost use Rattle.std.specs.Prelude.{FitsSigned, IfOk, OnErr, SomeIff};
 ghost use Rattle.std.specs.Int.{w64};
@@ -178,12 +180,13 @@ fn numbers(alloc: Global, bounds: Bounds) -> Result<Vec<Value>, Memory>
     let count = count(bounds);
     let mut numbers = Vec::with_capacity(alloc, count as usize)?;
     for m in 0..count {
-        numbers.push(member(bounds, m))?;
+        numbers.push_reserved(member(bounds, m));
     }
     Ok(numbers)
 }
 
 /// The m-th number.
+#[inline(always)]
 fn member(bounds: Bounds, m: u64) -> Value
     requires step { bounds.step ≢ pos 0 }
     requires within { m < count bounds }
@@ -193,6 +196,7 @@ fn member(bounds: Bounds, m: u64) -> Value
 }
 
 /// The first number and m times the step.
+#[inline(always)]
 fn number_at(bounds: Bounds, m: u64) -> i64
     requires step { bounds.step ≢ pos 0 }
     requires within { m < count bounds }
@@ -206,6 +210,7 @@ fn number_at(bounds: Bounds, m: u64) -> i64
 }
 
 /// How far the m-th number is from the first one.
+#[inline(always)]
 fn away(bounds: Bounds, m: u64) -> u64
     requires step { bounds.step ≢ pos 0 }
     requires within { m < count bounds }
@@ -215,6 +220,7 @@ fn away(bounds: Bounds, m: u64) -> u64
 }
 
 /// The number so far away; None where it is outside 64 bits.
+#[inline(always)]
 fn moved(from: i64, step: i64, away: u64) -> Option<i64>
     ensures { SomeIff result (FitsSigned w64 (moved from step away)) (moved from step away) }
 {

@@ -1,28 +1,33 @@
 //! Sorted lists.
+#![tactic(auto, using(rp_store::proofs::Shapes::goes_on))]
+
 ghost use Rattle.std.specs.Prelude.{◌≡◌, ◌≤◌, ℕ, List, encode_utf8_all, true, IfOk, OnErr};
+ghost use Rattle.std.specs.List.{list_all};
 ghost use Rattle.rp_store.specs.Counters.{KeepsCounters};
 ghost use Rattle.rp_store.specs.Heap.{Owned};
 ghost use Rattle.rp_store.specs.Kept.{AreSound, IsSound};
 ghost use Rattle.rp_ops.specs.Growth.{Gains};
 ghost use Rattle.rp_ops.specs.Outcome.{Meets, state_of};
-ghost use Rattle.rp_native.specs.Extremes.{have_order, is_less};
+ghost use Rattle.rp_native.specs.Extremes.{have_order, is_less, is_text};
 ghost use Rattle.rp_native.specs.Objects.{IsContainerOf};
-ghost use Rattle.rp_native.specs.OrderSteps.{number_key, order, text_key};
+ghost use Rattle.rp_native.specs.OrderSteps.{number_key, text_key, text_order};
 ghost use Rattle.rp_native.specs.Sorted.{in_order, sorted, sorted_list};
+ghost use Rattle.rp_native.specs.Walked.{are_numbers};
 
 use crate::extremes::have_order;
 use crate::fault::Fault;
 use crate::numbers::number_of;
 use crate::objects::new_container;
+use crate::sums::are_numbers;
 use rp_base::{Memory, Meter, OpEnd, Rock, Side, Text, Value};
 use rp_ops::elements;
 use rp_store::{Object, Store};
 use std::alloc::Global;
 use std::cmp::Ordering;
 
-/// `sorted(value)` (Python Standard Library, Built-in Functions): a new list of a side, of what walking the value gives,
-/// the least first, for a cell and one for each element. Those that are not less than one another keep their order.
-/// Each element takes a step, and a character of a text then costs its bytes.
+/// `sorted(value)` (Python Standard Library, Built-in Functions): a new list of a side, of what walking the value
+/// gives, the least first, for a cell and one for each element. Those that are not less than one another keep their
+/// order. Each element takes a step, and a character of a text then costs its bytes.
 ///
 /// # Errors
 /// - As `elements`, for the walk.
@@ -76,27 +81,53 @@ fn sorted_list(
 ///
 /// # Errors
 /// `Memory` where a growth was refused.
-fn in_order(mut values: Vec<Value>) -> Result<Vec<Value>, Memory>
+fn in_order(values: Vec<Value>) -> Result<Vec<Value>, Memory>
     requires ordered { have_order values.items ≡ true }
     ensures sorted { IfOk result (λ v. v.items ≡ in_order is_less values.items) }
     ensures sound { (heap : List Owned) → AreSound heap values.items → IfOk result (λ v. AreSound heap v.items) }
 {
-    values.sort_by(|a, b| order(a, b))?;
+    if are_numbers(values.as_slice()) {
+        return numbers_in_order(values);
+    }
+    texts_in_order(values)
+}
+
+/// Numbers and truth values, the least first: the number of each is found once.
+///
+/// # Errors
+/// `Memory` where a growth was refused.
+fn numbers_in_order(mut values: Vec<Value>) -> Result<Vec<Value>, Memory>
+    requires numbers { are_numbers values.items ≡ true }
+    ensures sorted { IfOk result (λ v. v.items ≡ in_order is_less values.items) }
+    ensures sound { (heap : List Owned) → AreSound heap values.items → IfOk result (λ v. AreSound heap v.items) }
+{
+    values.sort_by_cached_key(|value| number_key(value))?;
     Ok(values)
 }
 
-/// The order of two values, by number and then by text.
-fn order(a: &Value, b: &Value) -> Ordering
-    ensures { result ≡ order a.now b.now }
+/// Texts, the least first.
+///
+/// # Errors
+/// `Memory` where a growth was refused.
+fn texts_in_order(mut values: Vec<Value>) -> Result<Vec<Value>, Memory>
+    requires texts { list_all is_text values.items ≡ true }
+    ensures sorted { IfOk result (λ v. v.items ≡ in_order is_less values.items) }
+    ensures sound { (heap : List Owned) → AreSound heap values.items → IfOk result (λ v. AreSound heap v.items) }
 {
-    match number_key(a).cmp(&number_key(b)) {
-        Ordering::Less => Ordering::Less,
-        Ordering::Equal => text_key(a).cmp(text_key(b)),
-        Ordering::Greater => Ordering::Greater,
-    }
+    values.sort_by(|a, b| text_order(a, b))?;
+    Ok(values)
+}
+
+/// The order of the bytes of two texts.
+#[inline(always)]
+fn text_order(a: &Value, b: &Value) -> Ordering
+    ensures { result ≡ text_order a.now b.now }
+{
+    text_key(a).cmp(text_key(b))
 }
 
 /// The number that a value is; 0 where it is none.
+#[inline(always)]
 fn number_key(value: &Value) -> i64
     ensures { result ≡ number_key value.now }
 {
@@ -104,6 +135,7 @@ fn number_key(value: &Value) -> i64
 }
 
 /// The bytes of a text; none where it is no text.
+#[inline(always)]
 fn text_key(value: &Value) -> &[u8]
     ensures { result.now ≡ text_key value.now }
 {
@@ -113,6 +145,7 @@ fn text_key(value: &Value) -> &[u8]
     }
 }
 
+#[inline(always)]
 fn bytes_of(text: &Text) -> &[u8]
     ensures { result.now ≡ encode_utf8_all text.now }
 {

@@ -1,4 +1,6 @@
 //! Sums of what is walked.
+#![tactic(auto, using(rp_store::proofs::Shapes::goes_on))]
+
 ghost use Rattle.std.specs.Prelude.{◌≡◌, ◌∷◌, ◌≤◌, Err, IfErr, ◌+ℤ◌, List, ℤ, filter_map, is_some, pos, IfOk};
 ghost use Rattle.rp_store.specs.Counters.{KeepsCounters};
 ghost use Rattle.rp_store.specs.Heap.{Owned};

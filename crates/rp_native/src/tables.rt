@@ -1,4 +1,6 @@
 //! Lists of tuples.
+#![tactic(auto, using(rp_store::proofs::Shapes::goes_on))]
+
 ghost use Rattle.std.specs.Prelude.{◌≡◌, ◌∷◌, ◌+◌, ◌≤◌, [], ℕ, length, pos, All, IfOk, OnOk};
 ghost use Rattle.rp_store.specs.Counters.{KeepsCounters};
 ghost use Rattle.rp_store.specs.Kept.{AreSound, IsSound};
@@ -12,6 +14,9 @@ use rp_base::{Memory, Meter, OpEnd, Rock, Side, Value};
 use rp_ops::{charge_copies, elements};
 use rp_store::{Object, Store};
 use std::alloc::Global;
+
+/// The cells of a tuple of two elements, and of the reference to it in a list.
+const CELLS_OF_A_PAIR: u64 = 4;
 
 /// `enumerate(value)` (Python Standard Library, Built-in Functions): a new list of a side, of new tuples, each of an
 /// index from 0 and what walking the value gives there. The list and the tuples cost a cell each and one for each
@@ -37,29 +42,85 @@ pub(crate) fn enumerate(
     ensures counters { KeepsCounters store.old store.new }
 {
     let values = elements(alloc, store, meter, value)?;
-    let rows = numbered(alloc, values)?;
-    new_table(alloc, store, side, 2, rows)
+    new_numbered(alloc, store, side, values)
 }
 
-/// Each value behind its index.
+/// A new list of a side, of new tuples, each of a value behind its index, which are charged together.
+///
+/// # Errors
+/// As `new_table`.
+fn new_numbered(
+    alloc: Global,
+    store: &mut Store,
+    side: Side,
+    values: Vec<Value>,
+) -> Result<Value, OpEnd>
+    requires sound { AreSound store.old.heap values.items }
+    ensures plain { (steps : ℕ) → Meets result (state_of store.new steps)
+        (table side (numbered 0 values.items) (state_of store.old steps)) }
+    ensures sound { IfOk result (λ v. IsSound store.new.heap v) }
+    ensures grown { Gains (IsContainerOf side) store.old.heap store.new.heap }
+    ensures counters { KeepsCounters store.old store.new }
+{
+    charge_copies(store, 1, values.len() as u64, CELLS_OF_A_PAIR)?;
+    let value = add_numbered(alloc, store, side, values)?;
+    Ok(value)
+}
+
+/// The same, without a charge.
 ///
 /// # Errors
 /// `Memory` where a growth was refused.
-fn numbered(alloc: Global, values: Vec<Value>) -> Result<Vec<Vec<Value>>, Memory>
-    ensures rows { IfOk result (λ rows. rows_of rows.items ≡ numbered 0 values.items) }
+fn add_numbered(
+    alloc: Global,
+    store: &mut Store,
+    side: Side,
+    values: Vec<Value>,
+) -> Result<Value, Memory>
+    requires sound { AreSound store.old.heap values.items }
+    ensures made { OnOk result (store.new ≡ with_table side (numbered 0 values.items) store.old) }
+    ensures place { IfOk result (λ v. v ≡ Value.Ref
+        (record { 0 = length store.old.heap + length (numbered 0 values.items) })) }
+    ensures sound { IfOk result (λ v. IsSound store.new.heap v) }
+    ensures grown { Gains (IsContainerOf side) store.old.heap store.new.heap }
+    ensures counters { KeepsCounters store.old store.new }
 {
-    let mut rows = Vec::with_capacity(alloc, values.len())?;
+    let tuples = add_pairs(alloc, store, side, values)?;
+    let at = store.add(side, Object::List(tuples))?;
+    Ok(Value::Ref(at))
+}
+
+/// A tuple of each value behind its index, and references to them.
+///
+/// # Errors
+/// `Memory` where a growth was refused.
+fn add_pairs(
+    alloc: Global,
+    store: &mut Store,
+    side: Side,
+    values: Vec<Value>,
+) -> Result<Vec<Value>, Memory>
+    requires sound { AreSound store.old.heap values.items }
+    ensures made { OnOk result (store.new ≡ with_tuples side (numbered 0 values.items) store.old) }
+    ensures places { IfOk result (λ v. v.items ≡ references (length store.old.heap) (length (numbered 0 values.items))) }
+    ensures sound { IfOk result (λ v. AreSound store.new.heap v.items) }
+    ensures grown { Gains (IsContainerOf side) store.old.heap store.new.heap }
+    ensures counters { KeepsCounters store.old store.new }
+{
+    let mut tuples = Vec::with_capacity(alloc, values.len())?;
     for value in values {
-        let row = row_of(alloc, rows.len(), value)?;
-        rows.push(row)?;
+        let row = row_of(alloc, tuples.len(), value)?;
+        let at = store.add(side, Object::Tuple(row))?;
+        tuples.push(Value::Ref(at))?;
     }
-    Ok(rows)
+    Ok(tuples)
 }
 
 /// A value behind an index.
 ///
 /// # Errors
 /// `Memory` where a growth was refused, or the index is past what memory could hold.
+#[inline(always)]
 fn row_of(alloc: Global, index: usize, value: Value) -> Result<Vec<Value>, Memory>
     ensures { IfOk result (λ row. row.items ≡ Value.Rock (Rock.Int (pos index)) ∷ value ∷ []) }
 {

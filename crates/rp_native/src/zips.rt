@@ -1,4 +1,6 @@
 //! Several values walked side by side.
+#![tactic(auto, using(rp_store::proofs::Shapes::goes_on))]
+
 ghost use Rattle.std.specs.Prelude.{◌≡◌, ◌∷◌, ◌++◌, ◌≤◌, [], List, ℕ, fold, length, map, min, All, IfOk, OnOk};
 ghost use Rattle.rp_store.specs.Counters.{KeepsCounters};
 ghost use Rattle.rp_store.specs.Heap.{Owned};
@@ -114,7 +116,7 @@ fn rows(
     ensures fewer { meter.new.left ≤ meter.old.left }
     ensures counters { KeepsCounters store.old store.new }
 {
-    let mut rows = Vec::new(alloc);
+    let mut rows = no_rows(alloc, count.min(meter.left as usize))?;
     for _ in 0..count {
         let row = next_row(alloc, store, meter, walks)?;
         put_row(&mut rows, row)?;
@@ -123,6 +125,7 @@ fn rows(
 }
 
 /// The next row, for a step.
+#[inline(always)]
 fn next_row(
     alloc: Global,
     store: &mut Store,
@@ -145,6 +148,7 @@ fn next_row(
 }
 
 /// The next element of every walk.
+#[inline(always)]
 fn row(alloc: Global, store: &mut Store, walks: &mut [Cursor]) -> Result<Vec<Value>, OpEnd>
     requires held { All (IsWalkHeld store.old.heap) walks.old }
     ensures plain { (steps : ℕ) → Meets (row_given walks.new result) (state_of store.new steps)
@@ -156,7 +160,7 @@ fn row(alloc: Global, store: &mut Store, walks: &mut [Cursor]) -> Result<Vec<Val
     ensures sound { IfOk result (λ row. AreSound store.new.heap row.items) }
     ensures counters { KeepsCounters store.old store.new }
 {
-    let mut row = Vec::new(alloc);
+    let mut row = no_values(alloc, walks.len())?;
     for walk in walks.iter_mut() {
         let value = element(alloc, store, walk)?;
         put(&mut row, value)?;
@@ -165,6 +169,7 @@ fn row(alloc: Global, store: &mut Store, walks: &mut [Cursor]) -> Result<Vec<Val
 }
 
 /// The next element of a walk, for which no step is taken of those that are left.
+#[inline(always)]
 fn element(alloc: Global, store: &mut Store, walk: &mut Cursor) -> Result<Value, OpEnd>
     requires held { IsWalkHeld store.old.heap walk.old }
     ensures plain { (steps : ℕ) → Meets (element_given walk.new result) (state_of store.new steps)
@@ -182,6 +187,8 @@ fn element(alloc: Global, store: &mut Store, walk: &mut Cursor) -> Result<Value,
     }
 }
 
+#[cold]
+#[inline(never)]
 fn not_walked(alloc: Global) -> Result<Value, OpEnd>
     ensures plain { (walk : Place) (s : State) → Meets (element_given walk result) s (not_walked s) }
     ensures sound { (heap : List Owned) → IfOk result (λ v. IsSound heap v) }
@@ -191,6 +198,22 @@ fn not_walked(alloc: Global) -> Result<Value, OpEnd>
 
 // A growth that was refused is `Memory` in functions of their own, since a `?` makes no `OpEnd` of an `AllocFailed`.
 
+/// An empty row, with room for so many values.
+#[inline(always)]
+fn no_values(alloc: Global, count: usize) -> Result<Vec<Value>, Memory>
+    ensures { IfOk result (λ row. row.items ≡ []) }
+{
+    Ok(Vec::with_capacity(alloc, count)?)
+}
+
+/// No rows, with room for so many.
+fn no_rows(alloc: Global, count: usize) -> Result<Vec<Vec<Value>>, Memory>
+    ensures { IfOk result (λ rows. rows.items ≡ []) }
+{
+    Ok(Vec::with_capacity(alloc, count)?)
+}
+
+#[inline(always)]
 fn put(row: &mut Vec<Value>, value: Value) -> Result<(), Memory>
     ensures { OnOk result (row.new.items ≡ row.old.items ++ value ∷ []) }
 {
@@ -198,6 +221,7 @@ fn put(row: &mut Vec<Value>, value: Value) -> Result<(), Memory>
     Ok(())
 }
 
+#[inline(always)]
 fn put_row(rows: &mut Vec<Vec<Value>>, row: Vec<Value>) -> Result<(), Memory>
     ensures { OnOk result (rows_of rows.new.items ≡ rows_of rows.old.items ++ row.items ∷ []) }
 {

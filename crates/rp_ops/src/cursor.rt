@@ -1,4 +1,6 @@
 //! A walk over a value, one element at a time.
+#![tactic(auto, using(rp_store::proofs::Shapes::goes_on))]
+
 ghost use Rattle.std.specs.Prelude.{◌≡◌, ◌∷◌, codes, Ok, ◌+◌, ◌<◌, ◌≤◌, ◌^◌, [], List, ℕ, Some, encode_utf8_all};
 ghost use Rattle.std.specs.Prelude.{IfNone, IfOk, IfSome, OnErr};
 ghost use Rattle.std.specs.Str.{IsCharBoundary};

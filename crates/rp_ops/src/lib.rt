@@ -1,5 +1,5 @@
 //! The plain operators of the language, on values whose access decisions have been made.
-#![tactic(auto, using(rp_store::proofs::Shapes::goes_on))]
+#![tactic(auto)]
 
 mod augmented;
 mod binary_operators;

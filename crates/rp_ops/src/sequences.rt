@@ -1,4 +1,6 @@
 //! Lists and tuples joined and repeated.
+#![tactic(auto, using(rp_store::proofs::Shapes::goes_on))]
+
 ghost use Rattle.std.specs.Prelude.{◌≡◌, ◌∷◌, ◌++◌, ◌+◌, [], ℕ, length, IfErr, IfOk, OnErr, OnOk};
 ghost use Rattle.std.specs.List.{repeat};
 ghost use Rattle.rp_store.specs.Counters.{KeepsCounters};

@@ -13,8 +13,8 @@ use thiserror::Error;
 /// Why tokens spell no tree.
 #[derive(Clone, Copy, Debug, PartialEq, Eq, Error)]
 pub enum ParseFault {
-    /// No statement of height at most 200 goes on so. The line is that of the last place at which a statement could begin:
-    /// what stands before it can be ended to a whole script, and no longer front can.
+    /// No statement of height at most 200 goes on so. The line is that of the last place at which a statement could
+    /// begin: what stands before it can be ended to a whole script, and no longer front can.
     #[error("the grammar spells nothing so")]
     Syntax(Line),
     /// A growth was refused.

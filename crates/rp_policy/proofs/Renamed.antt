@@ -1,4 +1,4 @@
--- A tree under other names has the same spots and the same offences, under these names.
+-- A tree under other names has the same spots and the same offences, under these names. The numbers of code blocks tell nothing.
 use Rattle.std.proofs.Common.{◌≡◌, Bool, true, false, List, [], ◌∷◌, ◌++◌, map, Option, Some, None, option_map, if◌then◌else◌, refl, sym, ap, ◌∙◌, ℕ}
 use Rattle.std.specs.List.{filter_map, cons_option, flat_map}
 use Rattle.std.proofs.lemmas.List.{map-append}
@@ -7,7 +7,7 @@ use Rattle.rp_tree.specs.declared.parts.Named.{Named}
 use Rattle.rp_tree.specs.ExpressionTrees as t
 use Rattle.rp_tree.specs.ExpressionTrees.{Expr, Form, Exprs, Maybe, Pairs, Tests, Ops, Clause, Clauses, Walk, Target, Targets, Place, Params, Plain, Trailer, Trailers, Arg, Args}
 use Rattle.rp_tree.specs.Maps as m
-use Rattle.rp_tree.specs.Maps.{names_by, named}
+use Rattle.rp_tree.specs.Maps.{Change, named, without_blocks}
 use Rattle.rp_tree.specs.StatementTrees as s
 use Rattle.rp_tree.specs.StatementTrees.{Stmt, StmtForm, Stmts, MaybeStmts, Branches, Except, Excepts}
 use Rattle.rp_policy.specs.Forbidden.{is_forbidden_attribute, is_forbidden_name, is_initializer, is_reserved, is_uncallable}
@@ -22,7 +22,10 @@ use Rattle.rp_policy.specs.declared.spot.Spot.TheVariants.{Reads, Binds, Method,
 use Rattle.rp_policy.specs.declared.spot.Suite.{Suite}
 use Rattle.rp_policy.specs.declared.spot.Suite.TheVariants.{OfClass, Other}
 
-module _ {A B : Type 0} (f : A → B) where
+module _ {A B : Type 0} (f : A → B) (renumber : ℕ → ℕ) where
+  abbrev pub change : Change A B
+  change = record { name = f; line = λ l. l; block = renumber; mark = λ x g. g }
+
   -- a name with its line, and a spot, under other names
   abbrev pub other : Named A → Named B
   other n = record { name = f n.name; line = n.line }
@@ -43,19 +46,19 @@ module _ {A B : Type 0} (f : A → B) where
       → (xs' ++ ys') ++ zs' ≡ map spot_named ((xs ++ ys) ++ zs)
   three xs ys zs e g h = two (xs ++ ys) zs (two xs ys e g) h
 
-  binds_named : (n : Option (Named A)) → p.option_binds (option_map (m.map_named (names_by f)) n) ≡ map spot_named (p.option_binds n)
+  binds_named : (n : Option (Named A)) → p.option_binds (option_map (m.map_named change) n) ≡ map spot_named (p.option_binds n)
   binds_named None = refl
   binds_named (Some n) = refl
 
-  all_named : (ns : List (Named A)) → map Binds (map (m.map_named (names_by f)) ns) ≡ map spot_named (map Binds ns)
+  all_named : (ns : List (Named A)) → map Binds (map (m.map_named change) ns) ≡ map spot_named (map Binds ns)
   all_named [] = refl
   all_named (n ∷ ns) = ap (λ xs. Binds (other n) ∷ xs) (all_named ns)
 
-  form_name_named : (l : Line) (x : Form A) → p.form_name l (m.map_form (names_by f) x) ≡ option_map other (p.form_name l x)
+  form_name_named : (l : Line) (x : Form A) → p.form_name l (m.map_form change x) ≡ option_map other (p.form_name l x)
   form_name_named l (t.name n) = refl
   form_name_named l _ = refl
 
-  is_call_named : (x : Trailer A) → p.is_call (m.map_trailer (names_by f) x) ≡ p.is_call x
+  is_call_named : (x : Trailer A) → p.is_call (m.map_trailer change x) ≡ p.is_call x
   is_call_named (t.call xs g) = refl
   is_call_named _ = refl
 
@@ -63,7 +66,7 @@ module _ {A B : Type 0} (f : A → B) where
   if_named true n = refl
   if_named false n = refl
 
-  called_named : (e : Expr A) (xs : Trailers A) → p.called_name (m.map_expr (names_by f) e) (m.map_trailers (names_by f) xs) ≡ option_map other (p.called_name e xs)
+  called_named : (e : Expr A) (xs : Trailers A) → p.called_name (m.map_expr change e) (m.map_trailers change xs) ≡ option_map other (p.called_name e xs)
   called_named (t.node l x) t.no_trailers = refl
   called_named (t.node l x) (t.trailer y ys) = (λ i. if is_call_named y i then form_name_named l x i else None) ∙ if_named (p.is_call y) (p.form_name l x)
 
@@ -73,10 +76,10 @@ module _ {A B : Type 0} (f : A → B) where
   atom_named (Some n) alone' alone e = refl
 
   mutual
-    expr_named : (x : Expr A) → p.expr_spots (m.map_expr (names_by f) x) ≡ map spot_named (p.expr_spots x)
+    expr_named : (x : Expr A) → p.expr_spots (m.map_expr change x) ≡ map spot_named (p.expr_spots x)
     expr_named (t.node l x) = form_named l x
 
-    form_named : (l : Line) (x : Form A) → p.form_spots l (m.map_form (names_by f) x) ≡ map spot_named (p.form_spots l x)
+    form_named : (l : Line) (x : Form A) → p.form_spots l (m.map_form change x) ≡ map spot_named (p.form_spots l x)
     form_named l (t.name n) = refl
     form_named l (t.int n) = refl
     form_named l (t.text x) = refl
@@ -97,101 +100,101 @@ module _ {A B : Type 0} (f : A → B) where
     form_named l (t.power x y) = two (p.expr_spots x) (p.expr_spots y) (expr_named x) (expr_named y)
     form_named l (t.primary e xs) =
         two (p.atom_spots (p.called_name e xs) (p.expr_spots e)) (p.trailers_spots xs)
-        (ap (λ n. p.atom_spots n (p.expr_spots (m.map_expr (names_by f) e))) (called_named e xs) ∙ atom_named (p.called_name e xs) (p.expr_spots (m.map_expr (names_by f) e)) (p.expr_spots e) (expr_named e))
+        (ap (λ n. p.atom_spots n (p.expr_spots (m.map_expr change e))) (called_named e xs) ∙ atom_named (p.called_name e xs) (p.expr_spots (m.map_expr change e)) (p.expr_spots e) (expr_named e))
         (trailers_named xs)
 
-    exprs_named : (x : Exprs A) → p.exprs_spots (m.map_exprs (names_by f) x) ≡ map spot_named (p.exprs_spots x)
+    exprs_named : (x : Exprs A) → p.exprs_spots (m.map_exprs change x) ≡ map spot_named (p.exprs_spots x)
     exprs_named t.no_exprs = refl
     exprs_named (t.expr e es) = two (p.expr_spots e) (p.exprs_spots es) (expr_named e) (exprs_named es)
 
-    maybe_named : (x : Maybe A) → p.maybe_spots (m.map_maybe (names_by f) x) ≡ map spot_named (p.maybe_spots x)
+    maybe_named : (x : Maybe A) → p.maybe_spots (m.map_maybe change x) ≡ map spot_named (p.maybe_spots x)
     maybe_named t.none = refl
     maybe_named (t.some e) = expr_named e
 
-    pairs_named : (x : Pairs A) → p.pairs_spots (m.map_pairs (names_by f) x) ≡ map spot_named (p.pairs_spots x)
+    pairs_named : (x : Pairs A) → p.pairs_spots (m.map_pairs change x) ≡ map spot_named (p.pairs_spots x)
     pairs_named t.no_pairs = refl
     pairs_named (t.pair k e ps) = three (p.expr_spots k) (p.expr_spots e) (p.pairs_spots ps) (expr_named k) (expr_named e) (pairs_named ps)
 
-    tests_named : (x : Tests A) → p.tests_spots (m.map_tests (names_by f) x) ≡ map spot_named (p.tests_spots x)
+    tests_named : (x : Tests A) → p.tests_spots (m.map_tests change x) ≡ map spot_named (p.tests_spots x)
     tests_named t.no_tests = refl
     tests_named (t.test o e os) = two (p.expr_spots e) (p.tests_spots os) (expr_named e) (tests_named os)
 
-    ops_named : (x : Ops A) → p.ops_spots (m.map_ops (names_by f) x) ≡ map spot_named (p.ops_spots x)
+    ops_named : (x : Ops A) → p.ops_spots (m.map_ops change x) ≡ map spot_named (p.ops_spots x)
     ops_named t.no_ops = refl
     ops_named (t.op o e os) = two (p.expr_spots e) (p.ops_spots os) (expr_named e) (ops_named os)
 
-    clause_named : (x : Clause A) → p.clause_spots (m.map_clause (names_by f) x) ≡ map spot_named (p.clause_spots x)
+    clause_named : (x : Clause A) → p.clause_spots (m.map_clause change x) ≡ map spot_named (p.clause_spots x)
     clause_named (t.a_clause w es) = two (p.walk_spots w) (p.exprs_spots es) (walk_named w) (exprs_named es)
 
-    clauses_named : (x : Clauses A) → p.clauses_spots (m.map_clauses (names_by f) x) ≡ map spot_named (p.clauses_spots x)
+    clauses_named : (x : Clauses A) → p.clauses_spots (m.map_clauses change x) ≡ map spot_named (p.clauses_spots x)
     clauses_named t.no_clauses = refl
     clauses_named (t.clause x xs) = two (p.clause_spots x) (p.clauses_spots xs) (clause_named x) (clauses_named xs)
 
-    walk_named : (x : Walk A) → p.walk_spots (m.map_walk (names_by f) x) ≡ map spot_named (p.walk_spots x)
+    walk_named : (x : Walk A) → p.walk_spots (m.map_walk change x) ≡ map spot_named (p.walk_spots x)
     walk_named (t.a_walk x e g) = two (p.target_spots x) (p.expr_spots e) (target_named x) (expr_named e)
 
-    target_named : (x : Target A) → p.target_spots (m.map_target (names_by f) x) ≡ map spot_named (p.target_spots x)
+    target_named : (x : Target A) → p.target_spots (m.map_target change x) ≡ map spot_named (p.target_spots x)
     target_named (t.to_place x) = place_named x
     target_named (t.group xs) = targets_named xs
 
-    targets_named : (x : Targets A) → p.targets_spots (m.map_targets (names_by f) x) ≡ map spot_named (p.targets_spots x)
+    targets_named : (x : Targets A) → p.targets_spots (m.map_targets change x) ≡ map spot_named (p.targets_spots x)
     targets_named t.no_targets = refl
     targets_named (t.target x xs) = two (p.target_spots x) (p.targets_spots xs) (target_named x) (targets_named xs)
 
-    place_named : (x : Place A) → p.place_spots (m.map_place (names_by f) x) ≡ map spot_named (p.place_spots x)
+    place_named : (x : Place A) → p.place_spots (m.map_place change x) ≡ map spot_named (p.place_spots x)
     place_named (t.to_name n) = refl
     place_named (t.to_attr e n g) = two (p.expr_spots e) (Attribute n ∷ []) (expr_named e) refl
     place_named (t.to_item e i g) = two (p.expr_spots e) (p.expr_spots i) (expr_named e) (expr_named i)
 
-    params_named : (x : Params A) → p.params_spots (m.map_params (names_by f) x) ≡ map spot_named (p.params_spots x)
+    params_named : (x : Params A) → p.params_spots (m.map_params change x) ≡ map spot_named (p.params_spots x)
     params_named (t.params ps l d) = three (p.plain_spots ps) (p.option_binds l) (p.option_binds d) (plain_named ps) (binds_named l) (binds_named d)
 
-    plain_named : (x : Plain A) → p.plain_spots (m.map_plain (names_by f) x) ≡ map spot_named (p.plain_spots x)
+    plain_named : (x : Plain A) → p.plain_spots (m.map_plain change x) ≡ map spot_named (p.plain_spots x)
     plain_named t.no_plain = refl
     plain_named (t.plain n e ps) = ap (λ xs. Binds (other n) ∷ xs) (two (p.maybe_spots e) (p.plain_spots ps) (maybe_named e) (plain_named ps))
 
-    trailer_named : (x : Trailer A) → p.trailer_spots (m.map_trailer (names_by f) x) ≡ map spot_named (p.trailer_spots x)
+    trailer_named : (x : Trailer A) → p.trailer_spots (m.map_trailer change x) ≡ map spot_named (p.trailer_spots x)
     trailer_named (t.attr n g) = refl
     trailer_named (t.item e g) = expr_named e
     trailer_named (t.slice x y z g) = three (p.maybe_spots x) (p.maybe_spots y) (p.maybe_spots z) (maybe_named x) (maybe_named y) (maybe_named z)
     trailer_named (t.call xs g) = args_named xs
 
-    trailers_named : (x : Trailers A) → p.trailers_spots (m.map_trailers (names_by f) x) ≡ map spot_named (p.trailers_spots x)
+    trailers_named : (x : Trailers A) → p.trailers_spots (m.map_trailers change x) ≡ map spot_named (p.trailers_spots x)
     trailers_named t.no_trailers = refl
     trailers_named (t.trailer x xs) = two (p.trailer_spots x) (p.trailers_spots xs) (trailer_named x) (trailers_named xs)
 
-    arg_named : (x : Arg A) → p.arg_spots (m.map_arg (names_by f) x) ≡ map spot_named (p.arg_spots x)
+    arg_named : (x : Arg A) → p.arg_spots (m.map_arg change x) ≡ map spot_named (p.arg_spots x)
     arg_named (t.value e) = expr_named e
     arg_named (t.star e) = expr_named e
     arg_named (t.key n e) = expr_named e
     arg_named (t.stars e) = expr_named e
 
-    args_named : (x : Args A) → p.args_spots (m.map_args (names_by f) x) ≡ map spot_named (p.args_spots x)
+    args_named : (x : Args A) → p.args_spots (m.map_args change x) ≡ map spot_named (p.args_spots x)
     args_named t.no_args = refl
     args_named (t.arg x xs) = two (p.arg_spots x) (p.args_spots xs) (arg_named x) (args_named xs)
 
-  option_named : (x : Option (Expr A)) → p.option_spots (option_map (m.map_expr (names_by f)) x) ≡ map spot_named (p.option_spots x)
+  option_named : (x : Option (Expr A)) → p.option_spots (option_map (m.map_expr change) x) ≡ map spot_named (p.option_spots x)
   option_named None = refl
   option_named (Some e) = expr_named e
 
-  places_named : (xs : List (Place A)) → flat_map p.place_spots (map (m.map_place (names_by f)) xs) ≡ map spot_named (flat_map p.place_spots xs)
+  places_named : (xs : List (Place A)) → flat_map p.place_spots (map (m.map_place change) xs) ≡ map spot_named (flat_map p.place_spots xs)
   places_named [] = refl
   places_named (x ∷ xs) = two (p.place_spots x) (flat_map p.place_spots xs) (place_named x) (places_named xs)
 
-  operator_named : (x : Place A) (at : Line) → p.operator_spots (m.map_place (names_by f) x) at ≡ map spot_named (p.operator_spots x at)
+  operator_named : (x : Place A) (at : Line) → p.operator_spots (m.map_place change x) at ≡ map spot_named (p.operator_spots x at)
   operator_named (t.to_name n) at = refl
   operator_named (t.to_attr e n g) at = refl
   operator_named (t.to_item e i g) at = refl
 
-  function_named : (suite : Suite) (n : Named A) → p.function_spot suite (m.map_named (names_by f) n) ≡ spot_named (p.function_spot suite n)
+  function_named : (suite : Suite) (n : Named A) → p.function_spot suite (m.map_named change n) ≡ spot_named (p.function_spot suite n)
   function_named OfClass n = refl
   function_named Other n = refl
 
   mutual
-    stmt_named : (suite : Suite) (x : Stmt A) → p.stmt_spots suite (m.map_stmt (names_by f) x) ≡ map spot_named (p.stmt_spots suite x)
+    stmt_named : (suite : Suite) (x : Stmt A) → p.stmt_spots suite (m.map_stmt change x) ≡ map spot_named (p.stmt_spots suite x)
     stmt_named suite (s.a_stmt l x) = stmt_form_named suite x
 
-    stmt_form_named : (suite : Suite) (x : StmtForm A) → p.stmt_form_spots suite (m.map_stmt_form (names_by f) x) ≡ map spot_named (p.stmt_form_spots suite x)
+    stmt_form_named : (suite : Suite) (x : StmtForm A) → p.stmt_form_spots suite (m.map_stmt_form change x) ≡ map spot_named (p.stmt_form_spots suite x)
     stmt_form_named suite (s.evaluate e) = expr_named e
     stmt_form_named suite (s.assign xs e) = two (flat_map p.place_spots xs) (p.expr_spots e) (places_named xs) (expr_named e)
     stmt_form_named suite (s.unpack x e g) = two (p.target_spots x) (p.expr_spots e) (target_named x) (expr_named e)
@@ -215,22 +218,22 @@ module _ {A B : Type 0} (f : A → B) where
         λ i. function_named suite n i ∷ two (p.params_spots ps) (p.stmts_spots Other b) (params_named ps) (stmts_named Other b) i
     stmt_form_named suite (s.class n b) = ap (λ xs. Binds (other n) ∷ xs) (stmts_named OfClass b)
 
-    pub stmts_named : (suite : Suite) (x : Stmts A) → p.stmts_spots suite (m.map_stmts (names_by f) x) ≡ map spot_named (p.stmts_spots suite x)
+    pub stmts_named : (suite : Suite) (x : Stmts A) → p.stmts_spots suite (m.map_stmts change x) ≡ map spot_named (p.stmts_spots suite x)
     stmts_named suite s.no_stmts = refl
     stmts_named suite (s.stmt x xs) = two (p.stmt_spots suite x) (p.stmts_spots suite xs) (stmt_named suite x) (stmts_named suite xs)
 
-    maybe_stmts_named : (x : MaybeStmts A) → p.maybe_stmts_spots (m.map_maybe_stmts (names_by f) x) ≡ map spot_named (p.maybe_stmts_spots x)
+    maybe_stmts_named : (x : MaybeStmts A) → p.maybe_stmts_spots (m.map_maybe_stmts change x) ≡ map spot_named (p.maybe_stmts_spots x)
     maybe_stmts_named s.none = refl
     maybe_stmts_named (s.some b) = stmts_named Other b
 
-    branches_named : (x : Branches A) → p.branches_spots (m.map_branches (names_by f) x) ≡ map spot_named (p.branches_spots x)
+    branches_named : (x : Branches A) → p.branches_spots (m.map_branches change x) ≡ map spot_named (p.branches_spots x)
     branches_named s.no_branches = refl
     branches_named (s.branch e b bs) = three (p.expr_spots e) (p.stmts_spots Other b) (p.branches_spots bs) (expr_named e) (stmts_named Other b) (branches_named bs)
 
-    except_named : (x : Except A) → p.except_spots (m.map_except (names_by f) x) ≡ map spot_named (p.except_spots x)
+    except_named : (x : Except A) → p.except_spots (m.map_except change x) ≡ map spot_named (p.except_spots x)
     except_named (s.an_except k n b) = three (p.option_spots k) (p.option_binds n) (p.stmts_spots Other b) (option_named k) (binds_named n) (stmts_named Other b)
 
-    excepts_named : (x : Excepts A) → p.excepts_spots (m.map_excepts (names_by f) x) ≡ map spot_named (p.excepts_spots x)
+    excepts_named : (x : Excepts A) → p.excepts_spots (m.map_excepts change x) ≡ map spot_named (p.excepts_spots x)
     excepts_named s.no_excepts = refl
     excepts_named (s.except x xs) = two (p.except_spots x) (p.excepts_spots xs) (except_named x) (excepts_named xs)
 
@@ -287,4 +290,21 @@ module _ {A B : Type 0} (f : A → B) where
 -- the offences of a tree whose names stand for words are those of the tree of these words
 pub offences-named : {A : Type 0} (f : A → List ℕ) (x : Stmts A) → offences (named f x) ≡ map (offence_named f) (offences_by f x)
 unfolding offences_by
-offences-named f x = ap (filter_map (offence (λ word. word))) (stmts_named f Other x) ∙ found_named f (λ word. word) (p.spots x)
+offences-named f x = ap (filter_map (offence (λ word. word))) (stmts_named f (λ k. k) Other x) ∙ found_named f (λ k. k) (λ word. word) (p.spots x)
+
+same_spot : {A : Type 0} (x : Spot A) → spot_named (λ n. n) (λ k. 0) x ≡ x
+same_spot (Reads n) = refl
+same_spot (Binds n) = refl
+same_spot (Method n) = refl
+same_spot (Calls n) = refl
+same_spot (Attribute n) = refl
+same_spot (Augments line) = refl
+
+same_spots : {A : Type 0} (xs : List (Spot A)) → map (spot_named (λ n. n) (λ k. 0)) xs ≡ xs
+same_spots [] = refl
+same_spots (x ∷ xs) = λ i. same_spot x i ∷ same_spots xs i
+
+-- a tree has the offences that it has without the numbers of its code blocks
+pub offences-unnumbered : {A : Type 0} (word : A → List ℕ) (x : Stmts A) → offences_by word (without_blocks x) ≡ offences_by word x
+unfolding offences_by
+offences-unnumbered word x = ap (filter_map (offence word)) (stmts_named (λ n. n) (λ k. 0) Other x ∙ same_spots (p.spots x))

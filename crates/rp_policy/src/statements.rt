@@ -64,6 +64,26 @@ impl<'a> Collector<'a> {
         }
     }
 
+    /// An assignment to places.
+    fn assigned(&mut self, places: &[Place], value: &Expr) -> Result<(), Memory>
+        ensures { OnOk result (self.new
+            ≡ steps.with_expr (view_expr value.now) (steps.with_places (map view_place places.now) self.old)) }
+    {
+        self.places(places)?;
+        self.expr(value)
+    }
+
+    /// An augmented assignment.
+    fn augmented(&mut self, place: &Place, line: Line, value: &Expr) -> Result<(), Memory>
+        ensures { OnOk result (self.new
+            ≡ steps.with_expr (view_expr value.now)
+            (steps.with_operator (view_place place.now) line (steps.with_place (view_place place.now) self.old))) }
+    {
+        self.place(place)?;
+        self.operator(place, line)?;
+        self.expr(value)
+    }
+
     /// The name of a function that is defined directly in such a block.
     fn function(&mut self, suite: Suite, name: Named) -> Result<(), Memory>
         ensures { OnOk result (self.new ≡ steps.seen self.old (p.function_spot suite name)) }
@@ -88,10 +108,7 @@ impl<'a> Collector<'a> {
     {
         match form {
             StmtForm::Expr(expr) => self.expr(expr),
-            StmtForm::Assign(places, value) => {
-                self.places(places)?;
-                self.expr(value)
-            }
+            StmtForm::Assign(places, value) => self.assigned(places, value),
             StmtForm::Unpack(target, value, _) => {
                 self.target(target)?;
                 self.expr(value)
@@ -101,11 +118,7 @@ impl<'a> Collector<'a> {
                 at,
                 value,
                 ..
-            } => {
-                self.place(place)?;
-                self.operator(place, *at)?;
-                self.expr(value)
-            }
+            } => self.augmented(place, *at, value),
             StmtForm::Del(places) => self.places(places),
             StmtForm::Pass | StmtForm::Break | StmtForm::Continue => Ok(()),
             StmtForm::Return(value) => self.option(value),

@@ -2,6 +2,6 @@ mod Ascii
 pub mod Counts
 pub mod Pages
 mod PrintedExamples
-mod Renamed
+pub mod Renamed
 mod Written
 mod WrittenLines

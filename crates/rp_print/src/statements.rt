@@ -277,20 +277,17 @@ fn write_stmt_form(
 {
     match form {
         StmtForm::If(branches, other) => {
-            let inner = deeper(depth)?;
             write_branches(names, page, depth, branches)?;
             write_keyword(page, depth, "else:", other)?;
-            write_stmts(names, page, inner, stmts_of(other))
+            write_block(names, page, depth, stmts_of(other))
         }
         StmtForm::While(test, body) => {
-            let inner = deeper(depth)?;
             write_test_head(names, page, depth, "while ", test)?;
-            write_stmts(names, page, inner, body)
+            write_block(names, page, depth, body)
         }
         StmtForm::For(walk, body) => {
-            let inner = deeper(depth)?;
             write_for_head(names, page, depth, walk)?;
-            write_stmts(names, page, inner, body)
+            write_block(names, page, depth, body)
         }
         StmtForm::Try {
             body,
@@ -298,24 +295,21 @@ fn write_stmt_form(
             other,
             last,
         } => {
-            let inner = deeper(depth)?;
             write_head(page, depth, "try:")?;
-            write_stmts(names, page, inner, body)?;
+            write_block(names, page, depth, body)?;
             write_handlers(names, page, depth, handlers)?;
             write_keyword(page, depth, "else:", other)?;
-            write_stmts(names, page, inner, stmts_of(other))?;
+            write_block(names, page, depth, stmts_of(other))?;
             write_keyword(page, depth, "finally:", last)?;
-            write_stmts(names, page, inner, stmts_of(last))
+            write_block(names, page, depth, stmts_of(last))
         }
         StmtForm::Def(_, named, params, body) => {
-            let inner = deeper(depth)?;
             write_def_head(names, page, depth, *named, params)?;
-            write_stmts(names, page, inner, body)
+            write_block(names, page, depth, body)
         }
         StmtForm::Class(named, body) => {
-            let inner = deeper(depth)?;
             write_class_head(names, page, depth, *named)?;
-            write_stmts(names, page, inner, body)
+            write_block(names, page, depth, body)
         }
         StmtForm::Expr(_) | StmtForm::Assign(_, _) | StmtForm::Unpack(_, _, _) => {
             write_line(names, page, depth, form)
@@ -328,6 +322,16 @@ fn write_stmt_form(
         }
         StmtForm::Assert(_, _) | StmtForm::Global(_) => write_line(names, page, depth, form),
     }
+}
+
+/// The block of a statement.
+#[cycle(stmt)]
+fn write_block(names: &Names, page: &mut Page, depth: usize, stmts: &[Stmt]) -> Result<(), Memory>
+    ensures { OnOk result (page.new
+        ≡ step.put_stmts (word_of names.now) (suc depth) (v.view_stmts stmts.now) page.old) }
+{
+    let inner = deeper(depth)?;
+    write_stmts(names, page, inner, stmts)
 }
 
 /// One block further within. More blocks than a number can count are want of memory.

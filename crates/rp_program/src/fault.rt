@@ -17,8 +17,8 @@ pub enum ProgramFault {
     NotUtf8(usize),
     /// The text has no tokens, for its first fault. A want of memory is `Memory`.
     Token(TokenFault),
-    /// The tokens of the text spell no tree of height at most 200. The line is that of the last place at which a statement
-    /// could begin: what stands before it can be ended to a whole program, and no longer front can.
+    /// The tokens of the text spell no tree of height at most 200. The line is that of the last place at which a
+    /// statement could begin: what stands before it can be ended to a whole program, and no longer front can.
     Syntax(Line),
     /// A growth was refused.
     Memory,

@@ -23,13 +23,13 @@ use rp_trail::{Entry, Verdict};
 use std::alloc::Global;
 
 /// Decides on an operation on a value (zope.security: checkers). Only one on a proxy is decided: for one cell, an entry
-/// of the session that runs is added to the trail, with the verdict of the object's class on its principals. An operation
-/// on a rock or a plain reference takes no memory, and nothing is changed.
+/// of the session that runs is added to the trail, with the verdict of the object's class on its principals. An
+/// operation on a rock or a plain reference takes no memory, and nothing is changed.
 ///
 /// # Errors
 /// - `StopCells` exactly where the cell is over the limit; then nothing is changed.
-/// - `Raised` exactly where the verdict on the operation does not allow it: `Unauthorized` with the id of the permission
-///   that a principal lacks, or `ForbiddenAttribute` with the name.
+/// - `Raised` exactly where the verdict on the operation does not allow it: `Unauthorized` with the id of the
+///   permission that a principal lacks, or `ForbiddenAttribute` with the name.
 /// - `Memory` where a growth was refused; then the trail and the store are as before.
 #[inline(always)]
 pub fn cross(alloc: Global, world: &mut World, value: &Value, op: Op) -> Result<(), OpEnd>
@@ -54,8 +54,8 @@ pub fn cross(alloc: Global, world: &mut World, value: &Value, op: Op) -> Result<
     }
 }
 
-/// Decides on an operation through a proxy. One that is allowed by what is known at once is let pass; else the principals
-/// are asked.
+/// Decides on an operation through a proxy. One that is allowed by what is known at once is let pass; else the
+/// principals are asked.
 fn cross_proxy(alloc: Global, world: &mut World, at: Oid, op: Op) -> Result<(), OpEnd>
     requires faithful { IsFaithful world.old }
     requires held { IsHeld world.old.store.heap at }

@@ -9,9 +9,9 @@ ghost use Rattle.rp_proxy.specs.Taken.{bare, owns, reference_for, taken};
 use rp_base::{Oid, Side, Value};
 use rp_store::Store;
 
-/// The value as code of a side gets it (zope.security: proxies). Trusted code, side 0, gets it as it is. A script gets a
-/// rock as it is, a reference to an object of its own plainly, and a proxy of an object of another side; a proxy is not
-/// proxied again.
+/// The value as code of a side gets it (zope.security: proxies). Trusted code, side 0, gets it as it is. A script gets
+/// a rock as it is, a reference to an object of its own plainly, and a proxy of an object of another side; a proxy is
+/// not proxied again.
 pub fn take(store: &Store, value: Value, side: Side) -> Value
     requires { IsValueHeld store.now.heap value }
     ensures value { result ≡ taken store.now.heap side value }

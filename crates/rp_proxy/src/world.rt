@@ -42,8 +42,8 @@ impl World {
     ghost use Rattle.rp_interact.specs.Answers.{AnswersAs};
     ghost use Rattle.rp_proxy.specs.Faithful.{IsFaithful};
 
-    /// The world of declarations, which were read into the names, with an empty store in which so many cells may be used,
-    /// and an empty trail.
+    /// The world of declarations, which were read into the names, with an empty store in which so many cells may be
+    /// used, and an empty trail.
     ///
     /// # Errors
     /// `Memory` where a growth was refused.

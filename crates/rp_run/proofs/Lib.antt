@@ -5,6 +5,7 @@ mod Ids
 mod Later
 mod Pieces
 mod Reasons
+mod Said
 mod Sayings
 pub mod Taken
 pub mod Determined

@@ -1,5 +1,5 @@
 -- What the steps of a command say of the contents of its files.
-use Rattle.std.proofs.Common.{◌≡◌, ◌≢◌, ◌++◌, ◌∙◌, ℕ, false, List, map, codes, Option, Some, None, Result, Ok, Err, IfOk, IfSome, Vec, Global, ap, subst, refl}
+use Rattle.std.proofs.Common.{◌≡◌, ◌≢◌, ◌+◌, ◌++◌, ◌∙◌, ◌⊎◌, inl, inr, ℕ, false, List, map, codes, Option, Some, None, Result, Ok, Err, IfErr, IfOk, OnOk, IfSome, Vec, Global, ap, subst, sym, refl, arith}
 use Rattle.rp_first.specs.Refusal.{IsRefused as IsScriptRefused, refusal_line as script_refusal_line}
 use Rattle.rp_first.specs.Rewrites.{Rewrites}
 use Rattle.rp_first.specs.Script.{IsScript}
@@ -9,11 +9,9 @@ use Rattle.rp_first.specs.declared.refusal.Refusal.{Refusal as ScriptRefusal}
 use Rattle.rp_first.specs.declared.tree.Stmt.{Stmt}
 use Rattle.rp_decl.specs.Declares.{Declares, version, shape, permission, class, group, role}
 use Rattle.rp_decl.specs.Faults.{HasFault, fault_line}
-use Rattle.rp_decl.specs.InOrder.{AreInOrder}
 use Rattle.rp_decl.specs.Records.{Declarations}
 use Rattle.rp_decl.specs.View.{Placed, declarations_view, name_text, text_at}
 use Rattle.rp_decl.specs.Word.{is_among}
-use Rattle.rp_base.specs.declared.memory.Memory.{Memory as MemoryFault}
 use Rattle.rp_decl.specs.declared.fault.DeclFault.{DeclFault}
 use Rattle.rp_decl.specs.declared.fault.DeclFault.TheVariants.{NotToml, Version, Shape, Permission, Class, Group, Role, Memory}
 use Rattle.rp_interact.specs.Answers.{IsRefusedFor}
@@ -23,26 +21,18 @@ use Rattle.rp_interact.specs.declared.who_fault.WhoFault.TheVariants.{Unknown}
 use Rattle.rp_load.specs.Load.{Fault, fault_of, fault_line as load_fault_line}
 use Rattle.rp_run.specs.Command.{Run, May, run}
 use Rattle.rp_run.specs.Contents.{Holds}
-use Rattle.rp_run.specs.Headline.{AdmitsRun}
+use Rattle.rp_run.specs.Headline.{AdmitsRun, BeginsNamed}
 use Rattle.rp_run.specs.declared.answer.Answer.{Answer}
-use Rattle.rp_run.specs.View.{IsReadInto, TellsDeclared}
-use Rattle.rp_run.specs.declared.declaring.Declared.{Declared}
-use Rattle.rp_run.specs.declared.declaring.Declared.TheVariants.{Records, Refused}
+use Rattle.rp_run.specs.Refusals.{BeginsNext, IsLong, IsWhole, OnRefusal, RefusesLong, RefusesRun, RefusesScript, RefusesUndeclared, RefusesUnknown, RefusesUnread, TellsRead}
+use Rattle.rp_run.specs.Steps.{BeginsOnly, IsCommandStatus}
 use Rattle.rp_run.specs.declared.reading.Contents.{Contents}
 use Rattle.rp_run.specs.declared.reading.Contents.TheVariants.{Whole, TooLong}
 use Rattle.rp_run.specs.declared.stop.Stop.{Stop}
+use Rattle.rp_run.specs.declared.stop.Stop.TheVariants.{Refused, Failed, Memory as StopMemory}
 use Rattle.rp_run.specs.Output.{session_block, end_status, may_status, may_text}
 use Rattle.rp_run.proofs.Reasons.{HasPlace}
 use Rattle.rp_run.specs.Told as told
 use Rattle.rp_run.specs.Told.{IsShort, IsTooLong, IsRead, IsAdmitted, ToldUnread, ToldRun, ToldMay, too_long_line, undeclared_line, unknown_line, played}
-
--- the file at a path is short, and these are its bytes
-abbrev pub IsWhole : Option (List ℕ → List ℕ) → List ℕ → List ℕ → Type 0
-IsWhole contents bytes path = IfSome contents (λ of. (bytes ≡ of path) × IsShort (of path))
-
--- the file at a path is too long
-abbrev pub IsLong : Option (List ℕ → List ℕ) → List ℕ → Type 0
-IsLong contents path = IfSome contents (λ of. IsTooLong (of path))
 
 pub whole_read : (contents : Option (List ℕ → List ℕ)) (held : Contents) (bytes : Vec ℕ Global) (read path : List ℕ)
     → held ≡ Whole bytes → read ≡ path → IfSome contents (λ of. Holds held (of read)) → IsWhole contents bytes.items path
@@ -59,10 +49,6 @@ long_read contents held read path is_long is_path holds =
 -- what is said of the file at the path of the declarations
 abbrev pub TellsUnread : List ℕ → Option (List ℕ → List ℕ) → List ℕ → ℕ → Type 0
 TellsUnread path contents text status = IfSome contents (λ of. ToldUnread path (of path) text status)
-
--- the file at the path declares these records
-abbrev pub TellsRead : List ℕ → Option (List ℕ → List ℕ) → Declarations → Type 0
-TellsRead path contents d = IfSome contents (λ of. IsRead (of path) d)
 
 pub tells_long : (path : List ℕ) (contents : Option (List ℕ → List ℕ)) (text : List ℕ) (status : ℕ)
     → IsLong contents path → text ≡ too_long_line path → status ≡ 9 → TellsUnread path contents text status
@@ -90,14 +76,62 @@ tells_fault path bytes None names fault text status whole has other said ended =
 tells_fault path bytes (Some of) names fault text status whole has other said ended =
     unread_by path (of path) names fault text status whole.1 (subst (λ file. HasFault file names fault) whole.0 has) other said ended
 
--- what came of reading declarations
-pub declared_refused : (path : List ℕ) (contents : Option (List ℕ → List ℕ)) (names : List (List ℕ)) (declared : Declared) (answer : Answer)
-    → declared ≡ Refused answer → IfSome contents (λ of. TellsDeclared path (of path) names declared) → TellsUnread path contents answer.text answer.status.0
-declared_refused path contents names declared answer is tells = subst (λ r. IfSome contents (λ of. TellsDeclared path (of path) names r)) is tells
+-- ---- refusals
 
-pub declared_records : (path : List ℕ) (contents : Option (List ℕ → List ℕ)) (names : List (List ℕ)) (declared : Declared) (d : Placed)
-    → declared ≡ Records d → IfSome contents (λ of. TellsDeclared path (of path) names declared) → TellsRead path contents (declarations_view names d)
-declared_records path contents names declared d is tells = subst (λ r. IfSome contents (λ of. TellsDeclared path (of path) names r)) is tells
+-- what is said of a refusal says more of it
+pub refused_as : (P Q : Answer → Type 0) (stop : Stop) → ((a : Answer) → P a → Q a) → OnRefusal P stop → OnRefusal Q stop
+refused_as P Q (Refused a) more says = more a says
+refused_as P Q Failed more says = tt
+refused_as P Q StopMemory more says = tt
+
+-- what holds whatever is said
+pub refused_always : (P : Type 0) (stop : Stop) → P → OnRefusal (λ a. P) stop
+refused_always P (Refused a) holds = holds
+refused_always P Failed holds = tt
+refused_always P StopMemory holds = tt
+
+-- a step that refuses nothing
+pub refused_never : (P : Answer → Type 0) (stop : Stop) → OnRefusal (λ a. ⊥) stop → OnRefusal P stop
+refused_never P (Refused a) never = absurd never
+refused_never P Failed never = tt
+refused_never P StopMemory never = tt
+
+abbrev pub stopped : Stop → Result Answer Stop
+stopped stop = Err stop
+
+abbrev pub stop_of : Result Answer Stop → Stop
+stop_of (Ok a) = Failed
+stop_of (Err stop) = stop
+
+-- a step that reads nothing fails at no read
+pub unfailed_so : (P : Type 0) (stop : Stop) → stop ≢ Failed → stopped stop ≡ stopped Failed → P
+unfailed_so P stop apart failed = absurd (apart (ap stop_of failed))
+
+-- a clause on a result that is already known
+pub always : {A : Type 0} (P : Type 0) (r : Result A Stop) → P → OnOk r P
+always P (Ok x) holds = holds
+always P (Err stop) holds = tt
+
+pub nine : (status : ℕ) → status ≡ 9 → IsCommandStatus status
+nine status e = (omega arith, (omega arith, omega arith, omega arith), omega arith)
+
+pub four : (status : ℕ) → status ≡ 4 → IsCommandStatus status
+four status e = (omega arith, (omega arith, omega arith, omega arith), omega arith)
+
+pub three : (status : ℕ) → status ≡ 3 → IsCommandStatus status
+three status e = (omega arith, (omega arith, omega arith, omega arith), omega arith)
+
+pub long_status : (contents : Option (List ℕ → List ℕ)) (path : List ℕ) (stop : Stop) → OnRefusal (RefusesLong contents path) stop → OnRefusal (λ a. IsCommandStatus a.status.0) stop
+long_status contents path stop says = refused_as (RefusesLong contents path) (λ a. IsCommandStatus a.status.0) stop (λ a long. nine a.status.0 long.2) says
+
+pub unread_long : (path : List ℕ) (contents : Option (List ℕ → List ℕ)) (stop : Stop) → OnRefusal (RefusesLong contents path) stop → OnRefusal (RefusesUnread path contents) stop
+unread_long path contents stop says = refused_as (RefusesLong contents path) (RefusesUnread path contents) stop (λ a long. tells_long path contents a.text a.status.0 long.0 long.1 long.2) says
+
+-- no file was begun yet
+pub only_next : (path last_path old_path : List ℕ) (before begun : ℕ) → before ≡ 0 → ((begun ≡ before) × (last_path ≡ old_path)) ⊎ BeginsNext path before begun last_path
+    → (begun ≡ 0) ⊎ BeginsOnly path begun last_path
+only_next path last_path old_path before begun none tried =
+    elim tried [ inl same ↦ inl (same.0 ∙ none) | inr next ↦ inr (let one : begun ≡ 1 = next.0 ∙ ap (λ (n : ℕ). n + 1) none in one, next.1) ]
 
 -- ---- a run
 
@@ -127,48 +161,83 @@ tells_session r d later (Some of) bytes text names script status same whole (sou
     λ admitted. told.ran d admitted whole.1 source (subst (λ file. IsScript file source) whole.0 parts.0)
     (said ∙ (λ i. session_block 1 r.who (played r (same i) (parts.1.same i)))) (ended ∙ (λ i. end_status (played r (same i) (parts.1.same i)).answer))
 
--- what is said of declarations that are read, to each contents of which they are
-abbrev pub TellsOf : Run → Declarations → Option (List ℕ → List ℕ) → List ℕ → ℕ → Type 0
-TellsOf r d contents text status = IfSome contents (λ of. IsRead (of r.declarations) d → ToldRun r of text status)
-
-pub tells_not_run : (r : Run) (d : Declarations) (contents : Option (List ℕ → List ℕ)) (fault : Fault) (text : List ℕ) (status : ℕ)
-    → fault_of d ≡ Some fault → text ≡ load_fault_line fault → status ≡ 3 → TellsOf r d contents text status
-tells_not_run r d None fault text status has said ended = tt
-tells_not_run r d (Some of) fault text status has said ended = λ read. told.not_run d read fault has said ended
-
-pub tells_unknown : (r : Run) (d : Declarations) (contents : Option (List ℕ → List ℕ)) (id text : List ℕ) (status : ℕ)
-    → fault_of d ≡ None → first_unknown d r.ids ≡ Some id → text ≡ unknown_line id → status ≡ 3 → TellsOf r d contents text status
-tells_unknown r d None id text status runs unknown said ended = tt
-tells_unknown r d (Some of) id text status runs unknown said ended = λ read. told.unknown_principal d read runs id unknown said ended
-
-pub tells_known : (r : Run) (d : Declarations) (contents : Option (List ℕ → List ℕ)) (result : Result Answer Stop)
-    → fault_of d ≡ None → first_unknown d r.ids ≡ None → IfOk result (λ a. TellsScript r d contents a.text a.status.0)
-    → IfOk result (λ a. TellsOf r d contents a.text a.status.0)
-tells_known r d contents (Err stop) runs known tells = tt
-tells_known r d None (Ok a) runs known tells = tt
-tells_known r d (Some of) (Ok a) runs known tells = λ read. tells (record { read = read; runs = runs; known = known })
+-- the script of a run is begun second
+pub begins_named : (r : Run) (old_path last_path : List ℕ) (before begun : ℕ) → BeginsOnly r.declarations before old_path → ((begun ≡ before) × (last_path ≡ old_path)) ⊎ BeginsNext r.script before begun last_path
+    → BeginsNamed (Some (run r)) begun last_path
+begins_named r old_path last_path before begun only tried =
+    elim tried [
+      | inl same ↦ inr (inl (same.0 ∙ only.0, same.1 ∙ only.1))
+      | inr next ↦ inr (inr (next.0 ∙ ap (λ (n : ℕ). n + 1) only.0, ap Some (sym next.1)))
+    ]
 
 -- what is said to a run
 abbrev pub TellsRun : Run → Option (List ℕ → List ℕ) → List ℕ → ℕ → Type 0
 TellsRun r contents text status = IfSome contents (λ of. ToldRun r of text status)
 
-pub tells_unread_run : (r : Run) (contents : Option (List ℕ → List ℕ)) (text : List ℕ) (status : ℕ)
-    → TellsUnread r.declarations contents text status → TellsRun r contents text status
-tells_unread_run r None text status unread = tt
-tells_unread_run r (Some of) text status unread = told.ToldRun.unread unread
+pub unread_run : (r : Run) (contents : Option (List ℕ → List ℕ)) (stop : Stop)
+    → OnRefusal (RefusesUnread r.declarations contents) stop → OnRefusal (λ a. TellsRun r contents a.text a.status.0) stop
+unread_run r contents stop says = refused_as (RefusesUnread r.declarations contents) (λ a. TellsRun r contents a.text a.status.0) stop (λ a. unread_by_run contents a.text a.status.0) says
+  where
+    unread_by_run : (contents : Option (List ℕ → List ℕ)) (text : List ℕ) (status : ℕ) → TellsUnread r.declarations contents text status → TellsRun r contents text status
+    unread_by_run None text status unread = tt
+    unread_by_run (Some of) text status unread = told.ToldRun.unread unread
 
-pub tells_run : (r : Run) (d : Declarations) (contents : Option (List ℕ → List ℕ)) (result : Result Answer Stop)
-    → TellsRead r.declarations contents d → IfOk result (λ a. TellsOf r d contents a.text a.status.0)
-    → IfOk result (λ a. TellsRun r contents a.text a.status.0)
-tells_run r d contents (Err stop) read tells = tt
-tells_run r d None (Ok a) read tells = tt
-tells_run r d (Some of) (Ok a) read tells = tells read
+-- the principals are known through all names
+pub known_to : {A : Type 0} (d : Placed) (names : List (List ℕ)) (ids : List (List ℕ)) (result : Result A Stop) → OnOk result ((names : List (List ℕ)) → first_unknown (declarations_view names d) ids ≡ None)
+    → OnOk result (first_unknown (declarations_view names d) ids ≡ None)
+known_to d names ids (Ok x) known = known names
+known_to d names ids (Err stop) known = tt
 
--- a run whose script was begun is admitted
-pub admitted_run : (r : Run) (d : Declarations) (contents : Option (List ℕ → List ℕ))
-    → TellsRead r.declarations contents d → fault_of d ≡ None → first_unknown d r.ids ≡ None → IfSome contents (AdmitsRun (run r))
-admitted_run r d None read runs known = tt
-admitted_run r d (Some of) read runs known = (d, record { read = read; runs = runs; known = known })
+-- one of the ids is that of no principal
+pub unknown_run : {A : Type 0} (d : Placed) (names : List (List ℕ)) (ids : List (List ℕ)) (result : Result A Stop) → fault_of (declarations_view names d) ≡ None
+    → IfErr result (OnRefusal (RefusesUnknown d ids)) → IfErr result (OnRefusal (RefusesRun (declarations_view names d) ids))
+unknown_run d names ids (Ok x) runs says = tt
+unknown_run d names ids (Err stop) runs says =
+    refused_as (RefusesUnknown d ids) (RefusesRun (declarations_view names d) ids) stop (λ a unknown. λ r of same read.
+    told.ToldRun.unknown_principal (declarations_view names d) read runs unknown.0 (ap (first_unknown (declarations_view names d)) same ∙ unknown.1.0 names) unknown.1.1 unknown.1.2) says
+
+-- the declarations cannot be run
+pub not_run : (d : Declarations) (ids : List (List ℕ)) (fault : Fault) (a : Answer) → fault_of d ≡ Some fault → a.text ≡ load_fault_line fault → a.status.0 ≡ 3 → RefusesRun d ids a
+not_run d ids fault a has said ended = λ r of same read. told.not_run d read fault has said ended
+
+pub unadmitted_run : (r : Run) (d : Declarations) (contents : Option (List ℕ → List ℕ)) (ids : List (List ℕ)) (stop : Stop) → ids ≡ r.ids → TellsRead r.declarations contents d
+    → OnRefusal (RefusesRun d ids) stop → OnRefusal (λ a. TellsRun r contents a.text a.status.0) stop
+unadmitted_run r d None ids stop same read says = refused_as (RefusesRun d ids) (λ a. TellsRun r None a.text a.status.0) stop (λ a refuses. tt) says
+unadmitted_run r d (Some of) ids stop same read says = refused_as (RefusesRun d ids) (λ a. TellsRun r (Some of) a.text a.status.0) stop (λ a refuses. refuses r of (sym same) read) says
+
+-- the declarations can be run, and have the principals
+abbrev pub Admits : Run → Option (List ℕ → List ℕ) → Declarations → Type 0
+Admits r contents d = IfSome contents (λ of. IsAdmitted r of d)
+
+pub admits : (r : Run) (d : Declarations) (contents : Option (List ℕ → List ℕ)) (ids : List (List ℕ)) → ids ≡ r.ids → TellsRead r.declarations contents d → fault_of d ≡ None → first_unknown d ids ≡ None
+    → Admits r contents d
+admits r d None ids same read runs known = tt
+admits r d (Some of) ids same read runs known = record { read = read; runs = runs; known = ap (first_unknown d) (sym same) ∙ known }
+
+pub admitted_run : (r : Run) (d : Declarations) (contents : Option (List ℕ → List ℕ)) → Admits r contents d → IfSome contents (AdmitsRun (run r))
+admitted_run r d None admitted = tt
+admitted_run r d (Some of) admitted = (d, admitted)
+
+-- what is told where the run is admitted is told
+pub tells_admitted : (r : Run) (d : Declarations) (contents : Option (List ℕ → List ℕ)) (text : List ℕ) (status : ℕ) → Admits r contents d → TellsScript r d contents text status → TellsRun r contents text status
+tells_admitted r d None text status admitted tells = tt
+tells_admitted r d (Some of) text status admitted tells = tells admitted
+
+pub long_run : (r : Run) (d : Declarations) (contents : Option (List ℕ → List ℕ)) (stop : Stop) → Admits r contents d
+    → OnRefusal (RefusesLong contents r.script) stop → OnRefusal (λ a. TellsRun r contents a.text a.status.0) stop
+long_run r d contents stop admitted says =
+    refused_as (RefusesLong contents r.script) (λ a. TellsRun r contents a.text a.status.0) stop
+    (λ a long. tells_admitted r d contents a.text a.status.0 admitted (tells_long_script r d contents a.text a.status.0 long.0 long.1 long.2)) says
+
+pub script_status : (bytes : List ℕ) (stop : Stop) → OnRefusal (RefusesScript bytes) stop → OnRefusal (λ a. IsCommandStatus a.status.0) stop
+script_status bytes stop says = refused_as (RefusesScript bytes) (λ a. IsCommandStatus a.status.0) stop (λ a refused. four a.status.0 refused.1.2) says
+
+pub refused_run : (r : Run) (d : Declarations) (contents : Option (List ℕ → List ℕ)) (bytes given : List ℕ) (stop : Stop) → Admits r contents d → IsWhole contents bytes r.script → given ≡ bytes
+    → OnRefusal (RefusesScript given) stop → OnRefusal (λ a. TellsRun r contents a.text a.status.0) stop
+refused_run r d contents bytes given stop admitted whole same says =
+    refused_as (RefusesScript given) (λ a. TellsRun r contents a.text a.status.0) stop
+    (λ a refused. tells_admitted r d contents a.text a.status.0 admitted
+    (tells_refused r d contents bytes a.text refused.0 a.status.0 whole (subst (λ (b : List ℕ). IsScriptRefused b refused.0) same refused.1.0) refused.1.1 refused.1.2)) says
 
 -- ---- permissions
 
@@ -176,21 +245,13 @@ admitted_run r d (Some of) read runs known = (d, record { read = read; runs = ru
 abbrev pub TellsMay : May → Option (List ℕ → List ℕ) → List ℕ → ℕ → Type 0
 TellsMay m contents text status = IfSome contents (λ of. ToldMay m of text status)
 
-pub tells_unread_may : (m : May) (contents : Option (List ℕ → List ℕ)) (text : List ℕ) (status : ℕ)
-    → TellsUnread m.declarations contents text status → TellsMay m contents text status
-tells_unread_may m None text status unread = tt
-tells_unread_may m (Some of) text status unread = told.ToldMay.unread unread
-
--- what is said to `may` where the declarations are read
-abbrev pub TellsPlaced : May → Placed → Answer → Type 0
-TellsPlaced m d a =
-    (names : List (List ℕ)) (contents : List ℕ → List ℕ) → IsReadInto names d → IsRead (contents m.declarations) (declarations_view names d)
-    → ToldMay m contents a.text a.status.0
-
-pub tells_may : (m : May) (names : List (List ℕ)) (d : Placed) (contents : Option (List ℕ → List ℕ)) (a : Answer)
-    → TellsRead m.declarations contents (declarations_view names d) → IsReadInto names d → TellsPlaced m d a → TellsMay m contents a.text a.status.0
-tells_may m names d None a read into tells = tt
-tells_may m names d (Some of) a read into tells = tells names of into read
+pub unread_may : (m : May) (contents : Option (List ℕ → List ℕ)) (stop : Stop)
+    → OnRefusal (RefusesUnread m.declarations contents) stop → OnRefusal (λ a. TellsMay m contents a.text a.status.0) stop
+unread_may m contents stop says = refused_as (RefusesUnread m.declarations contents) (λ a. TellsMay m contents a.text a.status.0) stop (λ a. unread_by_may contents a.text a.status.0) says
+  where
+    unread_by_may : (contents : Option (List ℕ → List ℕ)) (text : List ℕ) (status : ℕ) → TellsUnread m.declarations contents text status → TellsMay m contents text status
+    unread_by_may None text status unread = tt
+    unread_by_may (Some of) text status unread = told.ToldMay.unread unread
 
 -- what is unknown of the principals, whatever the names
 abbrev pub AreKnown : Placed → List (List ℕ) → Option (List ℕ) → Type 0
@@ -199,27 +260,34 @@ AreKnown d ids unknown = (names : List (List ℕ)) → first_unknown (declaratio
 pub unknown_to : (d : Placed) (ids : List (List ℕ)) (fault : WhoFault) (id : List ℕ) → fault ≡ Unknown id → IsRefusedFor d ids fault → AreKnown d ids (Some id)
 unknown_to d ids fault id is refused = subst (IsRefusedFor d ids) is refused
 
-pub tells_unknown_may : (m : May) (d : Placed) (who : List (List ℕ)) (id : List ℕ) (result : Result Answer MemoryFault)
-    → who ≡ m.ids → AreKnown d who (Some id) → IfOk result (λ a. (a.text ≡ unknown_line id) × (a.status.0 ≡ 3)) → IfOk result (TellsPlaced m d)
-tells_unknown_may m d who id (Err stop) same unknown said = tt
-tells_unknown_may m d who id (Ok a) same unknown said =
-    λ names contents into read. told.ToldMay.unknown_principal (declarations_view names d) read id (subst (λ ids. first_unknown (declarations_view names d) ids ≡ Some id) same (unknown names)) said.0 said.1
+module _ (m : May) (names : List (List ℕ)) (d : Placed) (ids : List (List ℕ)) (same : ids ≡ m.ids) where
+  abbrev ds : Declarations
+  ds = declarations_view names d
 
-pub tells_undeclared : (m : May) (d : Placed) (who : List (List ℕ)) (result : Result Answer MemoryFault)
-    → who ≡ m.ids → AreKnown d who None → is_among d.permissions m.permission ≡ false → IfOk result (λ a. (a.text ≡ undeclared_line m.permission) × (a.status.0 ≡ 3))
-    → IfOk result (TellsPlaced m d)
-tells_undeclared m d who (Err stop) same known none said = tt
-tells_undeclared m d who (Ok a) same known none said =
-    λ names contents into read. told.undeclared (declarations_view names d) read (subst (λ ids. first_unknown (declarations_view names d) ids ≡ None) same (known names)) none said.0 said.1
+  of_unknown : (contents : Option (List ℕ → List ℕ)) (a : Answer) → TellsRead m.declarations contents ds → RefusesUnknown d ids a → TellsMay m contents a.text a.status.0
+  of_unknown None a read unknown = tt
+  of_unknown (Some of) a read unknown = told.ToldMay.unknown_principal ds read unknown.0 (ap (first_unknown ds) (sym same) ∙ unknown.1.0 names) unknown.1.1 unknown.1.2
 
-pub tells_reasons : (m : May) (d : Placed) (who ids : List (List ℕ)) (k : ℕ) (result : Result Answer MemoryFault)
-    → who ≡ m.ids → ids ≡ who → AreKnown d who None → HasPlace d.permissions m.permission k
-    → IfOk result (λ a. (names : List (List ℕ)) → AreInOrder (declarations_view names d) → a.text ≡ may_text (declarations_view names d) ids (text_at d.permissions k))
-    → IfOk result (λ a. (names : List (List ℕ)) → AreInOrder (declarations_view names d) → a.status.0 ≡ may_status (declarations_view names d) ids (text_at d.permissions k))
-    → IfOk result (TellsPlaced m d)
-tells_reasons m d who ids k (Err stop) same shown known place said ended = tt
-tells_reasons m d who ids k (Ok a) same shown known place said ended =
-    let all = shown ∙ same in
-    λ names contents into read. told.told (declarations_view names d) read (subst (λ ids. first_unknown (declarations_view names d) ids ≡ None) same (known names)) place.among
-    (said names into.ordered ∙ (λ i. may_text (declarations_view names d) (all i) (place.there i)))
-    (ended names into.ordered ∙ (λ i. may_status (declarations_view names d) (all i) (place.there i)))
+  pub unknown_may : (contents : Option (List ℕ → List ℕ)) (stop : Stop) → TellsRead m.declarations contents ds → OnRefusal (RefusesUnknown d ids) stop → OnRefusal (λ a. TellsMay m contents a.text a.status.0) stop
+  unknown_may contents stop read says = refused_as (RefusesUnknown d ids) (λ a. TellsMay m contents a.text a.status.0) stop (λ a. of_unknown contents a read) says
+
+  of_undeclared : (contents : Option (List ℕ → List ℕ)) (a : Answer) → TellsRead m.declarations contents ds → AreKnown d ids None → RefusesUndeclared d.permissions m.permission a → TellsMay m contents a.text a.status.0
+  of_undeclared None a read known undeclared = tt
+  of_undeclared (Some of) a read known undeclared = told.undeclared ds read (ap (first_unknown ds) (sym same) ∙ known names) undeclared.0 undeclared.1 undeclared.2
+
+  pub undeclared_may : (contents : Option (List ℕ → List ℕ)) (stop : Stop) (permissions : List (List ℕ)) → permissions ≡ d.permissions → TellsRead m.declarations contents ds → AreKnown d ids None
+      → OnRefusal (RefusesUndeclared permissions m.permission) stop → OnRefusal (λ a. TellsMay m contents a.text a.status.0) stop
+  undeclared_may contents stop permissions is read known says =
+      refused_as (RefusesUndeclared permissions m.permission) (λ a. TellsMay m contents a.text a.status.0) stop
+      (λ a refuses. of_undeclared contents a read known (subst (λ (ps : List (List ℕ)). RefusesUndeclared ps m.permission a) is refuses)) says
+
+  pub told_may : (contents : Option (List ℕ → List ℕ)) (a : Answer) (who : List (List ℕ)) (k : ℕ) → TellsRead m.declarations contents ds → AreKnown d ids None → who ≡ ids → HasPlace d.permissions m.permission k
+      → a.text ≡ may_text ds who (text_at d.permissions k) → a.status.0 ≡ may_status ds who (text_at d.permissions k) → TellsMay m contents a.text a.status.0
+  told_may None a who k read known shown place said ended = tt
+  told_may (Some of) a who k read known shown place said ended =
+      let all = shown ∙ same in
+      told.told ds read (ap (first_unknown ds) (sym same) ∙ known names) place.among
+      (said ∙ (λ i. may_text ds (all i) (place.there i))) (ended ∙ (λ i. may_status ds (all i) (place.there i)))
+
+pub undeclared_status : (permissions : List (List ℕ)) (id : List ℕ) (stop : Stop) → OnRefusal (RefusesUndeclared permissions id) stop → OnRefusal (λ a. IsCommandStatus a.status.0) stop
+undeclared_status permissions id stop says = refused_as (RefusesUndeclared permissions id) (λ a. IsCommandStatus a.status.0) stop (λ a refused. three a.status.0 refused.2) says

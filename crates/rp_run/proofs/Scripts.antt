@@ -10,7 +10,9 @@ use Rattle.rp_script.specs.declared.refusal.Refusal.TheVariants as refusal
 use Rattle.rp_policy.specs.Offences.{offence_named, offence_text, offences}
 use Rattle.rp_policy.specs.declared.offence.Offence.{Offence}
 use Rattle.rp_program.specs.declared.fault.ProgramFault.TheVariants as fault
-use Rattle.rp_run.proofs.Sayings.{IsLong, IsWhole}
+use Rattle.rp_run.specs.Refusals.{IsLong, IsWhole, OnRefusal, RefusesLong}
+use Rattle.rp_run.specs.declared.stop.Stop.{Stop}
+use Rattle.rp_run.proofs.Sayings.{refused_as}
 use Rattle.rp_program.specs.Program.{IsProgram}
 use Rattle.rp_run.specs.declared.answer.Answer.{Answer}
 use Rattle.rp_compile.specs.Compiled.{Compilation, IsCompiled}
@@ -34,6 +36,11 @@ pub tells_long : (says : Stmts (List ℕ) → List ℕ) (path : List ℕ) (conte
     → IsLong contents path → text ≡ too_long_line path → status ≡ 9 → TellsAsked says path contents text status
 tells_long says path None text status long said ended = tt
 tells_long says path (Some of) text status long said ended = told.ToldScript.long long said ended
+
+pub long_script : (says : Stmts (List ℕ) → List ℕ) (path : List ℕ) (contents : Option (List ℕ → List ℕ)) (stop : Stop)
+    → OnRefusal (RefusesLong contents path) stop → OnRefusal (λ a. TellsAsked says path contents a.text a.status.0) stop
+long_script says path contents stop refused =
+    refused_as (RefusesLong contents path) (λ a. TellsAsked says path contents a.text a.status.0) stop (λ a long. tells_long says path contents a.text a.status.0 long.0 long.1 long.2) refused
 
 pub tells_whole : (says : Stmts (List ℕ) → List ℕ) (path bytes : List ℕ) (contents : Option (List ℕ → List ℕ)) (text : List ℕ) (status : ℕ)
     → IsWhole contents bytes path → ((path : List ℕ) → IsShort bytes → ToldScript says path bytes text status) → TellsAsked says path contents text status

@@ -9,16 +9,12 @@ use Rattle.rp_base.specs.declared.value.Value.{Value}
 use Rattle.rp_machine.specs.Meaning.{End, raised, no_cell, none, Outcome, State}
 use Rattle.rp_run.specs.Command as words
 use Rattle.rp_run.specs.Output.{end_line, end_status}
-use Rattle.rp_run.specs.Steps.{IsCommandStatus}
-use Rattle.rp_run.specs.Told.{IsRead, ToldUnread}
 use Rattle.rp_run.specs.declared.answer.SessionEnd.{SessionEnd}
 use Rattle.rp_run.specs.declared.answer.SessionEnd.TheVariants.{Well, Raised, NoCell}
 use Rattle.rp_run.specs.declared.command.Command.{Command}
 use Rattle.rp_run.specs.declared.command.Command.TheVariants as command
 use Rattle.rp_run.specs.declared.command.Run.{Run}
 use Rattle.rp_run.specs.declared.command.May.{May}
-use Rattle.rp_run.specs.declared.declaring.Declared.{Declared}
-use Rattle.rp_run.specs.declared.declaring.Declared.TheVariants.{Records, Refused}
 
 abbrev pub end_view : SessionEnd → Result Value End
 end_view Well = Ok none
@@ -48,13 +44,3 @@ pub record IsReadInto (names : List (List ℕ)) (d : Placed) : Type 0 where
   pub held : IsHeldBy names d
   pub consistent : IsConsistent (declarations_view names d)
   pub ordered : AreInOrder (declarations_view names d)
-
--- what comes of reading declarations is what their bytes say
-abbrev pub TellsDeclared : List ℕ → List ℕ → List (List ℕ) → Declared → Type 0
-TellsDeclared path bytes names (Records d) = IsRead bytes (declarations_view names d)
-TellsDeclared path bytes names (Refused a) = ToldUnread path bytes a.text a.status.0
-
--- the records were read into the names, or a status of a refusal is answered
-abbrev pub IsWellRead : List (List ℕ) → Declared → Type 0
-IsWellRead names (Records d) = IsReadInto names d
-IsWellRead names (Refused a) = IsCommandStatus a.status.0

@@ -1,5 +1,5 @@
-//! Declarations and scripts read into names that are first hashed anew, from a secret and their bytes: who wrote the bytes
-//! cannot pick names that collide. Nothing that is told depends on it.
+//! Declarations and scripts read into names that are first hashed anew, from a secret and their bytes: who wrote the
+//! bytes cannot pick names that collide. Nothing that is told depends on it.
 
 ghost use Rattle.std.specs.Prelude.{◌≡◌, ◌≢◌, IfErr, IfOk, List, []};
 ghost use Rattle.std.specs.List.{All};

@@ -1,6 +1,7 @@
 //! The program: words and files in, text and a status out.
 #![tactic(auto)]
 
+mod admitting;
 mod answer;
 mod command;
 mod declaring;

@@ -1,33 +1,37 @@
 //! The command `run`: a script in a session.
 
-ghost use Rattle.std.specs.Prelude.{◌≡◌, ◌≢◌, ◌<◌, ℕ, [], Err, List, None, Some, IfOk, IfSome, IsErrOf, OnOk, map};
+ghost use Rattle.std.specs.Prelude.{◌≡◌, ◌≢◌, ◌<◌, [], Err, List, None, Some, IfErr, IfOk, IfSome, IsErrOf, map};
 ghost use Rattle.std.specs.List.{All};
+ghost use Rattle.rp_first.specs.Rewrites.{Rewrites};
+ghost use Rattle.rp_first.specs.Script.{IsScript};
+ghost use Rattle.rp_first.specs.Source.{Statement};
 ghost use Rattle.rp_first.specs.View.{IsStatementHeld, statement_view};
-ghost use Rattle.rp_decl.specs.InOrder.{AreInOrder};
+ghost use Rattle.rp_decl.specs.Places.{GrowsTo};
 ghost use Rattle.rp_decl.specs.View.{declarations_view};
 ghost use Rattle.rp_interact.specs.Answers.{AnswersAs};
-ghost use Rattle.rp_interact.specs.Why.{first_unknown};
 ghost use Rattle.rp_load.specs.Load.{fault_of};
 ghost use Rattle.rp_machine.specs.Meaning.{Outcome, State};
 ghost use Rattle.rp_machine.specs.World.{Ends};
 ghost use Rattle.rp_run.specs.Headline.{BeginsNamed, FailsAtNamed};
 ghost use Rattle.rp_run.specs.Command.{run};
 ghost use Rattle.rp_run.specs.Output.{session_block, end_status};
-ghost use Rattle.rp_run.specs.Steps.{BeginsOnly, BeginsSecond, IsCommandStatus};
-ghost use Rattle.rp_run.specs.Told.{IsAdmitted, IsRead, ToldRun, played};
+ghost use Rattle.rp_run.specs.Refusals.{OnAnswer, OnRefusal, RefusesScript};
+ghost use Rattle.rp_run.specs.Steps.{IsCommandStatus};
+ghost use Rattle.rp_run.specs.Told.{ToldRun, played};
 ghost use Rattle.rp_run.specs.View.{IsReadInto, IsToldBy, run_view};
 
+use crate::admitting::admit;
 use crate::answer::{Answer, SessionEnd};
 use crate::command::Run;
-use crate::declaring::{Declared, read_declarations};
+use crate::declaring::read_declarations;
 use crate::keying::first_script;
-use crate::reading::{Contents, read_file};
+use crate::reading::read_short;
 use crate::stop::Stop;
 use rp_base::{Files, Memory, Meter, Names, OpEnd, Printed, Value};
 use rp_decl::Decl;
 use rp_first::Compiled;
-use rp_interact::{Interaction, WhoFault};
-use rp_load::{fault_line, load, load_fault};
+use rp_interact::Interaction;
+use rp_load::load;
 use rp_machine::Session;
 use rp_proxy::Running;
 use std::alloc::Global;
@@ -41,7 +45,7 @@ const MOST_CELLS: u64 = 1_000_000;
 /// The most steps of a session. The forms of scripts that are run do not count theirs yet.
 const MOST_STEPS: u64 = 1_000_000;
 
-/// What is read and known before the script: the records and the names that they were read into, and the
+/// What is read and known before the session: the records and the names that they were read into, and the
 /// principals.
 #[derive(Drop)]
 struct Admitted {
@@ -53,17 +57,18 @@ struct Admitted {
 /// What the program says where a script is to be run.
 ///
 /// # Errors
-/// `Failed` where a read failed, `Memory` where a growth or an opening was refused memory.
+/// `Refused` with what is said where a step refuses, `Failed` where a read failed, `Memory` where a growth or an
+/// opening was refused memory.
 pub fn answer_run<F: Files>(alloc: Global, command: &Run, files: &mut F) -> Result<Answer, Stop>
     requires unread { F.begun files.old ≡ 0 }
     requires sound { F.faults files.old ≡ 0 }
 
-    ensures told { IfOk result (λ a. IfSome (F.contents files.old)
+    ensures told { OnAnswer result (λ a. IfSome (F.contents files.old)
         (λ of. ToldRun (run_view command.now) of a.text a.status.0)) }
-    ensures status { IfOk result (λ a. IsCommandStatus a.status.0) }
+    ensures status { OnAnswer result (λ a. IsCommandStatus a.status.0) }
 
     ensures begun { BeginsNamed (Some (run (run_view command.now))) (F.begun files.new) (F.last_path files.new) }
-    ensures sound { OnOk result (F.faults files.new ≡ 0) }
+    ensures sound { OnAnswer result (λ _. F.faults files.new ≡ 0) }
     ensures failed { IsErrOf result Stop.Failed → 0 < F.faults files.new }
     ensures cause { IsErrOf result Stop.Failed
         → FailsAtNamed (Some (run (run_view command.now))) (F.contents files.old) (F.begun files.new)
@@ -71,92 +76,33 @@ pub fn answer_run<F: Files>(alloc: Global, command: &Run, files: &mut F) -> Resu
     ensures memory { IsErrOf result Stop.Memory → F.faults files.new ≡ 0 }
 {
     let mut names = Names::new(alloc, files.seed())?;
-    match read_declarations(alloc, &command.declarations, &mut names, files)? {
-        Declared::Refused(answer) => Ok(answer),
-        Declared::Records(decl) => answer_declared(alloc, command, decl, names, files),
-    }
+    let decl = read_declarations(alloc, &command.declarations, &mut names, files)?;
+    let interaction = admit(alloc, &decl, &names, command.ids.as_slice())?;
+    let bytes = read_short(alloc, files, &command.script)?;
+    let script = read_script(alloc, bytes.as_slice(), &mut names)?;
+    let admitted = Admitted {
+        decl,
+        names,
+        interaction,
+    };
+    Ok(play(alloc, command, admitted, &script)?)
 }
 
-/// What the program says where the declarations are read.
-fn answer_declared<F: Files>(
-    alloc: Global,
-    command: &Run,
-    decl: Decl,
-    names: Names,
-    files: &mut F,
-) -> Result<Answer, Stop>
-    requires begun { BeginsOnly command.now.declarations (F.begun files.old) (F.last_path files.old) }
-    requires sound { F.faults files.old ≡ 0 }
-    requires well { IsReadInto names decl }
-
-    ensures told { IfOk result (λ a. IfSome (F.contents files.old)
-        (λ of. IsRead (of command.now.declarations) (declarations_view names decl)
-        → ToldRun (run_view command.now) of a.text a.status.0)) }
-    ensures status { IfOk result (λ a. IsCommandStatus a.status.0) }
-
-    ensures begun { BeginsNamed (Some (run (run_view command.now))) (F.begun files.new) (F.last_path files.new) }
-    ensures sound { OnOk result (F.faults files.new ≡ 0) }
-    ensures failed { IsErrOf result Stop.Failed → 0 < F.faults files.new }
-    ensures runs { IsErrOf result Stop.Failed → fault_of (declarations_view names decl) ≡ None }
-    ensures known { IsErrOf result Stop.Failed → first_unknown (declarations_view names decl) command.now.ids.items
-        ≡ None }
-    ensures script { IsErrOf result Stop.Failed
-        → BeginsSecond command.now.script (F.begun files.new) (F.last_path files.new) }
-    ensures memory { IsErrOf result Stop.Memory → F.faults files.new ≡ 0 }
+/// The script of a run, where the bytes are one.
+///
+/// # Errors
+/// `Refused` where they are none, `Memory` where a growth was refused.
+fn read_script(alloc: Global, bytes: &[u8], names: &mut Names) -> Result<Compiled, Stop>
+    ensures rewritten { IfOk result (λ c. (source : List Statement)
+        × (IsScript bytes.now source × Rewrites names.new source c)) }
+    ensures held { IfOk result (λ c. All (IsStatementHeld names.new) c) }
+    ensures names { GrowsTo names.old names.new }
+    ensures refused { IfErr result (OnRefusal (RefusesScript bytes.now)) }
+    ensures unfailed { IfErr result (λ stop. stop ≢ Stop.Failed) }
 {
-    if let Some(fault) = load_fault(&decl, &names) {
-        let line = fault_line(alloc, fault, &names)?;
-        return Ok(Answer::line(alloc, line.as_str(), 3)?);
-    }
-    match Interaction::new(alloc, &decl, command.ids.as_slice()) {
-        Ok(interaction) => {
-            let admitted = Admitted {
-                decl,
-                names,
-                interaction,
-            };
-            answer_script(alloc, command, admitted, files)
-        }
-        Err(WhoFault::Unknown(id)) => Ok(Answer::labelled(alloc, "principal: ", &id, 3)?),
-        Err(WhoFault::Memory) => Err(Stop::Memory),
-    }
-}
-
-/// What the program says where the principals are known.
-fn answer_script<F: Files>(
-    alloc: Global,
-    command: &Run,
-    admitted: Admitted,
-    files: &mut F,
-) -> Result<Answer, Stop>
-    requires begun { BeginsOnly command.now.declarations (F.begun files.old) (F.last_path files.old) }
-    requires sound { F.faults files.old ≡ 0 }
-    requires well { IsReadInto admitted.names admitted.decl }
-    requires grants { (names : List (List ℕ)) → AreInOrder (declarations_view names admitted.decl)
-        → AnswersAs names admitted.decl admitted.interaction }
-    requires ids { admitted.interaction.ids ≡ command.now.ids.items }
-    requires runs { fault_of (declarations_view admitted.names admitted.decl) ≡ None }
-
-    ensures told { IfOk result (λ a. IfSome (F.contents files.old) (λ of.
-        IsAdmitted (run_view command.now) of (declarations_view admitted.names admitted.decl) → ToldRun (run_view command.now) of a.text a.status.0)) }
-    ensures status { IfOk result (λ a. IsCommandStatus a.status.0) }
-
-    ensures begun { BeginsNamed (Some (run (run_view command.now))) (F.begun files.new) (F.last_path files.new) }
-    ensures sound { OnOk result (F.faults files.new ≡ 0) }
-    ensures failed { IsErrOf result Stop.Failed → 0 < F.faults files.new }
-    ensures script { IsErrOf result Stop.Failed
-        → BeginsSecond command.now.script (F.begun files.new) (F.last_path files.new) }
-    ensures memory { IsErrOf result Stop.Memory → F.faults files.new ≡ 0 }
-{
-    match read_file(alloc, files, command.script.copy()?)? {
-        Contents::TooLong => Ok(Answer::labelled(alloc, "too long: ", &command.script, 9)?),
-        Contents::Whole(bytes) => {
-            let mut admitted = admitted;
-            match first_script(alloc, bytes.as_slice(), &mut admitted.names) {
-                Ok(script) => Ok(play(alloc, command, admitted, &script)?),
-                Err(refusal) => Ok(Answer::refused(alloc, "script 1: ", &refusal)?),
-            }
-        }
+    match first_script(alloc, bytes, names) {
+        Ok(script) => Ok(script),
+        Err(refusal) => Err(Stop::Refused(Answer::refused(alloc, "script 1: ", &refusal)?)),
     }
 }
 

@@ -4,13 +4,15 @@ ghost use Rattle.std.specs.Prelude.{◌≡◌, ◌≢◌, ◌⊎◌, ◌<◌, �
 ghost use Rattle.std.specs.Prelude.{IsErrOf};
 ghost use Rattle.rp_run.specs.Command.{command_of, usage};
 ghost use Rattle.rp_run.specs.Headline.{IsAnswer, IsStatus, Writes, TellsWhole, TellsFront, BeginsNamed, FailsAtNamed};
+ghost use Rattle.rp_run.specs.Refusals.{OnAnswer};
+ghost use Rattle.rp_run.specs.Steps.{IsStatusOf};
 ghost use Rattle.rp_run.specs.Told.{Told};
 
 use crate::answer::Answer;
 use crate::command::Command;
 use crate::playing::answer_run;
 use crate::script_answer::answer_script;
-use crate::stop::Stop;
+use crate::stop::{Silence, Stop, said};
 use crate::telling::answer_may;
 use crate::writing::write_text;
 use rp_base::{Failed, Files, Sink, Status};
@@ -42,7 +44,8 @@ pub fn run<F: Files, K: Sink>(alloc: Global, words: &[String], files: &mut F, ou
 
     // The headline: where nothing failed, the meaning of words and files is what was written.
     ensures told { IsAnswer result.0 → IfSome (F.contents files.old)
-        (λ contents. TellsWhole (map string_bytes words.now) result.0 contents (K.written out.old) (K.written out.new)) }
+        (λ contents. TellsWhole (map string_bytes words.now) result.0 contents
+        (K.written out.old) (K.written out.new)) }
     ensures front { result.0 ≡ 7 → IfSome (F.contents files.old)
         (λ contents. TellsFront (map string_bytes words.now) contents (K.written out.old) (K.written out.new)) }
     ensures nothing { (result.0 ≡ 6) ⊎ (result.0 ≡ 8) → K.written out.new ≡ K.written out.old }
@@ -66,13 +69,13 @@ pub fn run<F: Files, K: Sink>(alloc: Global, words: &[String], files: &mut F, ou
             Ok(()) => answer.status,
             Err(Failed) => Status(7),
         },
-        Err(Stop::Failed) => Status(6),
-        Err(Stop::Memory) => Status(8),
+        Err(Silence::Failed) => Status(6),
+        Err(Silence::Memory) => Status(8),
     }
 }
 
 /// What the program says to its words.
-fn answer<F: Files>(alloc: Global, words: &[String], files: &mut F) -> Result<Answer, Stop>
+fn answer<F: Files>(alloc: Global, words: &[String], files: &mut F) -> Result<Answer, Silence>
     requires unread { F.begun files.old ≡ 0 }
     requires sound { F.faults files.old ≡ 0 }
 
@@ -84,6 +87,26 @@ fn answer<F: Files>(alloc: Global, words: &[String], files: &mut F) -> Result<An
 
     ensures begun { BeginsNamed (command_of (map string_bytes words.now)) (F.begun files.new) (F.last_path files.new) }
     ensures sound { OnOk result (F.faults files.new ≡ 0) }
+    ensures failed { IsErrOf result Silence.Failed → 0 < F.faults files.new }
+    ensures cause { IsErrOf result Silence.Failed
+        → FailsAtNamed (command_of (map string_bytes words.now)) (F.contents files.old) (F.begun files.new)
+        (F.last_path files.new) }
+    ensures memory { IsErrOf result Silence.Memory → F.faults files.new ≡ 0 }
+{
+    said(obey(alloc, words, files))
+}
+
+/// Takes the steps of the command that the words give.
+fn obey<F: Files>(alloc: Global, words: &[String], files: &mut F) -> Result<Answer, Stop>
+    requires unread { F.begun files.old ≡ 0 }
+    requires sound { F.faults files.old ≡ 0 }
+
+    ensures told { OnAnswer result (λ a. IfSome (F.contents files.old)
+        (λ of. Told (map string_bytes words.now) of a.text a.status.0)) }
+    ensures status { OnAnswer result (λ a. IsStatusOf (command_of (map string_bytes words.now)) a.text a.status.0) }
+
+    ensures begun { BeginsNamed (command_of (map string_bytes words.now)) (F.begun files.new) (F.last_path files.new) }
+    ensures sound { OnAnswer result (λ _. F.faults files.new ≡ 0) }
     ensures failed { IsErrOf result Stop.Failed → 0 < F.faults files.new }
     ensures cause { IsErrOf result Stop.Failed
         → FailsAtNamed (command_of (map string_bytes words.now)) (F.contents files.old) (F.begun files.new)

@@ -1,8 +1,10 @@
 //! Files read whole, unless they are too long.
 
-ghost use Rattle.std.specs.Prelude.{◌≡◌, ◌<◌, ◌≤◌, ◌+◌, true, length, IfOk, IfSome, OnOk, IsErrOf};
+ghost use Rattle.std.specs.Prelude.{◌≡◌, ◌<◌, ◌≤◌, ◌+◌, ◌⊎◌, true, length, IfErr, IfOk, IfSome, OnOk, IsErrOf};
 ghost use Rattle.rp_run.specs.Contents.{Holds};
+ghost use Rattle.rp_run.specs.Refusals.{BeginsNext, IsWhole, OnRefusal, RefusesLong};
 
+use crate::answer::Answer;
 use crate::stop::Stop;
 use rp_base::{Files, NoFile, Text};
 use std::alloc::Global;
@@ -15,17 +17,47 @@ const PIECE: usize = 65_536;
 
 /// What a file holds, unless it is too long.
 #[derive(Drop)]
-pub enum Contents {
+enum Contents {
     Whole(Vec<u8>),
     /// There are more bytes than the most that is read.
     TooLong,
+}
+
+/// Reads the file at a path, unless it is too long.
+///
+/// # Errors
+/// `Refused` where the file is too long, `Failed` where a call failed, `Memory` where a growth or the opening was
+/// refused memory.
+pub fn read_short<F: Files>(alloc: Global, files: &mut F, path: &Text) -> Result<Vec<u8>, Stop>
+    requires sound { F.faults files.old ≡ 0 }
+    requires few { F.begun files.old < 1000 }
+
+    ensures told { IfOk result (λ bytes. IsWhole (F.contents files.old) bytes.items path.now) }
+    ensures refused { IfErr result (OnRefusal (RefusesLong (F.contents files.old) path.now)) }
+
+    ensures begun { OnOk result (BeginsNext path.now (F.begun files.old) (F.begun files.new) (F.last_path files.new)) }
+    ensures tried { ((F.begun files.new ≡ F.begun files.old) × (F.last_path files.new ≡ F.last_path files.old))
+        ⊎ BeginsNext path.now (F.begun files.old) (F.begun files.new) (F.last_path files.new) }
+    ensures same_contents { F.contents files.new ≡ F.contents files.old }
+
+    ensures sound { OnOk result (F.faults files.new ≡ 0) }
+    ensures kept { IfErr result (OnRefusal (λ _. F.faults files.new ≡ 0)) }
+    ensures failed { IsErrOf result Stop.Failed → 0 < F.faults files.new }
+    ensures cause { IsErrOf result Stop.Failed
+        → BeginsNext path.now (F.begun files.old) (F.begun files.new) (F.last_path files.new) }
+    ensures memory { IsErrOf result Stop.Memory → F.faults files.new ≡ 0 }
+{
+    match read_file(alloc, files, path.copy()?)? {
+        Contents::Whole(bytes) => Ok(bytes),
+        Contents::TooLong => Err(Stop::Refused(Answer::labelled(alloc, "too long: ", path, 9)?)),
+    }
 }
 
 /// Reads the file at a path.
 ///
 /// # Errors
 /// `Failed` where a call failed, `Memory` where a growth or the opening was refused memory.
-pub fn read_file<F: Files>(alloc: Global, files: &mut F, path: Text) -> Result<Contents, Stop>
+fn read_file<F: Files>(alloc: Global, files: &mut F, path: Text) -> Result<Contents, Stop>
     requires sound { F.faults files.old ≡ 0 }
     requires few { F.begun files.old < 1000 }
 
@@ -38,6 +70,7 @@ pub fn read_file<F: Files>(alloc: Global, files: &mut F, path: Text) -> Result<C
     ensures sound { OnOk result (F.faults files.new ≡ 0) }
     ensures failed { IsErrOf result Stop.Failed → 0 < F.faults files.new }
     ensures memory { IsErrOf result Stop.Memory → F.faults files.new ≡ 0 }
+    ensures unrefused { IfErr result (OnRefusal (λ _. ⊥)) }
 {
     match files.begin(path) {
         Ok(()) => {
@@ -64,6 +97,7 @@ fn read_rest<F: Files>(alloc: Global, files: &mut F, buffer: &mut [u8]) -> Resul
     ensures sound { OnOk result (F.faults files.new ≡ 0) }
     ensures failed { IsErrOf result Stop.Failed → 0 < F.faults files.new }
     ensures memory { IsErrOf result Stop.Memory → F.faults files.new ≡ 0 }
+    ensures unrefused { IfErr result (OnRefusal (λ _. ⊥)) }
 {
     let mut taken = Vec::new(alloc);
     while taken.len() <= LONGEST_FILE {

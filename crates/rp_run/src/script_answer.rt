@@ -1,15 +1,16 @@
 //! The commands on one script: whether it is accepted, or why not, and how it runs.
 
-ghost use Rattle.std.specs.Prelude.{◌≡◌, ◌≢◌, ◌<◌, ℕ, List, Some, IfErr, IfOk, IfSome, IsErrOf, OnOk};
+ghost use Rattle.std.specs.Prelude.{◌≡◌, ◌<◌, ℕ, List, Some, IfOk, IfSome, IsErrOf};
 ghost use Rattle.rp_run.specs.Command.{script};
 ghost use Rattle.rp_run.specs.Headline.{BeginsNamed, FailsAtNamed};
+ghost use Rattle.rp_run.specs.Refusals.{OnAnswer};
 ghost use Rattle.rp_run.specs.Steps.{IsCommandStatus};
 ghost use Rattle.rp_run.specs.Told.{IsShort, ToldScript, said_to};
 
 use crate::answer::Answer;
 use crate::command::Question;
 use crate::keying::{compile_script, read_script};
-use crate::reading::{Contents, read_file};
+use crate::reading::read_short;
 use crate::stop::Stop;
 use rp_base::{Files, Memory, Names, Text};
 use rp_print::source_text;
@@ -19,7 +20,8 @@ use std::alloc::Global;
 /// or a line for the first fault, or one for each offence against the policy of names.
 ///
 /// # Errors
-/// `Failed` where a read failed, `Memory` where a growth or an opening was refused memory.
+/// `Refused` with what is said of a file that is too long, `Failed` where a read failed, `Memory` where a growth or an
+/// opening was refused memory.
 pub fn answer_script<F: Files>(
     alloc: Global,
     question: Question,
@@ -29,22 +31,20 @@ pub fn answer_script<F: Files>(
     requires unread { F.begun files.old ≡ 0 }
     requires sound { F.faults files.old ≡ 0 }
 
-    ensures told { IfOk result (λ a. IfSome (F.contents files.old)
+    ensures told { OnAnswer result (λ a. IfSome (F.contents files.old)
         (λ of. ToldScript (said_to question) path.now (of path.now) a.text a.status.0)) }
-    ensures status { IfOk result (λ a. IsCommandStatus a.status.0) }
+    ensures status { OnAnswer result (λ a. IsCommandStatus a.status.0) }
 
     ensures begun { BeginsNamed (Some (script question path.now)) (F.begun files.new) (F.last_path files.new) }
-    ensures sound { OnOk result (F.faults files.new ≡ 0) }
+    ensures sound { OnAnswer result (λ _. F.faults files.new ≡ 0) }
     ensures failed { IsErrOf result Stop.Failed → 0 < F.faults files.new }
     ensures cause { IsErrOf result Stop.Failed → FailsAtNamed (Some (script question path.now))
         (F.contents files.old) (F.begun files.new) (F.last_path files.new) }
     ensures memory { IsErrOf result Stop.Memory → F.faults files.new ≡ 0 }
 {
     let mut names = Names::new(alloc, files.seed())?;
-    match read_file(alloc, files, path.copy()?)? {
-        Contents::TooLong => Ok(Answer::labelled(alloc, "too long: ", path, 9)?),
-        Contents::Whole(bytes) => Ok(tell(alloc, question, bytes.as_slice(), &mut names)?),
-    }
+    let bytes = read_short(alloc, files, path)?;
+    Ok(tell(alloc, question, bytes.as_slice(), &mut names)?)
 }
 
 /// What the program says of a script that is read. It is refused only for want of memory.

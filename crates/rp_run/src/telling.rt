@@ -1,7 +1,7 @@
 //! The command `may`: whether principals have a permission, and why.
 
-ghost use Rattle.std.specs.Prelude.{◌≡◌, ◌<◌, ◌≤◌, ◌++◌, ℕ, List, Some, IfOk, IfSome, IsErrOf, OnOk, codes, length};
-ghost use Rattle.std.specs.Prelude.{position};
+ghost use Rattle.std.specs.Prelude.{◌≡◌, ◌≢◌, ◌<◌, ◌≤◌, ◌++◌, ℕ, List, Some, IfErr, IfOk, IfSome, IsErrOf, OnOk};
+ghost use Rattle.std.specs.Prelude.{codes, length, position};
 ghost use Rattle.rp_base.specs.Same.{same_text};
 ghost use Rattle.rp_decl.specs.InOrder.{AreInOrder};
 ghost use Rattle.rp_decl.specs.View.{declarations_view, group_ids, perm_text, role_ids, text_at};
@@ -9,33 +9,36 @@ ghost use Rattle.rp_interact.specs.Answers.{AnswersAs, reason_view};
 ghost use Rattle.rp_run.specs.Command.{may};
 ghost use Rattle.rp_run.specs.Headline.{BeginsNamed, FailsAtNamed};
 ghost use Rattle.rp_run.specs.Output.{may_status, may_text, reason_line, reason_words, yes_or_no};
+ghost use Rattle.rp_run.specs.Refusals.{OnAnswer, OnRefusal, RefusesUndeclared};
 ghost use Rattle.rp_run.specs.Steps.{IsCommandStatus};
-ghost use Rattle.rp_run.specs.Told.{IsRead, ToldMay};
-ghost use Rattle.rp_run.specs.View.{IsReadInto, may_view};
+ghost use Rattle.rp_run.specs.Told.{ToldMay};
+ghost use Rattle.rp_run.specs.View.{may_view};
 
+use crate::admitting::find_principals;
 use crate::answer::{Answer, add_ascii};
 use crate::command::May;
-use crate::declaring::{Declared, read_declarations};
+use crate::declaring::read_declarations;
 use crate::stop::Stop;
 use rp_base::{Files, Memory, Names, Printed, Status, Text};
 use rp_decl::{Decl, Perm};
-use rp_interact::{Interaction, Reason, WhoFault};
+use rp_interact::{Interaction, Reason};
 use std::alloc::Global;
 
 /// What the program says where it is to tell whether principals have a permission.
 ///
 /// # Errors
-/// `Failed` where a read failed, `Memory` where a growth or an opening was refused memory.
+/// `Refused` with what is said where a step refuses, `Failed` where a read failed, `Memory` where a growth or an
+/// opening was refused memory.
 pub fn answer_may<F: Files>(alloc: Global, command: &May, files: &mut F) -> Result<Answer, Stop>
     requires unread { F.begun files.old ≡ 0 }
     requires sound { F.faults files.old ≡ 0 }
 
-    ensures told { IfOk result (λ a. IfSome (F.contents files.old)
+    ensures told { OnAnswer result (λ a. IfSome (F.contents files.old)
         (λ of. ToldMay (may_view command.now) of a.text a.status.0)) }
-    ensures status { IfOk result (λ a. IsCommandStatus a.status.0) }
+    ensures status { OnAnswer result (λ a. IsCommandStatus a.status.0) }
 
     ensures begun { BeginsNamed (Some (may (may_view command.now))) (F.begun files.new) (F.last_path files.new) }
-    ensures sound { OnOk result (F.faults files.new ≡ 0) }
+    ensures sound { OnAnswer result (λ _. F.faults files.new ≡ 0) }
     ensures failed { IsErrOf result Stop.Failed → 0 < F.faults files.new }
     ensures cause { IsErrOf result Stop.Failed
         → FailsAtNamed (Some (may (may_view command.now))) (F.contents files.old) (F.begun files.new)
@@ -43,26 +46,24 @@ pub fn answer_may<F: Files>(alloc: Global, command: &May, files: &mut F) -> Resu
     ensures memory { IsErrOf result Stop.Memory → F.faults files.new ≡ 0 }
 {
     let mut names = Names::new(alloc, files.seed())?;
-    match read_declarations(alloc, &command.declarations, &mut names, files)? {
-        Declared::Refused(answer) => Ok(answer),
-        Declared::Records(decl) => Ok(tell(alloc, command, &decl)?),
-    }
+    let decl = read_declarations(alloc, &command.declarations, &mut names, files)?;
+    let interaction = find_principals(alloc, &decl, command.ids.as_slice())?;
+    let permission = find_permission(alloc, decl.permissions(), &command.permission)?;
+    Ok(reasons(alloc, &decl, &interaction, permission)?)
 }
 
-/// What the program says where the declarations are read. It is refused only for want of memory.
-fn tell(alloc: Global, command: &May, decl: &Decl) -> Result<Answer, Memory>
-    ensures told { IfOk result (λ a. (names : List (List ℕ)) (contents : List ℕ → List ℕ) → IsReadInto names decl.now
-        → IsRead (contents command.now.declarations) (declarations_view names decl.now) → ToldMay (may_view command.now) contents a.text a.status.0) }
-    ensures status { IfOk result (λ a. IsCommandStatus a.status.0) }
+/// The permission with an id, where it is declared.
+///
+/// # Errors
+/// `Refused` where it is not, `Memory` where a growth was refused.
+fn find_permission(alloc: Global, permissions: &[Text], id: &Text) -> Result<Perm, Stop>
+    ensures place { IfOk result (λ p. position (same_text id.now) permissions.now ≡ Some p.0) }
+    ensures refused { IfErr result (OnRefusal (RefusesUndeclared permissions.now id.now)) }
+    ensures unfailed { IfErr result (λ stop. stop ≢ Stop.Failed) }
 {
-    let interaction = match Interaction::new(alloc, decl, command.ids.as_slice()) {
-        Ok(interaction) => interaction,
-        Err(WhoFault::Unknown(id)) => return Answer::labelled(alloc, "principal: ", &id, 3),
-        Err(WhoFault::Memory) => return Err(Memory),
-    };
-    match permission_place(decl.permissions(), &command.permission) {
-        Some(place) => reasons(alloc, decl, &interaction, Perm(place)),
-        None => Answer::labelled(alloc, "permission: ", &command.permission, 3),
+    match permission_place(permissions, id) {
+        Some(place) => Ok(Perm(place)),
+        None => Err(Stop::Refused(Answer::labelled(alloc, "permission: ", id, 3)?)),
     }
 }
 
@@ -84,9 +85,11 @@ fn reasons(
     requires answers { (names : List (List ℕ)) → AreInOrder (declarations_view names decl.now)
         → AnswersAs names decl.now interaction.now }
     ensures text { IfOk result (λ a. (names : List (List ℕ)) → AreInOrder (declarations_view names decl.now)
-        → a.text ≡ may_text (declarations_view names decl.now) interaction.now.ids (perm_text decl.now.permissions permission)) }
+        → a.text ≡ may_text (declarations_view names decl.now) interaction.now.ids
+        (perm_text decl.now.permissions permission)) }
     ensures status { IfOk result (λ a. (names : List (List ℕ)) → AreInOrder (declarations_view names decl.now)
-        → a.status.0 ≡ may_status (declarations_view names decl.now) interaction.now.ids (perm_text decl.now.permissions permission)) }
+        → a.status.0 ≡ may_status (declarations_view names decl.now) interaction.now.ids
+        (perm_text decl.now.permissions permission)) }
     ensures few { IfOk result (λ a. a.status.0 ≤ 1) }
 {
     let mut text = Printed::new(alloc);

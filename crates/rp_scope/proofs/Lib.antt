@@ -7,6 +7,7 @@ pub mod Forms
 pub mod Laid
 pub mod Listings
 pub mod Lists
+pub mod Mapped
 pub mod Nests
 pub mod Runs
 pub mod Sets

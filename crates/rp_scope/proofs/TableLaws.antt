@@ -13,7 +13,7 @@ use Rattle.rp_scope.specs.declared.place.Place2.TheVariants.{Global}
 use Rattle.rp_scope.specs.Bindings.{Block, once, local_names, program_names}
 use Rattle.rp_scope.specs.Blocks as b
 use Rattle.rp_scope.specs.Blocks.{Nest, blocks, telling_nests}
-use Rattle.rp_scope.specs.Numbers.{block_numbers, HasNumbers}
+use Rattle.rp_scope.specs.Numbers.{block_numbers, block_count, HasNumbers}
 use Rattle.rp_scope.specs.Places as p
 use Rattle.rp_scope.specs.Places.{place_at, place_in, place_from}
 use Rattle.rp_scope.specs.Scopes.{Scope, same_name, scope_in, telling_scopes, program_scope, scopes, locals_of, block_at, scope_place, found_in, around_of, found, found_from, AreScopesOf}
@@ -212,12 +212,19 @@ found_as first x counts (suc j) name within =
 table_as : (first : List Name) (x : Stmts) → table_of first x ≡ scopes first x
 table_as first x = ap (λ zs. program_scope first x ∷ zs) (table_is x)
 
+counted : (first : List Name) (x : Stmts) → length (table_of first x) ≡ suc (block_count x)
+counted first x = ap suc (length-map (nests_of x) entry ∙ (sym (length-map (nests_of x) number_of) ∙ ap length (numbers_are x)))
+
+-- the table has the program and each code block
+pub scopes_counted : (first : List Name) (x : Stmts) → length (scopes first x) ≡ suc (block_count x)
+scopes_counted first x = sym (ap length (table_as first x)) ∙ counted first x
+
 -- the table of a tree whose code blocks have their numbers
 pub scopes_are : (first : List Name) (x : Stmts) → HasNumbers x → AreScopesOf (scopes first x) first x
 scopes_are first x has =
     let counts : Counts 1 (nests_of x) = counts_are x has in
     subst (λ table. AreScopesOf table first x) (table_as first x) (record {
-      blocks = ap suc (length-map (nests_of x) entry ∙ (sym (length-map (nests_of x) number_of) ∙ ap length (numbers_are x)));
+      blocks = counted first x;
       local_names = locals_as first x counts;
       places = found_as first x counts;
     })

@@ -12,7 +12,7 @@ use crate::expr_layouts::{
 };
 use crate::layouts::{Layouts, add_function};
 use rp_base::Memory;
-use rp_tree::{Branch, Except, Expr, Place, Stmt, StmtForm, stmts_of};
+use rp_tree::{Branch, Except, Expr, Place, Stmt, StmtForm, Target, stmts_of};
 use std::alloc::Global;
 
 #[tactic(auto, using(crate::proofs::Appends::appends))]
@@ -47,6 +47,70 @@ fn lay_out_places(
     Ok(())
 }
 
+#[tactic(auto, using(crate::proofs::Appends::appends))]
+fn lay_out_assign(
+    alloc: Global,
+    layouts: &mut Layouts,
+    around: usize,
+    places: &[Place],
+    value: &Expr,
+) -> Result<(), Memory>
+    ensures { OnOk result (layouts.new
+        ≡ layouts.old ++ (b.places_blocks telling_scopes around (map e.view_place places.now)
+        ++ b.expr_blocks telling_scopes around (e.view_expr value.now))) }
+{
+    lay_out_places(alloc, layouts, around, places)?;
+    lay_out_expr(alloc, layouts, around, value)
+}
+
+#[tactic(auto, using(crate::proofs::Appends::appends))]
+fn lay_out_unpack(
+    alloc: Global,
+    layouts: &mut Layouts,
+    around: usize,
+    target: &Target,
+    value: &Expr,
+) -> Result<(), Memory>
+    ensures { OnOk result (layouts.new
+        ≡ layouts.old ++ (b.target_blocks telling_scopes around (e.view_target target.now)
+        ++ b.expr_blocks telling_scopes around (e.view_expr value.now))) }
+{
+    lay_out_target(alloc, layouts, around, target)?;
+    lay_out_expr(alloc, layouts, around, value)
+}
+
+#[tactic(auto, using(crate::proofs::Appends::appends))]
+fn lay_out_aug(
+    alloc: Global,
+    layouts: &mut Layouts,
+    around: usize,
+    place: &Place,
+    value: &Expr,
+) -> Result<(), Memory>
+    ensures { OnOk result (layouts.new
+        ≡ layouts.old ++ (b.place_blocks telling_scopes around (e.view_place place.now)
+        ++ b.expr_blocks telling_scopes around (e.view_expr value.now))) }
+{
+    lay_out_place(alloc, layouts, around, place)?;
+    lay_out_expr(alloc, layouts, around, value)
+}
+
+#[tactic(auto, using(crate::proofs::Appends::appends))]
+fn lay_out_assert(
+    alloc: Global,
+    layouts: &mut Layouts,
+    around: usize,
+    test: &Expr,
+    message: &Option<Expr>,
+) -> Result<(), Memory>
+    ensures { OnOk result (layouts.new
+        ≡ layouts.old ++ (b.expr_blocks telling_scopes around (e.view_expr test.now)
+        ++ b.option_blocks telling_scopes around (option_map e.view_expr message.now))) }
+{
+    lay_out_expr(alloc, layouts, around, test)?;
+    lay_out_value(alloc, layouts, around, message)
+}
+
 /// Adds the scopes of the code blocks in the statements, which stand in the block with the number `around`.
 #[cycle(lay_out_stmts)]
 #[tactic(auto, using(crate::proofs::Appends::appends))]
@@ -78,29 +142,14 @@ fn lay_out_stmt_form(
 {
     match form {
         StmtForm::Expr(expr) => lay_out_expr(alloc, layouts, around, expr),
-        StmtForm::Assign(places, value) => {
-            lay_out_places(alloc, layouts, around, places)?;
-            lay_out_expr(alloc, layouts, around, value)
-        }
-        StmtForm::Unpack(target, value, _) => {
-            lay_out_target(alloc, layouts, around, target)?;
-            lay_out_expr(alloc, layouts, around, value)
-        }
-        StmtForm::Aug { place, value, .. } => {
-            lay_out_place(alloc, layouts, around, place)?;
-            lay_out_expr(alloc, layouts, around, value)
-        }
+        StmtForm::Assign(places, value) => lay_out_assign(alloc, layouts, around, places, value),
+        StmtForm::Unpack(to, value, _) => lay_out_unpack(alloc, layouts, around, to, value),
+        StmtForm::Aug { place, value, .. } => lay_out_aug(alloc, layouts, around, place, value),
         StmtForm::Del(places) => lay_out_places(alloc, layouts, around, places),
-        StmtForm::Pass => Ok(()),
-        StmtForm::Break => Ok(()),
-        StmtForm::Continue => Ok(()),
+        StmtForm::Pass | StmtForm::Break | StmtForm::Continue | StmtForm::Global(_) => Ok(()),
         StmtForm::Return(value) => lay_out_value(alloc, layouts, around, value),
         StmtForm::Raise(value) => lay_out_value(alloc, layouts, around, value),
-        StmtForm::Assert(test, message) => {
-            lay_out_expr(alloc, layouts, around, test)?;
-            lay_out_value(alloc, layouts, around, message)
-        }
-        StmtForm::Global(_) => Ok(()),
+        StmtForm::Assert(test, words) => lay_out_assert(alloc, layouts, around, test, words),
         StmtForm::If(branches, other) => {
             lay_out_branches(alloc, layouts, around, branches)?;
             lay_out_stmts(alloc, layouts, around, stmts_of(other))

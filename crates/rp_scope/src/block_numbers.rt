@@ -76,29 +76,14 @@ fn number_stmt_form(form: &mut StmtForm, first: usize) -> usize
 {
     match form {
         StmtForm::Expr(expr) => number_expr(expr, first),
-        StmtForm::Assign(places, value) => {
-            let value_first = number_places(places, first);
-            number_expr(value, value_first)
-        }
-        StmtForm::Unpack(target, value, _) => {
-            let next = number_target(target, first);
-            number_expr(value, next)
-        }
-        StmtForm::Aug { place, value, .. } => {
-            let next = number_place(place, first);
-            number_expr(value, next)
-        }
+        StmtForm::Assign(places, value) => number_expr(value, number_places(places, first)),
+        StmtForm::Unpack(target, value, _) => number_expr(value, number_target(target, first)),
+        StmtForm::Aug { place, value, .. } => number_expr(value, number_place(place, first)),
         StmtForm::Del(places) => number_places(places, first),
-        StmtForm::Pass => first,
-        StmtForm::Break => first,
-        StmtForm::Continue => first,
+        StmtForm::Pass | StmtForm::Break | StmtForm::Continue | StmtForm::Global(_) => first,
         StmtForm::Return(value) => number_value(value, first),
         StmtForm::Raise(value) => number_value(value, first),
-        StmtForm::Assert(test, message) => {
-            let next = number_expr(test, first);
-            number_value(message, next)
-        }
-        StmtForm::Global(_) => first,
+        StmtForm::Assert(test, message) => number_value(message, number_expr(test, first)),
         StmtForm::If(branches, other) => {
             let other_first = number_branches(branches, first);
             match other {
@@ -106,14 +91,8 @@ fn number_stmt_form(form: &mut StmtForm, first: usize) -> usize
                 Some(stmts) => number_block(stmts, other_first),
             }
         }
-        StmtForm::While(test, body) => {
-            let repeated_first = number_expr(test, first);
-            number_block(body, repeated_first)
-        }
-        StmtForm::For(walk, body) => {
-            let walked_first = number_walk(walk, first);
-            number_block(body, walked_first)
-        }
+        StmtForm::While(test, body) => number_block(body, number_expr(test, first)),
+        StmtForm::For(walk, body) => number_block(body, number_walk(walk, first)),
         StmtForm::Try {
             body,
             handlers,

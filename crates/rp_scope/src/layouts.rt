@@ -1,11 +1,11 @@
 //! The local names of the code blocks of a program, and where each block finds a name.
 
-ghost use Rattle.std.specs.Prelude.{◌≡◌, ◌∷◌, [], ◌++◌, ◌<◌, length, map, option_copied, IfOk, OnOk};
+ghost use Rattle.std.specs.Prelude.{◌≡◌, ◌∷◌, [], ◌++◌, ◌+◌, ◌^◌, ◌<◌, length, map, option_copied, IfOk, OnOk};
 ghost use Rattle.rp_tree.specs.ExpressionViews as e;
 ghost use Rattle.rp_tree.specs.StatementViews as v;
 ghost use Rattle.rp_tree.specs.StatementViews.{view_tree};
 ghost use Rattle.rp_scope.specs.Bindings.{function_block, lambda_block, comprehension_block};
-ghost use Rattle.rp_scope.specs.Numbers.{HasNumbers};
+ghost use Rattle.rp_scope.specs.Numbers.{HasNumbers, block_count};
 ghost use Rattle.rp_scope.specs.Scopes.{AreScopesOf, scopes, scope_in, locals_of, found_from, block_at};
 
 use crate::block_layouts::lay_out_stmts;
@@ -41,6 +41,8 @@ impl Model for Layouts {
 /// `Memory` where memory was refused.
 pub fn resolve(alloc: Global, tree: &Tree, first: &[Name]) -> Result<Layouts, Memory>
     ensures scopes { IfOk result (λ layouts. layouts ≡ scopes first.now (view_tree tree.now)) }
+    // The blocks are counted by a `usize`.
+    ensures few { OnOk result (block_count (view_tree tree.now) + 1 < 2 ^ 64) }
     ensures by_number { IfOk result (λ layouts. HasNumbers (view_tree tree.now)
         → AreScopesOf layouts first.now (view_tree tree.now)) }
 {
@@ -49,6 +51,7 @@ pub fn resolve(alloc: Global, tree: &Tree, first: &[Name]) -> Result<Layouts, Me
     };
     layouts.add(program_layout(alloc, first, &tree.body)?)?;
     lay_out_stmts(alloc, &mut layouts, 0, &tree.body)?;
+    let _blocks = layouts.len();
     Ok(layouts)
 }
 
@@ -99,6 +102,13 @@ impl Layouts {
     {
         self.layouts.push(layout)?;
         Ok(())
+    }
+
+    /// The number of code blocks, the program itself among them.
+    pub fn len(&self) -> usize
+        ensures { result ≡ length self.now }
+    {
+        self.layouts.len()
     }
 
     /// The local names of a code block in the order of first binding, parameters first; those of block 0 begin with the

@@ -48,16 +48,12 @@ fn number_form(form: &mut ExprForm, first: usize) -> usize
         ExprForm::Dict(pairs) => number_pairs(pairs, first),
         ExprForm::ListOf(block, element, clauses) => {
             *block = Block(first);
-            let element_first = following(first);
-            let clauses_first = number_expr(element, element_first);
-            number_clauses(clauses, clauses_first)
+            number_clauses(clauses, number_expr(element, following(first)))
         }
         ExprForm::DictOf(block, key, value, clauses) => {
             *block = Block(first);
-            let key_first = following(first);
-            let value_first = number_expr(key, key_first);
-            let walks_first = number_expr(value, value_first);
-            number_clauses(clauses, walks_first)
+            let value_first = number_expr(key, following(first));
+            number_clauses(clauses, number_expr(value, value_first))
         }
         ExprForm::Lambda(block, params, body) => {
             *block = Block(first);
@@ -66,30 +62,17 @@ fn number_form(form: &mut ExprForm, first: usize) -> usize
             number_expr(body, body_first)
         }
         ExprForm::Cond { test, yes, no } => {
-            let next = number_expr(yes, first);
-            let next = number_expr(test, next);
-            number_expr(no, next)
+            let no_first = number_expr(test, number_expr(yes, first));
+            number_expr(no, no_first)
         }
         ExprForm::Or(exprs) => number_exprs(exprs, first),
         ExprForm::And(exprs) => number_exprs(exprs, first),
         ExprForm::Not(operand) => number_expr(operand, first),
-        ExprForm::Compare(operand, tests) => {
-            let tests_first = number_expr(operand, first);
-            number_tests(tests, tests_first)
-        }
-        ExprForm::Chain(operand, operands) => {
-            let operands_first = number_expr(operand, first);
-            number_operands(operands, operands_first)
-        }
+        ExprForm::Compare(operand, tests) => number_tests(tests, number_expr(operand, first)),
+        ExprForm::Chain(operand, more) => number_operands(more, number_expr(operand, first)),
         ExprForm::Unary(_, operand) => number_expr(operand, first),
-        ExprForm::Power(base, exponent) => {
-            let next = number_expr(base, first);
-            number_expr(exponent, next)
-        }
-        ExprForm::Primary(atom, trailers) => {
-            let trailers_first = number_expr(atom, first);
-            number_trailers(trailers, trailers_first)
-        }
+        ExprForm::Power(base, exponent) => number_expr(exponent, number_expr(base, first)),
+        ExprForm::Primary(atom, trailers) => number_trailers(trailers, number_expr(atom, first)),
     }
 }
 

@@ -1,5 +1,5 @@
 //! How values are shown: as texts of their own, and inside containers.
-#![tactic(auto, using(rp_store::proofs::Shapes::goes_on))]
+#![tactic(auto)]
 
 mod brackets;
 mod named;

@@ -1,4 +1,6 @@
 //! The text that grows while a value is shown.
+#![tactic(auto, using(rp_store::proofs::Shapes::goes_on))]
+
 ghost use Rattle.std.specs.Prelude.{◌≡◌, ℕ, List, [], chars};
 ghost use Rattle.std.specs.Option.{option_copied};
 ghost use Rattle.rp_show.specs.Show.{printed};

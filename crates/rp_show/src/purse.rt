@@ -1,4 +1,6 @@
 //! The cells that are used while a value is shown.
+#![tactic(auto, using(rp_store::proofs::Shapes::goes_on))]
+
 ghost use Rattle.std.specs.Prelude.{◌≡◌, ◌+◌, ◌<◌, ◌≤◌, ℕ, List, chars, false, true};
 ghost use Rattle.rp_show.specs.Show.{printed};
 ghost use Rattle.rp_show.specs.ShowView.{KeepsRoom, Writes, cells_of, moment};

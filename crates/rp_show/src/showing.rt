@@ -1,4 +1,6 @@
 //! A value as its text: the walk over the containers within it.
+#![tactic(auto, using(rp_store::proofs::Shapes::goes_on))]
+
 ghost use Rattle.std.specs.Prelude.{◌≡◌, ◌≤◌, ℕ, [], ◌∷◌, ◌++◌, OnOk, map, reverse, true};
 ghost use Rattle.std.specs.Option.{option_copied};
 ghost use Rattle.rp_ops.specs.Depth.{deepest};
@@ -46,15 +48,16 @@ impl Page {
 }
 
 /// A value as its text (Python Standard Library, str): a text itself, an exception value its text, all else as inside a
-/// container. A text itself costs nothing; of all else each character costs its bytes in cells, and each element within a
-/// container takes a step before its text. No answer gives a step back. Showing an element takes a time that grows with
-/// its own text and with the number of the containers around it, whatever else the container holds.
+/// container. A text itself costs nothing; of all else each character costs its bytes in cells, and each element within
+/// a container takes a step before its text. No answer gives a step back. Showing an element takes a time that grows
+/// with its own text and with the number of the containers around it, whatever else the container holds.
 ///
 /// # Errors
-/// `Raised` with a `RecursionError` and the text `depth` at a container within 200 others that is none of them, `StopSteps`
-/// where no step is left, `StopCells` at the first character that does not fit; what was charged before stays charged.
-/// `Memory` where a growth was refused, where there is none for the text of the exception, or where the count of a text's
-/// owners is full. Whatever is answered, the limit of the cells stays, and no used cell is given back.
+/// `Raised` with a `RecursionError` and the text `depth` at a container within 200 others that is none of them,
+/// `StopSteps` where no step is left, `StopCells` at the first character that does not fit; what was charged before
+/// stays charged. `Memory` where a growth was refused, where there is none for the text of the exception, or where the
+/// count of a text's owners is full. Whatever is answered, the limit of the cells stays, and no used cell is given
+/// back.
 pub fn show(
     alloc: Global,
     store: &mut Store,

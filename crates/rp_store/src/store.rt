@@ -586,8 +586,8 @@ impl Store {
         Ok(())
     }
 
-    /// Keeps in a dict where its entry at a place stands, so that this entry and the one after it are found sooner. What
-    /// it holds stays, as does an object that is no dict.
+    /// Keeps in a dict where its entry at a place stands, so that this entry and the one after it are found sooner.
+    /// What it holds stays, as does an object that is no dict.
     pub fn seek(&mut self, at: Oid, place: usize)
         requires { IsHeld self.old.heap at }
         ensures { self.new ≡ self.old }

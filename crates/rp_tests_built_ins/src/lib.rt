@@ -14,6 +14,8 @@ mod expressions;
 #[cfg(test)]
 mod function_tests;
 #[cfg(test)]
+mod large_tests;
+#[cfg(test)]
 mod list_tests;
 #[cfg(test)]
 mod need_tests;

@@ -6,7 +6,8 @@ use std::alloc::Global;
 use std::test::Fail;
 
 /// The open parts from the outermost on (E is `except`, F is `finally`, L is a loop), each at the number of its letter
-/// from 0, and what leaves; then the part that takes it, or `-`, and the parts that are left open, from the innermost on.
+/// from 0, and what leaves; then the part that takes it, or `-`, and the parts that are left open, from the innermost
+/// on.
 const CASES: &str = "
     E raise => E0
     F raise => F0

@@ -48,7 +48,7 @@ fn world_of(alloc: Global, who: &str, limit: u64) -> Result<Option<World>, Memor
         meter: Meter { left: 9 },
         printed: Printed::new(alloc),
     };
-    match load_fault(&decl, &names) {
+    match load_fault(alloc, &decl, &names)? {
         None => Ok(Some(load(alloc, decl, names, limit, running)?)),
         Some(_) => Ok(None),
     }

@@ -252,7 +252,7 @@ fn outcome_over(
         return Ok(String::from_str(alloc, "no session")?);
     };
     let words = Words::new(alloc, &names, &decl)?;
-    match load_fault(&decl, &names) {
+    match load_fault(alloc, &decl, &names)? {
         None => ran(alloc, decl, names, running, limit, script, &words),
         Some(fault) => Ok(fault_line(alloc, fault, &names)?),
     }
@@ -276,7 +276,7 @@ fn fault_told(alloc: Global, declared: &str) -> Result<String, Fail> {
     let Ok(decl) = declarations(alloc, declared.as_bytes(), &mut names) else {
         return Ok(String::from_str(alloc, "no declarations")?);
     };
-    match load_fault(&decl, &names) {
+    match load_fault(alloc, &decl, &names)? {
         Some(fault) => Ok(fault_line(alloc, fault, &names)?),
         None => Ok(String::from_str(alloc, "none")?),
     }

@@ -25,6 +25,25 @@ show s.py => x **= f(*a) => x = _inplacevar_('**=', x, _apply_(f, *a))~0
 show s.py => y = [x.a for x in e if x.b] => y = [_getattr_(x, 'a') for x in _getiter_(e) if _getattr_(x, 'b')]~0
 show s.py => y = [x for r in m for (x,) in r] => y = [x for r in _getiter_(m) for (x,) in _iter_unpack_sequence_(r, (1,), _getiter_)]~0
 show s.py => y = {k: v for k, v in d.items()} => y = {k: v for (k, v) in _iter_unpack_sequence_(_getattr_(d, 'items')(), (2,), _getiter_)}~0
+show s.py => x = o.a[i](j) => x = _getitem_(_getattr_(o, 'a'), i)(j)~0
+show s.py => x = [o.a, o[i]], {o.a: o[i]} => x = ([_getattr_(o, 'a'), _getitem_(o, i)], {_getattr_(o, 'a'): _getitem_(o, i)})~0
+show s.py => x = -o.a; y = not o.a => x = -_getattr_(o, 'a')~y = not _getattr_(o, 'a')~0
+show s.py => x = o.a + o[i] * 2 => x = _getattr_(o, 'a') + (_getitem_(o, i) * 2)~0
+show s.py => x = o.a < o.b => x = _getattr_(o, 'a') < _getattr_(o, 'b')~0
+show s.py => x = o.a if o.b else o.c => x = _getattr_(o, 'a') if _getattr_(o, 'b') else _getattr_(o, 'c')~0
+show s.py => x = lambda a=o.b: a.c => x = lambda a=_getattr_(o, 'b'): _getattr_(a, 'c')~0
+show s.py => def f(x): return x.a, x[0] => def f(x):~    return (_getattr_(x, 'a'), _getitem_(x, 0))~0
+show s.py => raise E(o.a) => raise E(_getattr_(o, 'a'))~0
+show s.py => assert o.a, o.b => assert _getattr_(o, 'a'), _getattr_(o, 'b')~0
+show s.py => try: x = o.a~except o.E as e: y = e.args => try:~    x = _getattr_(o, 'a')~except _getattr_(o, 'E') as e:~    y = _getattr_(e, 'args')~0
+show s.py => x = f(*o.a, **o.b) => x = _apply_(f, *_getattr_(o, 'a'), **_getattr_(o, 'b'))~0
+show s.py => x = o.f(*a).g(**b) => x = _apply_(_getattr_(_apply_(_getattr_(o, 'f'), *a), 'g'), **b)~0
+show s.py => x = [a for a in o.b for c in a.d] => x = [a for a in _getiter_(_getattr_(o, 'b')) for c in _getiter_(_getattr_(a, 'd'))]~0
+show s.py => x -= o[i] => x = _inplacevar_('-=', x, _getitem_(o, i))~0
+show s.py => x[0], y.a = e => (_write_(x)[0], _write_(y).a) = _unpack_sequence_(e, (2,), _getiter_)~0
+show s.py => for i, (a, b) in e: pass => for (i, (a, b)) in _iter_unpack_sequence_(e, (2, (1, (2,))), _getiter_):~    pass~0
+show s.py => while x.a and not y[0]: x = y => while _getattr_(x, 'a') and (not _getitem_(y, 0)):~    x = y~0
+show s.py => class A:~    def __init__(self, a): self.a = a => class A:~    def __init__(self, a):~        _write_(self).a = a~0
 show s.py => print(o, 'a') => print(o, 'a')~0"#;
 
 const FORMS: &str = r#"show s.py => x=1;y=2 => x = 1~y = 2~0

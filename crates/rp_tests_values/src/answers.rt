@@ -82,8 +82,8 @@ impl From<AllocError> for Mismatch {
     }
 }
 
-/// Runs each case, a line `STATEMENTS => WANTED`, and compares what it tells with what is wanted. Other lines are empty, or
-/// sentences on the cases below them. A table without a case fails.
+/// Runs each case, a line `STATEMENTS => WANTED`, and compares what it tells with what is wanted. Other lines are
+/// empty, or sentences on the cases below them. A table without a case fails.
 pub(crate) fn all_answer(alloc: Global, cases: &str) -> Result<(), Mismatch> {
     let mut has_case = false;
     for line in cases.lines() {

@@ -1,4 +1,5 @@
-//! Runs a statement of a case: a call by its word, an operator between two values, or a value, each also behind `name =`.
+//! Runs a statement of a case: a call by its word, an operator between two values, or a value, each also behind `name
+//! =`.
 
 use crate::answers::{Answer, Fault};
 use crate::calls::{called, is_call};

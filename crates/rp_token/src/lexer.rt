@@ -55,7 +55,9 @@ impl<'t> Lexer<'t> {
     ghost use Rattle.rp_base.specs.Identifier.{is_start};
     ghost use Rattle.rp_token.specs.Characters.{first, line_end_length};
     ghost use Rattle.rp_token.specs.Lexer.{Gives, Goes, IsGrown, state};
-    ghost use Rattle.rp_token.specs.Tokens.{begun, behind_line_end, behind_literal, behind_mark, behind_number, behind_token, behind_word, bracketed, closed_to, ending, in_line, indented, joined, start, step, taken, with_token};
+    ghost use Rattle.rp_token.specs.Tokens.{begun, behind_line_end, behind_literal, behind_mark, behind_number};
+    ghost use Rattle.rp_token.specs.Tokens.{behind_token, behind_word, bracketed, closed_to, ending, in_line, indented};
+    ghost use Rattle.rp_token.specs.Tokens.{joined, start, step, taken, with_token};
     ghost use Rattle.rp_token.specs.View.{form_view};
 
     /// A reader before the first line of the text, behind its byte order mark.
@@ -177,7 +179,9 @@ impl<'t> Lexer<'t> {
 
     /// The columns above one are closed, with a token for each.
     fn close(&mut self, column: usize, rest: &str, line: usize) -> Result<(), Memory>
-        ensures { (names : List (List ℕ)) → OnOk result (state names self.new ≡ closed_to column (chars rest.now) line self.old.columns (state names self.old)) }
+        ensures { (names : List (List ℕ))
+            → OnOk result (state names self.new
+            ≡ closed_to column (chars rest.now) line self.old.columns (state names self.old)) }
     {
         'columns: while self.columns.top() > column {
             self.columns.pop();
@@ -322,7 +326,9 @@ impl<'t> Lexer<'t> {
     fn take(&mut self, kind: TokenKind, rest: &'t str) -> Result<(), Memory>
         requires text { IsUtf8 rest.now }
         requires rest { length (chars rest.now) ≤ length (chars self.old.rest.now) }
-        ensures { (names : List (List ℕ)) → OnOk result (state names self.new ≡ taken (form_view names kind) (chars rest.now) (state names self.old)) }
+        ensures { (names : List (List ℕ))
+            → OnOk result (state names self.new
+            ≡ taken (form_view names kind) (chars rest.now) (state names self.old)) }
     {
         self.push(kind, self.rest, rest, self.line)?;
         self.rest = rest;
@@ -331,7 +337,9 @@ impl<'t> Lexer<'t> {
 
     /// A token more, between two rests of the text.
     fn push(&mut self, kind: TokenKind, from: &str, to: &str, line: usize) -> Result<(), Memory>
-        ensures { (names : List (List ℕ)) → OnOk result (state names self.new ≡ with_token (form_view names kind) (chars from.now) (chars to.now) line (state names self.old)) }
+        ensures { (names : List (List ℕ))
+            → OnOk result (state names self.new
+            ≡ with_token (form_view names kind) (chars from.now) (chars to.now) line (state names self.old)) }
     {
         let from = self.size.saturating_sub(from.len());
         let to = self.size.saturating_sub(to.len());

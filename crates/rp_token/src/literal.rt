@@ -1,6 +1,7 @@
 //! Text literals.
 
-ghost use Rattle.std.specs.Prelude.{◌≡◌, ◌<◌, ◌+◌, ◌^◌, ◌==◌, [], List, ℕ, ◌∷◌, chars, drop, length, nat_eq, IfOk, IfSome, MatchOption, Some, None, true, false};
+ghost use Rattle.std.specs.Prelude.{◌≡◌, ◌<◌, ◌+◌, ◌^◌, ◌==◌, [], List, ℕ, ◌∷◌, chars, drop, length, nat_eq, IfOk};
+ghost use Rattle.std.specs.Prelude.{IfSome, MatchOption, Some, None, true, false};
 ghost use Rattle.std.specs.List.{starts_with};
 ghost use Rattle.std.specs.Str.{IsUtf8};
 ghost use Rattle.std.specs.Map.{lookup};
@@ -50,7 +51,8 @@ impl Quotes {
     pub(crate) fn strip(self, text: &str) -> Option<&str>
         requires { 0 < self.quote }
         ensures meaning { let quotes = quotes_seen self in let cs = chars text.now in
-            MatchOption result (starts_with nat_eq cs quotes ≡ false) (λ rest. (starts_with nat_eq cs quotes ≡ true) × (chars rest.now ≡ drop (length quotes) cs)) }
+            MatchOption result (starts_with nat_eq cs quotes ≡ false)
+            (λ rest. (starts_with nat_eq cs quotes ≡ true) × (chars rest.now ≡ drop (length quotes) cs)) }
         ensures text { IfSome result (λ rest. IsUtf8 rest.now) }
     {
         if first(text) != self.quote {
@@ -208,7 +210,9 @@ fn digits_of_escape(letter: char) -> Option<usize>
 /// The character whose number so many hexadecimal digits at the front spell, and what stands behind them.
 fn numbered(count: usize, text: &str) -> Option<(char, &str)>
     ensures meaning { let escape = numbered count (chars text.now) in
-        MatchOption result (escape ≡ None) (λ r. (escape ≡ Some (record { stands_for = r.0 ∷ []; taken = count + 1 })) × (chars r.1.now ≡ drop count (chars text.now))) }
+        MatchOption result (escape ≡ None)
+        (λ r. (escape ≡ Some (record { stands_for = r.0 ∷ []; taken = count + 1 }))
+        × (chars r.1.now ≡ drop count (chars text.now))) }
     ensures text { IfSome result (λ r. IsUtf8 r.1.now) }
 {
     let mut rest = text;

@@ -1,6 +1,7 @@
 //! The spellings of keywords and marks.
 
-ghost use Rattle.std.specs.Prelude.{◌≡◌, ℕ, ◌<◌, ◌≤◌, [], List, MatchOption, None, chars, drop, false, find, length, nat_eq, slice_index_or, take, true};
+ghost use Rattle.std.specs.Prelude.{◌≡◌, ℕ, ◌<◌, ◌≤◌, [], List, MatchOption, None, chars, drop, false, find, length};
+ghost use Rattle.std.specs.Prelude.{nat_eq, slice_index_or, take, true};
 ghost use Rattle.std.specs.List.{starts_with};
 ghost use Rattle.rp_base.specs.Keyword.{is_keyword, keywords};
 ghost use Rattle.rp_token.specs.Characters.{none_begins};
@@ -13,7 +14,8 @@ use crate::token::TokenKind;
 /// The keyword that a word is.
 pub(crate) fn keyword(word: &str) -> Option<TokenKind>
     ensures { MatchOption result (is_keyword (chars word.now) ≡ false)
-        (λ kind. (is_keyword (chars word.now) ≡ true) × ((names : List (List ℕ)) → form_view names kind ≡ keyword (chars word.now))) }
+        (λ kind. (is_keyword (chars word.now) ≡ true)
+        × ((names : List (List ℕ)) → form_view names kind ≡ keyword (chars word.now))) }
 {
     let (begin, end) = keyword_places(first(word));
     for place in begin..end {
@@ -28,7 +30,8 @@ pub(crate) fn keyword(word: &str) -> Option<TokenKind>
 /// The mark at the front of a text, the longest of those that it begins with, and what stands behind it.
 pub(crate) fn mark(text: &str) -> Option<(TokenKind, &str)>
     ensures { let cs = chars text.now in
-        MatchOption result (find (starts_with nat_eq cs) marks ≡ None) (λ r. IsMark (find (starts_with nat_eq cs) marks) cs r.0 r.1.now) }
+        MatchOption result (find (starts_with nat_eq cs) marks ≡ None)
+        (λ r. IsMark (find (starts_with nat_eq cs) marks) cs r.0 r.1.now) }
 {
     let (begin, end) = mark_places(first(text));
     for place in begin..end {

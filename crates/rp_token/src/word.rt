@@ -23,7 +23,8 @@ pub(crate) fn word_kind(
     names: &mut Names,
 ) -> Result<Option<TokenKind>, Memory>
     requires { is_identifier (chars word.now) ≡ true }
-    ensures form { (more : List (List ℕ)) → IfOk result (λ kind. option_map (form_view (names.new ++ more)) kind ≡ word_form (chars word.now)) }
+    ensures form { (more : List (List ℕ))
+        → IfOk result (λ kind. option_map (form_view (names.new ++ more)) kind ≡ word_form (chars word.now)) }
     ensures grown { IsGrown names.old names.new }
 {
     if let Some(kind) = keyword(word) {
@@ -47,7 +48,8 @@ fn is_plain(word: &str) -> bool
 /// The name of the word's form, where it has one that is no keyword.
 fn name_of_form(alloc: Global, word: &str, names: &mut Names) -> Result<Option<TokenKind>, Memory>
     requires { is_keyword (chars word.now) ≡ false }
-    ensures form { (more : List (List ℕ)) → IfOk result (λ kind. option_map (form_view (names.new ++ more)) kind ≡ word_form (chars word.now)) }
+    ensures form { (more : List (List ℕ))
+        → IfOk result (λ kind. option_map (form_view (names.new ++ more)) kind ≡ word_form (chars word.now)) }
     ensures grown { IsGrown names.old names.new }
 {
     let Some(form) = identifier(alloc, word)? else {

@@ -2,8 +2,8 @@
 
 use rp_base::{Raised, Value};
 
-/// What leaves statements before their end (Python Language Reference, Simple statements). A stop of the session is none:
-/// no part takes it.
+/// What leaves statements before their end (Python Language Reference, Simple statements). A stop of the session is
+/// none: no part takes it.
 #[derive(Drop)]
 pub enum Leaving {
     /// An exception.

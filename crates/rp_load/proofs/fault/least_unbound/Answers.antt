@@ -1,8 +1,5 @@
-use Rattle.std.proofs.Common.{◌≡◌, rules, sym, ap, subst, ◌∙◌}
-use Rattle.std.specs.List.{All}
-use Rattle.std.specs.Option.{IfSome}
+use Rattle.std.proofs.Common.{sym, ◌∙◌}
 use Rattle.rp_base.specs.declared.value.Name.{Name}
-use Rattle.rp_decl.specs.Places.{IsHeld}
 use Rattle.rp_decl.specs.View.{declarations_view}
 use Rattle.rp_machine.specs.Store.{global_names}
 use Rattle.rp_load.proofs.Bound.{bound-step, unbound-step}
@@ -16,15 +13,16 @@ loop-name-preserved c =
     let xs = c.expose-name-items.result.now in
     let i = c.loop-name.name-index in
     let first : Name = record { 0 = 0 } in
+    let bound = c.is_bound.ensures c.args.decl.now c.requires.held c.requires.globals in
     elim c.if-not-is_bound.branch [
       | then-not-is_bound w ↦
           rw w.least-is (record {
-            found = unbound-step names known c.loop-name.least w.lesser.result xs i first c.loop-name-test.true (sym c.is_bound.ensures ∙ w.if-not-is_bound.true) w.lesser.ensures.lesser ∙ c.loop-name.invariant.found;
+            found = unbound-step names known c.loop-name.least w.lesser.result xs i first c.loop-name-test.true (sym bound ∙ w.if-not-is_bound.true) w.lesser.ensures.lesser ∙ c.loop-name.invariant.found;
             held = w.lesser.ensures.held;
           })
       | else-not-is_bound w ↦
           rw w.least-is (record {
-            found = bound-step names known c.loop-name.least xs i first c.loop-name-test.true (sym c.is_bound.ensures ∙ w.if-not-is_bound.false) ∙ c.loop-name.invariant.found;
+            found = bound-step names known c.loop-name.least xs i first c.loop-name-test.true (sym bound ∙ w.if-not-is_bound.false) ∙ c.loop-name.invariant.found;
             held = c.loop-name.invariant.held;
           })
     ]

@@ -1,4 +1,4 @@
-use Rattle.std.proofs.Common.{◌≡◌, [], Some, option_map, chars, Greater, rules, sym, ap, ◌∙◌}
+use Rattle.std.proofs.Common.{◌≡◌, [], Some, option_map, chars, rules, sym, ap, ◌∙◌}
 use Rattle.std.proofs.lemmas.Option.{get_or_from_slice_get}
 use Rattle.rp_decl.specs.Order.{lesser_of, text_cmp}
 use Rattle.rp_decl.specs.View.{name_text}

@@ -1,4 +1,4 @@
-use Rattle.std.proofs.Common.{◌≡◌, take, ap, ◌∙◌}
+use Rattle.std.proofs.Common.{take, ap, ◌∙◌}
 use Rattle.rp_dict.specs.Dict.{insert_entry}
 use Rattle.rp_store.specs.Key.{same_name}
 use Rattle.rp_load.specs.View.{field_value, fields_of}

@@ -1,17 +1,12 @@
-use Rattle.std.proofs.Common.{rules, ◌∙◌}
-use Rattle.std.proofs.lemmas.List.Sorted.{All-permutation, answers_always}
-use Rattle.rp_store.specs.Kept.{IsSound}
-use Rattle.rp_native.specs.OrderSteps.{goes_first}
-use Rattle.rp_native.proofs.StableOrders.{stably-sorted}
-use Rattle.rp_native.proofs.ValueOrders.{goes_first-order, values-same}
+use Rattle.std.proofs.Common.{◌≡◌, false}
+use Rattle.std.specs.List.{list_all}
+use Rattle.rp_native.specs.Extremes.{is_text}
+use Rattle.rp_native.specs.Walked.{are_numbers}
+use Rattle.rp_native.proofs.ValueOrders.{texts-left}
 use Rattle.rp_native.proofs.sorts.in_order.Goals as goal
 
-pub returns-clause-sorted : goal.returns-clause-sorted
-returns-clause-sorted c =
-    let sorted = c.in_ok-sort_by.ensures.sorted goes_first goes_first-order (answers_always _ _ _ (λ f a r f' called. search rules)) in
-    let stable = c.sort_by.ensures.stable goes_first goes_first-order (answers_always _ _ _ (λ f a r f' called. search rules)) in
-    stably-sorted goes_first goes_first-order c.args.values.items c.sort_by.new.self.items sorted stable ∙ values-same c.args.values.items c.requires.ordered
-
-pub returns-clause-sound : goal.returns-clause-sound
-returns-clause-sound c = λ heap sound.
-    All-permutation (IsSound heap) c.args.values.items c.sort_by.new.self.items c.sort_by.ensures.permutation sound
+pub texts_in_order-requires : goal.texts_in_order-requires
+texts_in_order-requires c =
+    let vs = c.args.values.items in
+    let none : are_numbers vs ≡ false = cc in
+    record { texts = texts-left (are_numbers vs) (list_all is_text vs) c.requires.ordered none }

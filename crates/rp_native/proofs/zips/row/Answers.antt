@@ -17,9 +17,9 @@ pub returns-in_err-value-clause-plain : goal.returns-in_err-value-clause-plain
 returns-in_err-value-clause-plain c = λ steps.
     let at = c.loop-walk in
     let walk = get_or at.walks at.walk-index c.walk-item.result in
-    row-fail c.from_residual.result c.in_err-value.field-0.0 (set at.walks at.walk-index c.element.new.walk) at.row.items at.walks at.walk-index
+    row-fail c.from_residual-in_err-value.result c.in_err-value.field-0.0 (set at.walks at.walk-index c.element.new.walk) at.row.items at.walks at.walk-index
     walk (state_of at.store steps) (state_of c.element.new.store steps) (row c.args.walks.now (state_of c.args.store.now steps))
-    c.from_residual.ensures.1 (at.invariant.0 steps) (omega arith) (ap (λ (d : Cursor). get_or at.walks at.walk-index d) c.walk-item.is) (c.in_err-value.ensures.plain steps)
+    c.from_residual-in_err-value.ensures.1 (at.invariant.0 steps) (omega arith) (ap (λ (d : Cursor). get_or at.walks at.walk-index d) c.walk-item.is) (c.in_err-value.ensures.plain steps)
 
 pub loop-walk-preserved : goal.loop-walk-preserved
 loop-walk-preserved c =

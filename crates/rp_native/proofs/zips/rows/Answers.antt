@@ -16,9 +16,9 @@ returns-in_err-row-clause-plain c =
     let at = c.loop in
     let left = c.args.count - at.counter in
     let fewer = c.args.count - (at.counter + 1) in
-    rows-fail c.from_residual.result c.in_err-row.field-0.0 (rows_of at.rows.items) at.walks left fewer (state_of at.store at.meter.left)
+    rows-fail c.from_residual-in_err-row.result c.in_err-row.field-0.0 (rows_of at.rows.items) at.walks left fewer (state_of at.store at.meter.left)
     (state_of c.next_row.new.store c.next_row.new.meter.left) (rows c.args.count c.args.walks.now (state_of c.args.store.now c.args.meter.now.left))
-    c.from_residual.ensures.1 at.invariant.0 (omega (c.loop-test.true, arith)) c.in_err-row.ensures.plain
+    c.from_residual-in_err-row.ensures.1 at.invariant.0 (omega (c.loop-test.true, arith)) c.in_err-row.ensures.plain
 
 pub loop-preserved : goal.loop-preserved
 loop-preserved c =

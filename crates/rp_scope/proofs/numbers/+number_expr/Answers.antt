@@ -90,10 +90,10 @@ pub number_form-returns-in-DictOf-clause-numbers : goal.number_form-returns-in-D
 number_form-returns-in-DictOf-clause-numbers t c = first_of (grind (arith, common_steps, form_dict_of, append_runs), grind (arith, form_dict_of, append_runs), search (rules, form_dict_of, append_runs))
 
 pub number_form-returns-in-Lambda-clause-kept : goal.number_form-returns-in-Lambda-clause-kept
-number_form-returns-in-Lambda-clause-kept t c = let params : m.map_params no_blocks (v.view_params c.number_params-body_first.new.params) ≡ m.map_params no_blocks (v.view_params c.in-Lambda.params.value) = first_of (search rules, grind arith, grind (arith, common_steps)) in let body : m.map_expr no_blocks (v.view_expr c.number_expr.new.expr) ≡ m.map_expr no_blocks (v.view_expr c.in-Lambda.body) = first_of (search rules, grind arith, grind (arith, common_steps)) in forms.lambda_kept _ c.in-Lambda.block _ c.in-Lambda.params _ c.in-Lambda.body _ c.in-Lambda.is params body
+number_form-returns-in-Lambda-clause-kept t c = let params : m.map_params no_blocks (v.view_params c.number_params-body_first.new.params) ≡ m.map_params no_blocks (v.view_params c.in-Lambda.params.value) = first_of (search rules, grind arith, grind (arith, common_steps)) in let body : m.map_expr no_blocks (v.view_expr c.number_expr-in-Lambda.new.expr) ≡ m.map_expr no_blocks (v.view_expr c.in-Lambda.body) = first_of (search rules, grind arith, grind (arith, common_steps)) in forms.lambda_kept _ c.in-Lambda.block _ c.in-Lambda.params _ c.in-Lambda.body _ c.in-Lambda.is params body
 
 pub number_form-returns-in-Lambda-clause-numbers : goal.number_form-returns-in-Lambda-clause-numbers
-number_form-returns-in-Lambda-clause-numbers t c = let params : n.params_numbers (v.view_params c.number_params-body_first.new.params) ≡ renumbered c.following-params_first.result (n.params_numbers (v.view_params c.in-Lambda.params.value)) = first_of (search rules, grind arith, grind (arith, common_steps)) in let passed : c.number_params-body_first.result ≡ past (n.params_numbers (v.view_params c.in-Lambda.params.value)) c.following-params_first.result = first_of (search rules, grind arith, grind (arith, common_steps)) in let body : n.expr_numbers (v.view_expr c.number_expr.new.expr) ≡ renumbered c.number_params-body_first.result (n.expr_numbers (v.view_expr c.in-Lambda.body)) = first_of (search rules, grind arith, grind (arith, common_steps)) in forms.lambda_numbers _ c.in-Lambda.block _ c.in-Lambda.params _ c.in-Lambda.body _ c.args.first c.following-params_first.result c.number_params-body_first.result c.in-Lambda.is refl c.following-params_first.ensures params passed body
+number_form-returns-in-Lambda-clause-numbers t c = let params : n.params_numbers (v.view_params c.number_params-body_first.new.params) ≡ renumbered c.following-params_first.result (n.params_numbers (v.view_params c.in-Lambda.params.value)) = first_of (search rules, grind arith, grind (arith, common_steps)) in let passed : c.number_params-body_first.result ≡ past (n.params_numbers (v.view_params c.in-Lambda.params.value)) c.following-params_first.result = first_of (search rules, grind arith, grind (arith, common_steps)) in let body : n.expr_numbers (v.view_expr c.number_expr-in-Lambda.new.expr) ≡ renumbered c.number_params-body_first.result (n.expr_numbers (v.view_expr c.in-Lambda.body)) = first_of (search rules, grind arith, grind (arith, common_steps)) in forms.lambda_numbers _ c.in-Lambda.block _ c.in-Lambda.params _ c.in-Lambda.body _ c.args.first c.following-params_first.result c.number_params-body_first.result c.in-Lambda.is refl c.following-params_first.ensures params passed body
 
 pub number_form-returns-in-Or-clause-kept : goal.number_form-returns-in-Or-clause-kept
 number_form-returns-in-Or-clause-kept t c = grind (arith, common_steps, form_or)

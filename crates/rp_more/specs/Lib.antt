@@ -1,0 +1,12 @@
+pub mod Expanded
+pub mod Expression
+pub mod Forms
+pub mod KindSteps
+pub mod LiteralSteps
+pub mod Literals
+pub mod PieceSteps
+pub mod Pieces
+pub mod RunSteps
+pub mod SetSteps
+pub mod Sets
+pub mod View

@@ -1,0 +1,273 @@
+//! f-literals: each is written as the call `''.join([P, ...])` of its pieces.
+
+ghost use Rattle.std.specs.Prelude.{◌≡◌, ◌<◌, ◌++◌, OnOk, ◌∷◌, [], ◌==◌, ◌&&◌, ◌-◌, ℕ, List, IfOk, Ok, chars};
+ghost use Rattle.std.specs.Prelude.{codes, length, map, false, if◌then◌else◌};
+ghost use Rattle.std.specs.List.{All};
+ghost use Rattle.std.specs.Option.{option_map};
+ghost use Rattle.rp_token.specs.Form.{mark};
+ghost use Rattle.rp_token.specs.Lexer.{IsGrown};
+ghost use Rattle.rp_token.specs.View.{IsHeld, form_view, item_view};
+ghost use Rattle.rp_base.specs.Names.{word_of};
+ghost use Rattle.rp_more.specs.Forms.{is_literal, placed, same, text_of};
+ghost use Rattle.rp_more.specs.Literals.{begins, elements, has_text_at, is_prefix, literal_items, literals};
+ghost use Rattle.rp_more.specs.Literals.{piece_forms, with_front};
+ghost use Rattle.rp_more.specs.Pieces.{Piece as TextPiece, pieces_of};
+ghost use Rattle.rp_more.specs.PieceSteps.{piece_seen};
+ghost use Rattle.rp_more.specs.View.{Gives};
+ghost use Rattle.rp_more.specs.LiteralSteps.{Leads, comma_before, in_place, items_of, join_front, left, place_item};
+
+use crate::copies::copy;
+use crate::expression::{add_expression, intern};
+use crate::fault::MoreFault;
+use crate::kinds::ends_operand;
+use crate::pieces::{Piece, read_pieces};
+use crate::place::Place;
+use rp_base::{Memory, Name, Names, Text};
+use rp_token::{Token, TokenKind};
+use std::alloc::Global;
+
+/// The tokens so far, and what was before the next one.
+#[derive(Drop)]
+struct Literals {
+    alloc: Global,
+    written: Vec<Token>,
+    /// The token before may end an operand.
+    operand: bool,
+    /// The token before is the name of an f-literal, whose text comes.
+    inside: bool,
+}
+
+impl Literals {
+    /// Before the first of so many tokens.
+    fn new(alloc: Global, count: usize) -> Result<Literals, Memory>
+        ensures { (names : List (List ℕ)) (ts : List Token) → IfOk result (λ l. left names l ts ≡ literals false false
+            (items_of names ts)) }
+    {
+        Ok(Literals {
+            alloc,
+            written: Vec::with_capacity(alloc, count)?,
+            operand: false,
+            inside: false,
+        })
+    }
+
+    /// One token more, by what stands behind it.
+    fn take(&mut self, token: &Token, behind: &[Token], names: &mut Names) -> Result<(), MoreFault>
+        requires { IsHeld names.old token.now }
+        ensures leads { (more : List (List ℕ)) → Leads (left (names.new ++ more) self.old (token.now ∷ behind.now))
+            (left (names.new ++ more) self.new behind.now) result }
+        ensures grown { IsGrown names.old names.new }
+    {
+        if self.inside {
+            add_literal(self.alloc, &mut self.written, token, names)?;
+            self.operand = true;
+            self.inside = false;
+            return Ok(());
+        }
+        if self.begins(token, behind, names) {
+            self.operand = true;
+            self.inside = true;
+            return Ok(());
+        }
+        self.keep(token)?;
+        self.operand = ends_operand(&token.kind);
+        Ok(())
+    }
+
+    /// Whether an f-literal begins with the token.
+    fn begins(&self, token: &Token, behind: &[Token], names: &Names) -> bool
+        requires { IsHeld names.now token.now }
+        ensures { (more : List (List ℕ)) → result ≡ begins self.now.operand (item_view (names.now ++ more) token.now)
+            (items_of (names.now ++ more) behind.now) }
+    {
+        !self.operand && (is_prefix(token, names) && has_text_at(token.to, behind))
+    }
+
+    fn keep(&mut self, token: &Token) -> Result<(), Memory>
+        ensures items { OnOk result (self.new.written.items ≡ self.old.written.items ++ token.now ∷ []) }
+        ensures operand { self.new.operand ≡ self.old.operand }
+        ensures inside { self.new.inside ≡ self.old.inside }
+    {
+        self.written.push(copy(token)?)?;
+        Ok(())
+    }
+}
+
+/// The tokens with each f-literal as its call.
+///
+/// # Errors
+/// `Format` with the line of the first f-literal whose text is wrong, or `Memory`.
+pub(crate) fn written_out(
+    alloc: Global,
+    tokens: &[Token],
+    names: &mut Names,
+) -> Result<Vec<Token>, MoreFault>
+    requires { All (IsHeld names.old) tokens.now }
+    ensures literals { (more : List (List ℕ)) → Gives (names.new ++ more) (literals false false
+        (items_of (names.new ++ more) tokens.now)) result }
+    ensures grown { IsGrown names.old names.new }
+{
+    let mut literals = Literals::new(alloc, tokens.len())?;
+    let mut rest = tokens;
+    'tokens: while let [token, behind @ ..] = rest {
+        literals.take(token, behind, names)?;
+        rest = behind;
+    }
+    Ok(literals.written)
+}
+
+/// Whether the token is the name `f`, spelled by one byte.
+fn is_prefix(token: &Token, names: &Names) -> bool
+    requires { IsHeld names.now token.now }
+    ensures { (more : List (List ℕ)) → result ≡ is_prefix (item_view (names.now ++ more) token.now) }
+{
+    match token.kind {
+        TokenKind::Name(name) => token.to.saturating_sub(token.from) == 1 && is_f(name, names),
+        _ => false,
+    }
+}
+
+/// Whether the name is `f`.
+fn is_f(name: Name, names: &Names) -> bool
+    requires { name.0 < length names.now }
+    ensures { (more : List (List ℕ)) → result ≡ same (codes "f") (word_of (names.now ++ more) name) }
+{
+    "f" == names.text(name)
+}
+
+/// Whether a text begins there.
+fn has_text_at(place: usize, tokens: &[Token]) -> bool
+    ensures { (names : List (List ℕ)) → result ≡ has_text_at place (items_of names tokens.now) }
+{
+    match tokens {
+        [] => false,
+        [token, ..] => is_text(&token.kind) && token.from == place,
+    }
+}
+
+fn is_text(kind: &TokenKind) -> bool
+    ensures { (names : List (List ℕ)) → result ≡ is_literal (form_view names kind.now) }
+{
+    matches!(kind, TokenKind::Text(_))
+}
+
+/// Appends the call that an f-literal with this text is.
+fn add_literal(
+    alloc: Global,
+    written: &mut Vec<Token>,
+    token: &Token,
+    names: &mut Names,
+) -> Result<(), MoreFault>
+    ensures leads { (more : List (List ℕ)) → Leads (with_front (items_of (names.new ++ more) written.old.items)
+        (literal_items (item_view (names.new ++ more) token.now)))
+        (Ok (items_of (names.new ++ more) written.new.items)) result }
+    ensures grown { IsGrown names.old names.new }
+{
+    let place = Place::of(token);
+    let Some(pieces) = pieces_of(alloc, &token.kind)? else {
+        return Err(MoreFault::Format(place.line()));
+    };
+    begin_call(alloc, written, place, names)?;
+    add_elements(alloc, written, place, pieces.as_slice(), names)?;
+    place.end_call(written, TokenKind::RightBracket)?;
+    Ok(())
+}
+
+/// Appends `''.join([`.
+fn begin_call(
+    alloc: Global,
+    written: &mut Vec<Token>,
+    place: Place,
+    names: &mut Names,
+) -> Result<(), Memory>
+    ensures items { (more : List (List ℕ)) → OnOk result (items_of (names.new ++ more) written.new.items
+        ≡ items_of (names.new ++ more) written.old.items ++ map (placed (place_item place)) join_front) }
+    ensures grown { IsGrown names.old names.new }
+{
+    place.push(written, TokenKind::Text(Text::new(alloc, "")?))?;
+    place.push(written, TokenKind::Dot)?;
+    place.push(written, TokenKind::Name(intern(names, "join")?))?;
+    place.push(written, TokenKind::LeftParen)?;
+    place.push(written, TokenKind::LeftBracket)?;
+    Ok(())
+}
+
+/// The pieces of the text that a token has.
+fn pieces_of(alloc: Global, kind: &TokenKind) -> Result<Option<Vec<Piece>>, Memory>
+    ensures { (names : List (List ℕ)) → IfOk result (λ found. option_map (λ v. map piece_seen v.items) found
+        ≡ pieces_of (text_of (form_view names kind.now))) }
+{
+    match kind {
+        TokenKind::Text(text) => read_pieces(alloc, text.as_str()),
+        _ => read_pieces(alloc, ""),
+    }
+}
+
+/// Appends the pieces, with a comma before each but the first.
+fn add_elements(
+    alloc: Global,
+    written: &mut Vec<Token>,
+    place: Place,
+    pieces: &[Piece],
+    names: &mut Names,
+) -> Result<(), MoreFault>
+    ensures leads { (more : List (List ℕ)) → Leads (with_front (items_of (names.new ++ more) written.old.items)
+        (in_place place (elements [] (map piece_seen pieces.now))))
+        (Ok (items_of (names.new ++ more) written.new.items)) result }
+    ensures grown { IsGrown names.old names.new }
+{
+    let mut first = true;
+    for piece in pieces {
+        add_element(alloc, written, place, first, piece, names)?;
+        first = false;
+    }
+    Ok(())
+}
+
+/// Appends a piece, with a comma before it, if it is not the first.
+fn add_element(
+    alloc: Global,
+    written: &mut Vec<Token>,
+    place: Place,
+    first: bool,
+    piece: &Piece,
+    names: &mut Names,
+) -> Result<(), MoreFault>
+    ensures leads { (more : List (List ℕ)) (ps : List TextPiece)
+        → Leads (with_front (items_of (names.new ++ more) written.old.items) (in_place place
+        (elements (comma_before first) (piece_seen piece.now ∷ ps))))
+        (with_front (items_of (names.new ++ more) written.new.items) (in_place place
+        (elements (comma_before false) ps))) result }
+    ensures grown { IsGrown names.old names.new }
+{
+    add_comma(written, place, first)?;
+    add_piece(alloc, written, place, piece, names)
+}
+
+fn add_comma(written: &mut Vec<Token>, place: Place, first: bool) -> Result<(), Memory>
+    ensures { (names : List (List ℕ)) → OnOk result (items_of names written.new.items
+        ≡ items_of names written.old.items ++ map (placed (place_item place)) (comma_before first)) }
+{
+    if first {
+        return Ok(());
+    }
+    place.push(written, TokenKind::Comma)
+}
+
+fn add_piece(
+    alloc: Global,
+    written: &mut Vec<Token>,
+    place: Place,
+    piece: &Piece,
+    names: &mut Names,
+) -> Result<(), MoreFault>
+    ensures leads { (more : List (List ℕ)) → Leads (with_front (items_of (names.new ++ more) written.old.items)
+        (in_place place (piece_forms (piece_seen piece.now))))
+        (Ok (items_of (names.new ++ more) written.new.items)) result }
+    ensures grown { IsGrown names.old names.new }
+{
+    match piece {
+        Piece::Run(text) => Ok(place.push(written, TokenKind::Text(text.copy()?))?),
+        Piece::Part(text) => add_expression(alloc, written, place, text.as_str(), names),
+    }
+}

@@ -1,0 +1,81 @@
+-- What a step of a command says, and where it refuses.
+use Rattle.std.specs.Prelude.{◌≡◌, ◌+◌, ℕ, false, List, ◌++◌, codes, Option, Some, IfSome, Result, Ok, Err}
+use Rattle.rp_decl.specs.Records.{Declarations}
+use Rattle.rp_decl.specs.View.{Placed, declarations_view}
+use Rattle.rp_decl.specs.Word.{is_among}
+use Rattle.rp_first.specs.Refusal.{IsRefused as IsScriptRefused, refusal_line as script_refusal_line}
+use Rattle.rp_first.specs.declared.refusal.Refusal.{Refusal as ScriptRefusal}
+use Rattle.rp_interact.specs.Why.{first_unknown}
+use Rattle.rp_run.specs.Command.{Run}
+use Rattle.rp_run.specs.Told.{IsRead, IsShort, IsTooLong, ToldRun, ToldUnread, too_long_line, undeclared_line, unknown_line}
+use Rattle.rp_run.specs.declared.answer.Answer.{Answer}
+use Rattle.rp_run.specs.declared.stop.Silence.{Silence}
+use Rattle.rp_run.specs.declared.stop.Silence.TheVariants as silence
+use Rattle.rp_run.specs.declared.stop.Stop.{Stop}
+use Rattle.rp_run.specs.declared.stop.Stop.TheVariants.{Refused, Failed, Memory}
+
+-- of what is said where a step refuses; the other stops say nothing
+abbrev pub OnRefusal : (Answer → Type 0) → Stop → Type 0
+OnRefusal P (Refused a) = P a
+OnRefusal P Failed = Unit {0}
+OnRefusal P Memory = Unit {0}
+
+-- of what is said, whether the last step answers or an earlier one refuses
+abbrev pub OnAnswer : Result Answer Stop → (Answer → Type 0) → Type 0
+OnAnswer (Ok a) P = P a
+OnAnswer (Err stop) P = OnRefusal P stop
+
+abbrev pub said_at : Stop → Result Answer Silence
+said_at (Refused a) = Ok a
+said_at Failed = Err silence.Failed
+said_at Memory = Err silence.Memory
+
+-- a refusal is an answer too
+abbrev pub said : Result Answer Stop → Result Answer Silence
+said (Ok a) = Ok a
+said (Err stop) = said_at stop
+
+-- ---- files
+
+-- one file more was begun, the one at the path
+abbrev pub BeginsNext : List ℕ → ℕ → ℕ → List ℕ → Type 0
+BeginsNext path before begun last_path = (begun ≡ before + 1) × (last_path ≡ path)
+
+-- the file at a path is short, and these are its bytes
+abbrev pub IsWhole : Option (List ℕ → List ℕ) → List ℕ → List ℕ → Type 0
+IsWhole contents bytes path = IfSome contents (λ of. (bytes ≡ of path) × IsShort (of path))
+
+-- the file at a path is too long
+abbrev pub IsLong : Option (List ℕ → List ℕ) → List ℕ → Type 0
+IsLong contents path = IfSome contents (λ of. IsTooLong (of path))
+
+abbrev pub RefusesLong : Option (List ℕ → List ℕ) → List ℕ → Answer → Type 0
+RefusesLong contents path a = IsLong contents path × (a.text ≡ too_long_line path) × (a.status.0 ≡ 9)
+
+-- ---- declarations, principals, permissions and scripts
+
+-- the file at the path declares these records
+abbrev pub TellsRead : List ℕ → Option (List ℕ → List ℕ) → Declarations → Type 0
+TellsRead path contents d = IfSome contents (λ of. IsRead (of path) d)
+
+-- it declares none
+abbrev pub RefusesUnread : List ℕ → Option (List ℕ → List ℕ) → Answer → Type 0
+RefusesUnread path contents a = IfSome contents (λ of. ToldUnread path (of path) a.text a.status.0)
+
+-- one of the ids is that of no principal
+abbrev pub RefusesUnknown : Placed → List (List ℕ) → Answer → Type 0
+RefusesUnknown d ids a =
+    (id : List ℕ) × (((names : List (List ℕ)) → first_unknown (declarations_view names d) ids ≡ Some id) × (a.text ≡ unknown_line id) × (a.status.0 ≡ 3))
+
+-- the permission is not declared
+abbrev pub RefusesUndeclared : List (List ℕ) → List ℕ → Answer → Type 0
+RefusesUndeclared permissions id a = (is_among permissions id ≡ false) × (a.text ≡ undeclared_line id) × (a.status.0 ≡ 3)
+
+-- declarations that are read are not those of a run of these ids
+abbrev pub RefusesRun : Declarations → List (List ℕ) → Answer → Type 0
+RefusesRun d ids a = (r : Run) (of : List ℕ → List ℕ) → r.ids ≡ ids → IsRead (of r.declarations) d → ToldRun r of a.text a.status.0
+
+-- the bytes are no script of a run
+abbrev pub RefusesScript : List ℕ → Answer → Type 0
+RefusesScript bytes a =
+    (refusal : ScriptRefusal) × (IsScriptRefused bytes refusal × (a.text ≡ codes "script 1: " ++ script_refusal_line refusal) × (a.status.0 ≡ 4))
