@@ -4,23 +4,31 @@ use Rattle.rp_base.specs.Names.{word_of}
 use Rattle.rp_grammar.specs.Kinds.{Tokens}
 use Rattle.rp_grammar.specs.Program.{Spells}
 use Rattle.rp_policy.specs.Offences.{offences_by}
+use Rattle.rp_scope.specs.Numbers.{HasNumbers}
+use Rattle.rp_scope.specs.Scopes.{AreScopesOf, Scope}
 use Rattle.rp_tree.specs.declared.stmt.Tree.{Tree}
 use Rattle.rp_tree.specs.Guarded.{Guarded}
+use Rattle.rp_tree.specs.Maps.{without_blocks}
 use Rattle.rp_tree.specs.Marks.{HasNoGuards, Rewrites}
 use Rattle.rp_tree.specs.StatementViews.{view_tree}
 
--- what is seen of a compiled script: the tree of its source, and the tree that runs
+-- what is seen of a compiled script: the tree of its source, the tree that runs, and the scopes of its code blocks
 pub record Compilation : Type 0 where
   pub source : Tree
   pub rewritten : Tree
+  pub layouts : List Scope
 
--- Some tokens spell the source, whose statements are of height at most 200 then; by some words for its names it has no
--- offence; and it is rewritten into a tree where no form stands outside of its guard.
+-- Some tokens spell the source but for the numbers of its code blocks, and its statements are of height at most 200
+-- then; by some words for its names it has no offence; and it is rewritten into a tree where no form stands outside of
+-- its guard. The code blocks of both have the numbers 1, 2, 3 and so on, and the scopes are those of the source.
 pub record IsCompiled (c : Compilation) : Type 0 where
   pub plain : HasNoGuards (view_tree c.source)
   pub tokens : Tokens
-  pub spells : Spells (view_tree c.source) tokens
+  pub spells : Spells (without_blocks (view_tree c.source)) tokens
   pub words : List (List ℕ)
   pub lawful : offences_by (word_of words) (view_tree c.source) ≡ []
   pub rewrites : Rewrites (view_tree c.source) (view_tree c.rewritten)
   pub guarded : Guarded (view_tree c.rewritten)
+  pub source_numbers : HasNumbers (view_tree c.source)
+  pub numbers : HasNumbers (view_tree c.rewritten)
+  pub scopes : AreScopesOf c.layouts [] (view_tree c.source)

@@ -1,6 +1,8 @@
-//! Scripts as they will run: bytes to a tree that the policy of names lets pass, and the same with its guards.
+//! Programs as they will run: scripts that the policy of names lets pass, with their guards, and trusted modules.
 #![tactic(auto)]
 
 mod script;
+mod trusted;
 
 pub use script::{Compiled, compile_script};
+pub use trusted::{Trusted, compile_trusted};

@@ -50,5 +50,6 @@ module _ (bytes : List ℕ) (names : List (List ℕ)) (tree : Stmts Name) where
 pub refused_by_program : (bytes : List ℕ) (f : ProgramFault) → (f ≢ fault.Memory → IsFault bytes f) → (r : Refusal) → r ≡ from_program f → r ≢ refusal.Memory → IsRefused bytes r
 refused_by_program bytes (fault.NotUtf8 n) wrong r is other = subst (IsRefused bytes) (sym is) (wrong (λ e. cc))
 refused_by_program bytes (fault.Token f) wrong r is other = subst (IsRefused bytes) (sym is) (wrong (λ e. cc))
+refused_by_program bytes (fault.Format line) wrong r is other = subst (IsRefused bytes) (sym is) (wrong (λ e. cc))
 refused_by_program bytes (fault.Syntax line) wrong r is other = subst (IsRefused bytes) (sym is) (wrong (λ e. cc))
 refused_by_program bytes fault.Memory wrong r is other = absurd (other is)

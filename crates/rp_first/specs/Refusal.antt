@@ -15,6 +15,7 @@ use Rattle.rp_first.specs.Source.{Statement}
 abbrev pub IsRefused : List ℕ → Refusal → Type 0
 IsRefused bytes (refusal.NotUtf8 n) = IsFault bytes (fault.NotUtf8 n)
 IsRefused bytes (refusal.Token f) = IsFault bytes (fault.Token f)
+IsRefused bytes (refusal.Format line) = IsFault bytes (fault.Format line)
 IsRefused bytes (refusal.Syntax line) = IsFault bytes (fault.Syntax line)
 IsRefused bytes refusal.NotYet = ((tree : Stmts (List ℕ)) × IsProgram bytes tree) × ((statements : List Statement) → ¬ IsScript bytes statements)
 IsRefused bytes refusal.Memory = ⊥
@@ -23,6 +24,7 @@ IsRefused bytes refusal.Memory = ⊥
 abbrev pub from_program : ProgramFault → Refusal
 from_program (fault.NotUtf8 n) = refusal.NotUtf8 n
 from_program (fault.Token f) = refusal.Token f
+from_program (fault.Format line) = refusal.Format line
 from_program (fault.Syntax line) = refusal.Syntax line
 from_program fault.Memory = refusal.Memory
 
@@ -30,6 +32,7 @@ from_program fault.Memory = refusal.Memory
 abbrev pub reason : Refusal → List ℕ
 reason (refusal.NotUtf8 n) = fault_text (fault.NotUtf8 n)
 reason (refusal.Token f) = fault_text (fault.Token f)
+reason (refusal.Format line) = fault_text (fault.Format line)
 reason (refusal.Syntax line) = fault_text (fault.Syntax line)
 reason refusal.NotYet = codes "not yet"
 reason refusal.Memory = fault_text fault.Memory

@@ -10,5 +10,5 @@ mod tree;
 mod word;
 
 pub use refusal::{Refusal, refusal_text};
-pub use script::{Compiled, compile_script};
+pub use script::{Compiled, compile_script, compile_tree};
 pub use tree::{Expr, Guard, Stmt};

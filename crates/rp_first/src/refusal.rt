@@ -17,8 +17,11 @@ pub enum Refusal {
     NotUtf8(usize),
     /// The text has no tokens, for its first fault. A want of memory is `Memory`.
     Token(TokenFault),
-    /// The tokens of the text spell no tree of height at most 200. The line is that of the last place at which a
-    /// statement could begin: what stands before it can be ended to a whole script, and no longer front can.
+    /// The text of an f-literal is wrong, on this line first.
+    Format(Line),
+    /// The tokens of the text, with f-literals and sets written out, spell no tree of height at most 200. The line is
+    /// that of the last place at which a statement could begin: what stands before it can be ended to a whole script,
+    /// and no longer front can.
     Syntax(Line),
     /// The text has a tree, of a form that is not built yet.
     NotYet,
@@ -58,6 +61,7 @@ impl From<ProgramFault> for Refusal {
         match fault {
             ProgramFault::NotUtf8(length) => Refusal::NotUtf8(length),
             ProgramFault::Token(fault) => Refusal::Token(fault),
+            ProgramFault::Format(line) => Refusal::Format(line),
             ProgramFault::Syntax(line) => Refusal::Syntax(line),
             ProgramFault::Memory => Refusal::Memory,
         }
@@ -84,6 +88,7 @@ fn add_reason(alloc: Global, text: &mut Printed, refusal: Refusal) -> Result<(),
     match refusal {
         Refusal::NotUtf8(length) => add_fault(alloc, text, ProgramFault::NotUtf8(length)),
         Refusal::Token(fault) => add_fault(alloc, text, ProgramFault::Token(fault)),
+        Refusal::Format(line) => add_fault(alloc, text, ProgramFault::Format(line)),
         Refusal::Syntax(line) => add_fault(alloc, text, ProgramFault::Syntax(line)),
         Refusal::NotYet => add_ascii(text, "not yet"),
         Refusal::Memory => add_fault(alloc, text, ProgramFault::Memory),

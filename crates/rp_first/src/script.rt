@@ -3,6 +3,8 @@
 ghost use Rattle.std.specs.Prelude.{◌≡◌, ◌≢◌, IfErr, IfOk, List, map};
 ghost use Rattle.std.specs.List.{All};
 ghost use Rattle.rp_token.specs.Lexer.{IsGrown};
+ghost use Rattle.rp_tree.specs.StatementViews.{view_tree};
+ghost use Rattle.rp_first.specs.Reading.{IsRead, OnNotYet};
 ghost use Rattle.rp_first.specs.Refusal.{IsRefused};
 ghost use Rattle.rp_first.specs.Rewrites.{Rewrites};
 ghost use Rattle.rp_first.specs.Script.{IsScript};
@@ -15,6 +17,7 @@ use crate::source::statements;
 use crate::tree::Stmt;
 use rp_base::Names;
 use rp_program::read_program;
+use rp_tree::Tree;
 use std::alloc::Global;
 use std::marker::Model;
 
@@ -68,6 +71,24 @@ pub fn compile_script(alloc: Global, bytes: &[u8], names: &mut Names) -> Result<
     ensures names { IsGrown names.old names.new }
 {
     let source = read_script(alloc, bytes, names)?;
+    Ok(Compiled {
+        statements: transform(source),
+    })
+}
+
+/// The compiled script of a tree, whatever its marks and the numbers of its code blocks.
+///
+/// # Errors
+/// `NotYet` where a statement is of another form or uses another name, or where there are more than 1000, and `Memory`
+/// where a growth was refused.
+pub fn compile_tree(alloc: Global, tree: &Tree, names: &Names) -> Result<Compiled, Refusal>
+    ensures rewritten { IfOk result (λ c. (source : List Statement)
+        × (IsRead names.now (view_tree tree.now) source × Rewrites names.now source c)) }
+    ensures held { IfOk result (λ c. All (IsStatementHeld names.now) c) }
+    ensures refused { IfErr result (λ refusal. OnNotYet refusal ((source : List Statement)
+        → ¬ IsRead names.now (view_tree tree.now) source)) }
+{
+    let source = statements(alloc, tree, names)?;
     Ok(Compiled {
         statements: transform(source),
     })

@@ -1,4 +1,4 @@
--- A tree whose names are replaced by others has the text of the tree, by the words of these.
+-- A tree whose names are replaced by others has the text of the tree, by the words of these. The numbers of code blocks tell nothing.
 use Rattle.std.proofs.Common.{◌≡◌, ℕ, suc, Bool, true, false, ◌||◌, List, [], ◌∷◌, ◌++◌, map, codes, Option}
 use Rattle.std.proofs.Common.{Some, None, option_map, refl, sym, ap}
 use Rattle.std.specs.Fmt.{decimal}
@@ -9,7 +9,7 @@ use Rattle.rp_tree.specs.ExpressionTrees as t
 use Rattle.rp_tree.specs.ExpressionTrees.{Expr, Form, Exprs, Maybe, Pairs, Tests, Ops, Clause, Clauses, Walk, Target}
 use Rattle.rp_tree.specs.ExpressionTrees.{Targets, Place, Params, Plain, Trailer, Trailers, Arg, Args}
 use Rattle.rp_tree.specs.Maps as m
-use Rattle.rp_tree.specs.Maps.{Change, named, names_by}
+use Rattle.rp_tree.specs.Maps.{Change, named, without_blocks}
 use Rattle.rp_tree.specs.StatementTrees as s
 use Rattle.rp_tree.specs.StatementTrees.{Stmt, StmtForm, Stmts, MaybeStmts, Branches, Except, Excepts}
 use Rattle.rp_print.specs.Texts.{◌⧺◌, bracketed, call_text, joined, line, listed, name_literal}
@@ -22,9 +22,9 @@ use Rattle.rp_print.specs.Expressions.{targets_count}
 use Rattle.rp_print.specs.Statements as lines
 use Rattle.rp_print.specs.Statements.{augmented_text, branch_keyword, printed, printed_by, unpacked}
 
-module _ {A B : Type 0} (f : A → B) where
+module _ {A B : Type 0} (f : A → B) (renumber : ℕ → ℕ) where
   abbrev change : Change A B
-  change = names_by f
+  change = record { name = f; line = λ l. l; block = renumber; mark = λ x g. g }
 
   alone_named : (x : Form A) → stands_alone (m.map_form change x) ≡ stands_alone x
   alone_named (t.primary e xs) = refl
@@ -345,4 +345,8 @@ module _ {A B : Type 0} (f : A → B) where
 
 -- the text of a tree whose names are replaced by their words
 pub printed_named : {A : Type 0} (word : A → List ℕ) (xs : Stmts A) → printed_by word xs ≡ printed (named word xs)
-printed_named word xs = sym (stmts_named word (λ w. w) 0 xs)
+printed_named word xs = sym (stmts_named word (λ k. k) (λ w. w) 0 xs)
+
+-- the text of a tree is that of the tree without the numbers of its code blocks
+pub printed_unnumbered : {A : Type 0} (word : A → List ℕ) (xs : Stmts A) → printed_by word (without_blocks xs) ≡ printed_by word xs
+printed_unnumbered word xs = stmts_named (λ n. n) (λ k. 0) word 0 xs

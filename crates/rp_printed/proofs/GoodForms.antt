@@ -1,9 +1,9 @@
--- The tokens of a text are good: names are identifiers and no keywords, numbers are up to the greatest, and literals
--- are characters.
+-- The tokens of a text are good, and so is what they are expanded to: names are identifiers and no keywords, numbers
+-- are up to the greatest, and literals are characters.
 use Rattle.std.proofs.Common.{◌≡◌, inl, inr, refl, sym, ap, ◌∙◌, subst, cond, ℕ, zero, suc, ◌+◌, ◌-◌, ◌≤◌, ◌==◌, ◌&&◌}
 use Rattle.std.proofs.Common.{◌||◌, not, Bool, true, false, nat_eq, nat_lt, nat_le, le-leb, lt-ltb, if◌then◌else◌, List}
-use Rattle.std.proofs.Common.{[], ◌∷◌, ◌++◌, length, drop, take, take_while, find, map, chars, Option, Some, None}
-use Rattle.std.proofs.Common.{option_map, Result, Ok, Err, pos, negsuc, encode_utf8_all, true≢false, arith}
+use Rattle.std.proofs.Common.{[], ◌∷◌, ◌++◌, length, drop, take, take_while, find, map, chars, codes, Option, Some}
+use Rattle.std.proofs.Common.{None, option_map, Result, Ok, Err, pos, negsuc, encode_utf8_all, true≢false, arith}
 use Rattle.std.specs.Char.{digit_value, is_ascii_digit, is_digit}
 use Rattle.std.specs.Int.Digits.{number_from_digits}
 use Rattle.std.specs.List.{All, list_all, list_any, starts_with}
@@ -17,14 +17,17 @@ use Rattle.ucd_table.specs.Rows.{Range, in_ranges}
 use Rattle.ucd_derived.proofs.BinaryLemmas.{is_xid_continue_stepped}
 use Rattle.unicode_ident.proofs.Computing.{unicode_ident}
 use Rattle.unicode_ident.specs.Ident.{is_xid_continue}
+use Rattle.unicode_normalization.proofs.Computing.{unicode_normalization}
 use Rattle.unicode_normalization.proofs.FormsLemmas.{normalize_idem}
 use Rattle.unicode_normalization.specs.Forms.{Nfkc, nfkc}
-use lib.Utf8.{low_scalar, scalar, scalars}
+use lib.Utf8.{encode, low_scalar, scalar, scalars}
 use Rattle.rp_base.specs.Identifier.{begins_well, is_identifier, is_start, longest_name}
 use Rattle.rp_base.specs.Keyword.{is_keyword}
 use Rattle.rp_base.specs.declared.value.Line.{Line}
 use Rattle.rp_grammar.specs.Kinds.{Tokens}
-use Rattle.rp_program.specs.Program.{HasTokens, is_spelled}
+use Rattle.rp_more.specs.declared.fault.MoreFault.{MoreFault}
+use Rattle.rp_program.specs.Program.{HasItems, HasTokens, is_spelled}
+use Rattle.rp_program.proofs.Expansions.{Each, EachOf, IsKept, expanded-each}
 use Rattle.rp_token.specs.declared.fault.TokenFault.{TokenFault}
 use Rattle.rp_token.specs.declared.fault.TokenFault.TheVariants as fault
 use Rattle.rp_token.specs.declared.token.Token.{Token}
@@ -94,8 +97,7 @@ IsGoodForm (literal t) = scalars t ≡ true
 IsGoodForm _ = Unit {0}
 
 abbrev AllGood : List Item → Type 0
-AllGood [] = Unit {0}
-AllGood (i ∷ is) = IsGoodForm i.form × AllGood is
+AllGood items = Each IsGoodForm items
 
 all_good-append : (is js : List Item) → AllGood is → AllGood js → AllGood (is ++ js)
 all_good-append [] js a b = b
@@ -430,6 +432,49 @@ without_mark_scalars text letters = by (first text == 0xFEFF)
 of_text : (text : List ℕ) → scalars text ≡ true → GoodItems (tokens_of text)
 of_text text letters = from_here 0 (start text) (without_mark text) (without_mark_scalars text letters) tt
 
+-- ---- what a text is expanded to
+
+all_scalars : (t : List ℕ) → scalars t ≡ true → list_all scalar t ≡ true
+all_scalars [] e = refl
+all_scalars (c ∷ cs) e =
+    let parts = and_parts (scalar c) (scalars cs) e in
+    rw (parts.0, all_scalars cs parts.1) refl
+
+scalars_all : (t : List ℕ) → list_all scalar t ≡ true → scalars t ≡ true
+scalars_all [] e = refl
+scalars_all (c ∷ cs) e =
+    let parts = and_parts (scalar c) (list_all scalar cs) e in
+    rw (parts.0, scalars_all cs parts.1) refl
+
+str_good : IsGoodWord (codes "str")
+unfolding encode unicode_ident unicode_normalization
+str_good = record { identifier = refl; plain = refl; letters = refl }
+
+join_good : IsGoodWord (codes "join")
+unfolding encode unicode_ident unicode_normalization
+join_good = record { identifier = refl; plain = refl; letters = refl }
+
+each_of : (r : Result (List Item) TokenFault) → GoodItems r → EachOf IsGoodForm r
+each_of (Ok items) all = all
+each_of (Err f) all = tt
+
+forms_kept : IsKept scalar IsGoodForm
+forms_kept = record {
+  letters = λ t good. all_scalars t good;
+  literals = λ t letters. scalars_all t letters;
+  marks = λ m some. tt;
+  none = tt;
+  str = str_good;
+  join = join_good;
+  texts = λ text letters. each_of (tokens_of text) (of_text text (scalars_all text letters));
+}
+
+items_good : (bytes : List ℕ) (items : List Item) → HasItems bytes items → AllGood items
+items_good bytes items has =
+    let EachWritten : Result (List Item) MoreFault → Type 0 = λ r. EachOf IsGoodForm r in
+    let given : AllGood has.given = subst GoodItems has.read (of_text (chars bytes) (scalars-chars bytes has.text)) in
+    subst EachWritten has.expansion (expanded-each scalar IsGoodForm forms_kept has.given given)
+
 -- ---- as tokens
 
 good_kind : (words : List (List ℕ)) (k : TokenKind) → IsGoodForm (form_view words k) → IsHeldKind words k → is_spelled k
@@ -450,8 +495,8 @@ all_good words (t ∷ ts) good held spelled =
           (λ k d within. held (suc k) d (omega arith)) parts.1,
     )
 
--- the tokens of a text
-pub good_tokens : (bytes : List ℕ) (words : List (List ℕ)) (ts : Tokens) → HasTokens bytes words ts → AreGood words ts
-good_tokens bytes words ts has =
-    all_good words ts (subst GoodItems has.read (of_text (chars bytes) (scalars-chars bytes has.text))) has.held
-    has.spelled
+-- the tokens that a text is expanded to
+pub good_tokens : (bytes : List ℕ) (items : List Item) (words : List (List ℕ)) (ts : Tokens) → HasItems bytes items
+    → HasTokens items words ts → AreGood words ts
+good_tokens bytes items words ts has are =
+    all_good words ts (subst AllGood are.are (items_good bytes items has)) are.held are.spelled

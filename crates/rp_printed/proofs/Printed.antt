@@ -1,10 +1,9 @@
--- The printed text of a tree that good tokens spell is a program with the same tree, but for lines.
+-- The tokens of the printed text of a tree that good tokens spell spell the same tree, but for lines.
 use Rattle.std.proofs.Common.{◌≡◌, inl, inr, refl, sym, ap, ◌∙◌, subst, ℕ, zero, suc, ◌<◌, ◌≤◌, ◌==◌, true, false, not}
 use Rattle.std.proofs.Common.{List, [], ◌∷◌, ◌++◌, length, drop, map, encode_utf8_all, pos, negsuc, get_or, Ok}
 use Rattle.std.proofs.Common.{append-nil, if◌then◌else◌, arith}
 use Rattle.std.specs.List.{All, list_all}
 use Rattle.std.proofs.lemmas.Bool.{and_parts}
-use Rattle.std.proofs.lemmas.Str.{chars-encodes}
 use lib.Utf8.{scalars}
 use Rattle.rp_base.specs.Names.{HoldsEachOnce, word_of}
 use Rattle.rp_grammar.specs.Kinds.{Tokens}
@@ -14,12 +13,13 @@ use Rattle.rp_grammar.proofs.MapHeights.{stmts_height_mapped}
 use Rattle.rp_print.specs.Statements.{printed, printed_by}
 use Rattle.rp_print.specs.Texts.{indentation}
 use Rattle.rp_print.proofs.Renamed.{printed_named}
-use Rattle.rp_program.proofs.Programs.{one_program}
-use Rattle.rp_program.specs.Program.{IsProgram, is_spelled}
+use Rattle.rp_program.proofs.Programs.{one_read, one_spelled}
+use Rattle.rp_program.specs.Program.{SpellTree, is_spelled}
 use Rattle.rp_token.specs.declared.token.Token.{Token}
 use Rattle.rp_token.specs.declared.token.TokenKind.{TokenKind}
 use Rattle.rp_token.specs.declared.token.TokenKind.TheVariants as kind
 use Rattle.rp_token.specs.Characters.{first as first_of}
+use Rattle.rp_token.specs.Form.{Item}
 use Rattle.rp_token.specs.Tokens.{place, start, tokens_from, tokens_of, without_mark}
 use Rattle.rp_token.specs.View.{IsHeld, IsHeldKind, item_view}
 use Rattle.rp_tree.specs.Heights.{stmts_height}
@@ -27,7 +27,7 @@ use Rattle.rp_tree.specs.Maps.{map_stmts, named, names_by, shape, shape_of}
 use Rattle.rp_tree.specs.Statements.{Stmts}
 use Rattle.rp_tree.specs.StatementTrees as trees
 use Rattle.rp_tree.proofs.MapLaws.{stmts_after}
-use Rattle.rp_printed.specs.Printed.{EachProgramReadsBack, EachSpelledTreeReadsBack, MayStand, ReadsBack}
+use Rattle.rp_printed.specs.Printed.{EachProgramReadsBack, EachSpelledTreeReadsBack, MayStand, ReadsBack, TokensSpell}
 use Rattle.rp_printed.proofs.Reading.{AreGood, IsGoodKind, Same, fresh, good-append, map-append, read_from, same}
 use Rattle.rp_printed.proofs.Lexemes.{Opens, not-true}
 use Rattle.rp_printed.proofs.Lines.{Lines, text_ended}
@@ -152,20 +152,23 @@ spelled_reads_back words x ts once good spells =
     let same_text : printed (named (word_of words) x) ≡ text = sym (printed_named (word_of words) x) in
     record {
       again = named (word_of words) a.tree;
-      is_program = record {
-        words = words;
-        tokens = a.tokens;
-        has = record {
-          text = (printed (named (word_of words) x), (ap scalars same_text ∙ a.letters, refl));
-          distinct = once;
-          held = held_at words a.tokens a.good;
-          spelled = all_spelled words a.tokens a.good;
-          read = ap tokens_of (chars-encodes (printed (named (word_of words) x)) (ap scalars same_text ∙ a.letters)
-              ∙ same_text) ∙ a.read;
+      characters = ap scalars same_text ∙ a.letters;
+      spell = record {
+        items = map (item_view words) a.tokens;
+        read = ap tokens_of same_text ∙ a.read;
+        spell = record {
+          words = words;
+          tokens = a.tokens;
+          has = record {
+            distinct = once;
+            held = held_at words a.tokens a.good;
+            spelled = all_spelled words a.tokens a.good;
+            are = refl;
+          };
+          numbered = a.tree;
+          spells = a.spells;
+          is = refl;
         };
-        numbered = a.tree;
-        spells = a.spells;
-        is = refl;
       };
       alike = shapes words a.tree ∙ ap (named (word_of words)) a.alike ∙ sym (shapes words x);
     }
@@ -198,12 +201,15 @@ each_spelled_tree_reads_back words tokens tree once all spells =
 
 pub each_program_reads_back : EachProgramReadsBack
 each_program_reads_back bytes tree program =
-    subst (λ (x : trees.Stmts (List ℕ)). ReadsBack x) (sym program.is)
-    (spelled_reads_back program.words program.numbered program.tokens program.has.distinct
-    (good_tokens bytes program.words program.tokens program.has) program.spells)
+    let spell = program.spell in
+    subst (λ (x : trees.Stmts (List ℕ)). ReadsBack x) (sym spell.is)
+    (spelled_reads_back spell.words spell.numbered spell.tokens spell.has.distinct
+    (good_tokens bytes program.items spell.words spell.tokens program.has spell.has) spell.spells)
 
--- and no other tree is read from the text
-pub only_again : (tree other : trees.Stmts (List ℕ)) → ReadsBack tree → IsProgram (encode_utf8_all (printed tree)) other
+-- and the tokens of the text spell no other tree
+pub only_again : (tree other : trees.Stmts (List ℕ)) → ReadsBack tree → TokensSpell (printed tree) other
     → shape_of other ≡ shape_of tree
-only_again tree other back program =
-    ap shape_of (one_program (encode_utf8_all (printed tree)) other back.again program back.is_program) ∙ back.alike
+only_again tree other back spell =
+    let items = one_read (printed tree) spell.items back.spell.items spell.read back.spell.read in
+    let there = subst (λ (xs : List Item). SpellTree xs other) items spell.spell in
+    ap shape_of (one_spelled back.spell.items other back.again there back.spell.spell) ∙ back.alike

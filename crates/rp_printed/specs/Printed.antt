@@ -1,6 +1,6 @@
--- That printed text is read back: it is a program, and its tree is the same but for lines and the numbers of code
--- blocks (Python Language Reference, Full Grammar specification).
-use Rattle.std.specs.Prelude.{◌≡◌, ℕ, ◌<◌, ◌≤◌, ⊤, pos, negsuc, false, true, List, length, encode_utf8_all}
+-- That printed text is read back: its tokens spell the same tree, but for lines and the numbers of code blocks (Python
+-- Language Reference, Full Grammar specification).
+use Rattle.std.specs.Prelude.{◌≡◌, ℕ, ◌<◌, ◌≤◌, ⊤, pos, negsuc, false, true, List, length, Ok}
 use Rattle.std.specs.List.{All}
 use lib.Utf8.{scalars}
 use Rattle.rp_base.specs.Identifier.{IsIdentifier}
@@ -10,18 +10,27 @@ use Rattle.rp_base.specs.declared.value.Name.{Name}
 use Rattle.rp_grammar.specs.Kinds.{Tokens}
 use Rattle.rp_grammar.specs.Program.{Spells}
 use Rattle.rp_print.specs.Statements.{printed}
-use Rattle.rp_program.specs.Program.{IsProgram}
+use Rattle.rp_program.specs.Program.{IsProgram, SpellTree}
 use Rattle.rp_token.specs.declared.token.Token.{Token}
 use Rattle.rp_token.specs.declared.token.TokenKind.{TokenKind}
 use Rattle.rp_token.specs.declared.token.TokenKind.TheVariants as kind
+use Rattle.rp_token.specs.Form.{Item}
 use Rattle.rp_token.specs.Number.{greatest_number}
+use Rattle.rp_token.specs.Tokens.{tokens_of}
 use Rattle.rp_tree.specs.Maps.{named, shape_of}
 use Rattle.rp_tree.specs.StatementTrees.{Stmts}
 
--- the text of the tree is a program with the same tree, but for lines
+-- The tokens of the text, as they stand, spell the tree.
+pub record TokensSpell (text : List ℕ) (tree : Stmts (List ℕ)) : Type 0 where
+  pub items : List Item
+  pub read : tokens_of text ≡ Ok items
+  pub spell : SpellTree items tree
+
+-- The text of the tree is of characters, and its tokens spell the same tree, but for lines.
 pub record ReadsBack (tree : Stmts (List ℕ)) : Type 0 where
   pub again : Stmts (List ℕ)
-  pub is_program : IsProgram (encode_utf8_all (printed tree)) again
+  pub characters : scalars (printed tree) ≡ true
+  pub spell : TokensSpell (printed tree) again
   pub alike : shape_of again ≡ shape_of tree
 
 -- each program is read back from the text of its tree

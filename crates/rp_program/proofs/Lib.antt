@@ -1,3 +1,4 @@
+pub mod Expansions
 pub mod Leaves
 pub mod Numbered
 pub mod Programs

@@ -1,5 +1,6 @@
--- No token of a text is a mark without characters, so none is a number below 0.
-use Rattle.std.proofs.Common.{◌≡◌, refl, ◌∙◌, ℕ, zero, suc, ◌+◌, ◌-◌, ◌==◌, ◌||◌, Bool, true, false, nat_eq, nat_lt, nat_le, if◌then◌else◌, List, [], ◌∷◌, length, drop, take_while, find, map, Option, Some, None, option_map, Result, Ok, Err}
+-- No token of a text is a mark without characters, nor is one of what the text is expanded to; so none is a number
+-- below 0.
+use Rattle.std.proofs.Common.{◌≡◌, refl, ◌∙◌, subst, ℕ, zero, suc, ◌+◌, ◌-◌, ◌==◌, ◌||◌, Bool, true, false, nat_eq, nat_lt, nat_le, if◌then◌else◌, List, [], ◌∷◌, length, drop, take_while, find, map, Option, Some, None, option_map, Result, Ok, Err}
 use Rattle.std.specs.Prelude.{pos, negsuc}
 use Rattle.std.specs.Char.{is_ascii_digit}
 use Rattle.std.specs.List.{list_all, list_any, starts_with}
@@ -23,7 +24,10 @@ use Rattle.rp_token.specs.Tokens.{State, and_then, at_line, begun, behind_found,
 use Rattle.rp_token.specs.View.{form_view, item_view}
 use Rattle.rp_token.proofs.Places.{is_some_mark}
 use Rattle.rp_token.proofs.Steps.{find-passes}
+use Rattle.rp_more.specs.declared.fault.MoreFault.{MoreFault}
+use Rattle.rp_more.specs.Expanded.{expanded}
 use Rattle.rp_program.specs.Program.{is_spelled}
+use Rattle.rp_program.proofs.Expansions.{Each, EachOf, IsKept, expanded-each}
 
 abbrev pub is_form : Form → Bool
 is_form (mark m) = nat_lt 0 (length m)
@@ -197,3 +201,45 @@ spelled_tokens names [] h = refl
 spelled_tokens names (t ∷ ts) h =
     let parts = and_parts (is_form (form_view names t.kind)) (are_forms (map (item_view names) ts)) h in
     rw (spelled_kind names t.kind parts.0, spelled_tokens names ts parts.1) refl
+
+-- ---- what a text is expanded to
+
+abbrev HasMark : Form → Type 0
+HasMark form = is_form form ≡ true
+
+each_form : (items : List Item) → are_forms items ≡ true → Each HasMark items
+each_form [] all = tt
+each_form (i ∷ is) all = let parts = and_parts (is_form i.form) (are_forms is) all in (parts.0, each_form is parts.1)
+
+all_forms : (items : List Item) → Each HasMark items → are_forms items ≡ true
+all_forms [] each = refl
+all_forms (i ∷ is) each = rw (each.0, all_forms is each.1) refl
+
+each_of : (r : Result (List Item) TokenFault) → AreForms r → EachOf HasMark r
+each_of (Ok items) all = each_form items all
+each_of (Err f) all = tt
+
+any_letters : (t : List ℕ) → list_all (λ (c : ℕ). true) t ≡ true
+any_letters [] = refl
+any_letters (c ∷ cs) = any_letters cs
+
+forms_kept : IsKept (λ (c : ℕ). true) HasMark
+forms_kept = record {
+  letters = λ t holds. any_letters t;
+  literals = λ t passes. refl;
+  marks = λ m some. some;
+  none = refl;
+  str = refl;
+  join = refl;
+  texts = λ text passes. each_of (tokens_of text) (of_text text);
+}
+
+-- no token of what a text is expanded to is a number below 0
+pub spelled_expanded : (text : List ℕ) (given : List Item) (names : List (List ℕ)) (ts : Tokens) → tokens_of text ≡ Ok given
+    → expanded given ≡ Ok (map (item_view names) ts) → list_all (λ (t : Token). is_spelled t.kind) ts ≡ true
+spelled_expanded text given names ts read expansion =
+    let EachRead : Result (List Item) TokenFault → Type 0 = λ r. EachOf HasMark r in
+    let EachWritten : Result (List Item) MoreFault → Type 0 = λ r. EachOf HasMark r in
+    let before : Each HasMark given = subst EachRead read (each_of (tokens_of text) (of_text text)) in
+    let each : Each HasMark (map (item_view names) ts) = subst EachWritten expansion (expanded-each (λ (c : ℕ). true) HasMark forms_kept given before) in
+    spelled_tokens names ts (all_forms (map (item_view names) ts) each)

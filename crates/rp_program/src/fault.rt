@@ -6,6 +6,7 @@ ghost use Rattle.std.specs.List.{list_all};
 ghost use Rattle.rp_program.specs.Fault.{at_place, fault_text, token_fault_text};
 
 use rp_base::{Line, Memory, Printed};
+use rp_more::MoreFault;
 use rp_parse::ParseFault;
 use rp_token::TokenFault;
 use std::alloc::Global;
@@ -17,8 +18,12 @@ pub enum ProgramFault {
     NotUtf8(usize),
     /// The text has no tokens, for its first fault. A want of memory is `Memory`.
     Token(TokenFault),
-    /// The tokens of the text spell no tree of height at most 200. The line is that of the last place at which a
-    /// statement could begin: what stands before it can be ended to a whole program, and no longer front can.
+    /// The text of an f-literal is wrong, on this line first (PEP 498): a single `}`, or a `{` behind which no
+    /// expression and `}` come.
+    Format(Line),
+    /// The tokens of the text, with f-literals and sets written out, spell no tree of height at most 200. The line is
+    /// that of the last place at which a statement could begin: what stands before it can be ended to a whole program,
+    /// and no longer front can.
     Syntax(Line),
     /// A growth was refused.
     Memory,
@@ -34,6 +39,20 @@ impl From<TokenFault> for ProgramFault {
         match fault {
             TokenFault::Memory => ProgramFault::Memory,
             _ => ProgramFault::Token(fault),
+        }
+    }
+}
+
+impl From<MoreFault> for ProgramFault {
+    ghost use Rattle.std.specs.Prelude.{◌≡◌};
+    ghost use Rattle.rp_program.specs.Fault.{from_more};
+
+    ghost from_gives = { λ fault given. given ≡ from_more fault };
+
+    fn from(fault: MoreFault) -> Self {
+        match fault {
+            MoreFault::Format(line) => ProgramFault::Format(line),
+            MoreFault::Memory => ProgramFault::Memory,
         }
     }
 }
@@ -62,6 +81,7 @@ pub fn add_fault(alloc: Global, text: &mut Printed, fault: ProgramFault) -> Resu
     match fault {
         ProgramFault::NotUtf8(length) => add_place(alloc, text, "byte", length, "not UTF-8"),
         ProgramFault::Token(fault) => add_token_fault(alloc, text, fault),
+        ProgramFault::Format(line) => add_place(alloc, text, "line", line.0, "format"),
         ProgramFault::Syntax(line) => add_place(alloc, text, "line", line.0, "syntax"),
         ProgramFault::Memory => add_ascii(text, "out of memory"),
     }

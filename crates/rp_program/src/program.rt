@@ -15,13 +15,14 @@ ghost use Rattle.rp_program.specs.Program.{IsProgram};
 
 use crate::fault::ProgramFault;
 use rp_base::{Name, Names};
+use rp_more::expand;
 use rp_parse::parse;
 use rp_token::tokens;
 use rp_tree::Tree;
 use std::alloc::Global;
 
-/// The tree of the program that the bytes are (Python Language Reference, Top-level components). Its words are interned
-/// among the names, which stay where they are and grow, whatever is answered.
+/// The tree of the program that the bytes are (Python Language Reference, Top-level components), with f-literals and
+/// sets written out. Its words are interned among the names, which stay where they are and grow, whatever is answered.
 ///
 /// # Errors
 /// The first check that the bytes do not pass, in the order of `ProgramFault`, or `Memory` where a growth was refused.
@@ -44,8 +45,8 @@ pub fn read_program(alloc: Global, bytes: &[u8], names: &mut Names) -> Result<Tr
     }
 }
 
-/// The tree of the program that a text is. Its words are interned among the names, which stay where they are and grow,
-/// whatever is answered.
+/// The tree of the program that a text is, with f-literals and sets written out. Its words are interned among the
+/// names, which stay where they are and grow, whatever is answered.
 ///
 /// # Errors
 /// The first check that the text does not pass, in the order of `ProgramFault` and never `NotUtf8`, or `Memory` where a
@@ -62,9 +63,11 @@ pub fn read_text(alloc: Global, text: &str, names: &mut Names) -> Result<Tree, P
     ensures refused { IfErr result (λ f. f ≢ ProgramFault.Memory → IsFault text.now f) }
     ensures names { IsGrown names.old names.new }
 {
-    let tokens = tokens(alloc, text, names)?;
+    let given = tokens(alloc, text, names)?;
+    let expanded = expand(alloc, given.as_slice(), names)?;
+    drop(given);
     hold_each_once(names);
-    Ok(parse(alloc, tokens.as_slice())?)
+    Ok(parse(alloc, expanded.as_slice())?)
 }
 
 /// Tells the caller that no word is held twice, and does nothing else.

@@ -1,5 +1,5 @@
 -- What is told to words and contents is one text, with one status.
-use Rattle.std.proofs.Common.{◌≡◌, ◌≢◌, refl, sym, ap, ◌∙◌, ℕ, true, false, List, ◌++◌, ◌∷◌, codes, Option, Some, None, Result, Ok, Err, arith}
+use Rattle.std.proofs.Common.{◌≡◌, ◌≢◌, refl, sym, ap, subst, ◌∙◌, ℕ, true, false, List, [], ◌++◌, ◌∷◌, codes, Option, Some, None, Result, Ok, Err, arith}
 use Rattle.std.specs.Prelude.{MatchOption}
 use Rattle.std.specs.List.{flat_map}
 use Rattle.toml.specs.Data.{Members}
@@ -7,18 +7,21 @@ use Rattle.toml.specs.Parse.{parse_document}
 use Rattle.rp_decl.specs.Declares.{Declares, IsDocument, IsNoDocument, IsRefused, Refusal, declares, newest}
 use Rattle.rp_decl.specs.Records.{Declarations}
 use Rattle.rp_decl.specs.Word.{is_among}
-use Rattle.rp_first.specs.Refusal.{refusal_line as script_refusal_line}
+use Rattle.rp_first.specs.Script.{IsSource, source_of}
+use Rattle.rp_first.specs.Source.{Statement}
 use Rattle.rp_interact.specs.Why.{first_unknown}
 use Rattle.rp_load.specs.Load.{Fault, fault_line, fault_of}
 use Rattle.rp_policy.specs.Offences.{offences, offence_text}
 use Rattle.rp_program.specs.Fault.{fault_text}
+use Rattle.rp_program.specs.Program.{IsProgram}
 use Rattle.rp_program.proofs.Programs.{one_program}
+use Rattle.rp_script.specs.Refusal.{line}
 use Rattle.rp_run.specs.Command.{Command, run, script, may, Run, May, command_of, usage}
 use Rattle.rp_run.specs.Output.{end_status, may_status, may_text, refusal_line, session_block}
 use Rattle.rp_run.specs.Told as w
-use Rattle.rp_run.specs.Told.{IsAdmitted, IsRead, IsShort, IsTooLong, Told, ToldCommand, ToldMay, ToldRun, ToldScript, ToldUnread, played, said_to, too_long_line, undeclared_line, unknown_line}
+use Rattle.rp_run.specs.Told.{IsAdmitted, IsRead, IsShort, IsTooLong, Told, ToldCommand, ToldMay, ToldRefused, ToldRun, ToldScript, ToldUnread, played, said_to, script_prefix, too_long_line, undeclared_line, unknown_line}
 use Rattle.rp_tree.specs.StatementTrees.{Stmts}
-use Rattle.rp_run.proofs.OneScript.{no_refused_script, no_faulty_program, one_fault, one_script, one_script_refusal}
+use Rattle.rp_run.proofs.OneFault.{no_faulty_program, one_fault}
 
 some_one : {A : Type 0} (o : Option A) (a b : A) → o ≡ Some a → o ≡ Some b → a ≡ b
 some_one {A = A} o a b e f = let same : ◌≡◌ {A = Option A} (Some a) (Some b) = sym e ∙ f in cc
@@ -115,23 +118,26 @@ may-once m of a s b t (w.ToldMay.told d r f h x y) (w.ToldMay.told e q g k z w) 
 
 -- ---- a script that is checked or shown
 
+refused-once : (prefix bytes a b : List ℕ) → ToldRefused prefix bytes a → ToldRefused prefix bytes b → a ≡ b
+refused-once prefix bytes a b (w.ToldRefused.no_program f i x) (w.ToldRefused.no_program g j z) = x ∙ ap (λ f. line prefix (fault_text f)) (one_fault bytes f g i j) ∙ sym z
+refused-once prefix bytes a b (w.ToldRefused.no_program f i x) (w.ToldRefused.offends u p o z) = absurd (no_faulty_program bytes u f p i)
+refused-once prefix bytes a b (w.ToldRefused.offends v q n x) (w.ToldRefused.no_program g j z) = absurd (no_faulty_program bytes v g q j)
+refused-once prefix bytes a b (w.ToldRefused.offends v q n x) (w.ToldRefused.offends u p o z) =
+    x ∙ ap (λ tree. flat_map (λ o. line prefix (offence_text o)) (offences tree)) (one_program bytes v u q p) ∙ sym z
+
+refused-or-lawful : (prefix bytes a : List ℕ) (tree : Stmts (List ℕ)) → ToldRefused prefix bytes a → IsProgram bytes tree → offences tree ≡ [] → ⊥
+refused-or-lawful prefix bytes a tree (w.ToldRefused.no_program f i x) p o = no_faulty_program bytes tree f p i
+refused-or-lawful prefix bytes a tree (w.ToldRefused.offends v q n x) p o = n (ap offences (one_program bytes v tree q p) ∙ o)
+
 script-once : (says : Stmts (List ℕ) → List ℕ) (path bytes : List ℕ) (a : List ℕ) (s : ℕ) (b : List ℕ) (t : ℕ) → ToldScript says path bytes a s → ToldScript says path bytes b t → Same a s b t
 script-once says path bytes a s b t (w.ToldScript.long l x y) (w.ToldScript.long m z w) = (x ∙ sym z, y ∙ sym w)
-script-once says path bytes a s b t (w.ToldScript.long l x y) (w.ToldScript.no_program h g j z w) = absurd (short_or_long bytes l h)
-script-once says path bytes a s b t (w.ToldScript.long l x y) (w.ToldScript.offends h u p o z w) = absurd (short_or_long bytes l h)
+script-once says path bytes a s b t (w.ToldScript.long l x y) (w.ToldScript.unaccepted h f w) = absurd (short_or_long bytes l h)
 script-once says path bytes a s b t (w.ToldScript.long l x y) (w.ToldScript.accepted h u p o z w) = absurd (short_or_long bytes l h)
-script-once says path bytes a s b t (w.ToldScript.no_program h f i x y) (w.ToldScript.long l z w) = absurd (short_or_long bytes l h)
-script-once says path bytes a s b t (w.ToldScript.no_program h f i x y) (w.ToldScript.no_program k g j z w) = (x ∙ ap (λ f. fault_text f ++ codes "\n") (one_fault bytes f g i j) ∙ sym z, y ∙ sym w)
-script-once says path bytes a s b t (w.ToldScript.no_program h f i x y) (w.ToldScript.offends k u p o z w) = absurd (no_faulty_program bytes u f p i)
-script-once says path bytes a s b t (w.ToldScript.no_program h f i x y) (w.ToldScript.accepted k u p o z w) = absurd (no_faulty_program bytes u f p i)
-script-once says path bytes a s b t (w.ToldScript.offends h v q n x y) (w.ToldScript.long l z w) = absurd (short_or_long bytes l h)
-script-once says path bytes a s b t (w.ToldScript.offends h v q n x y) (w.ToldScript.no_program k g j z w) = absurd (no_faulty_program bytes v g q j)
-script-once says path bytes a s b t (w.ToldScript.offends h v q n x y) (w.ToldScript.offends k u p o z w) =
-    (x ∙ ap (λ tree. flat_map (λ o. offence_text o ++ codes "\n") (offences tree)) (one_program bytes v u q p) ∙ sym z, y ∙ sym w)
-script-once says path bytes a s b t (w.ToldScript.offends h v q n x y) (w.ToldScript.accepted k u p o z w) = absurd (n (ap offences (one_program bytes v u q p) ∙ o))
+script-once says path bytes a s b t (w.ToldScript.unaccepted h f y) (w.ToldScript.long l z w) = absurd (short_or_long bytes l h)
+script-once says path bytes a s b t (w.ToldScript.unaccepted h f y) (w.ToldScript.unaccepted k g w) = (refused-once [] bytes a b f g, y ∙ sym w)
+script-once says path bytes a s b t (w.ToldScript.unaccepted h f y) (w.ToldScript.accepted k u p o z w) = absurd (refused-or-lawful [] bytes a u f p o)
 script-once says path bytes a s b t (w.ToldScript.accepted h v q n x y) (w.ToldScript.long l z w) = absurd (short_or_long bytes l h)
-script-once says path bytes a s b t (w.ToldScript.accepted h v q n x y) (w.ToldScript.no_program k g j z w) = absurd (no_faulty_program bytes v g q j)
-script-once says path bytes a s b t (w.ToldScript.accepted h v q n x y) (w.ToldScript.offends k u p o z w) = absurd (o (ap offences (one_program bytes u v p q) ∙ n))
+script-once says path bytes a s b t (w.ToldScript.accepted h v q n x y) (w.ToldScript.unaccepted k g w) = absurd (refused-or-lawful [] bytes b v g q n)
 script-once says path bytes a s b t (w.ToldScript.accepted h v q n x y) (w.ToldScript.accepted k u p o z w) = (x ∙ ap says (one_program bytes v u q p) ∙ sym z, y ∙ sym w)
 
 -- ---- a run
@@ -150,48 +156,70 @@ module _ (r : Run) (of : List ℕ → List ℕ) where
   unread_or : (a : List ℕ) (s : ℕ) (d : Declarations) → ToldUnread r.declarations (of r.declarations) a s → IsRead (of r.declarations) d → ⊥
   unread_or a s d u read = unread-or-read r.declarations (of r.declarations) a s d u read
 
+  refused_or : (a : List ℕ) (tree : Stmts (List ℕ)) → ToldRefused script_prefix (of r.script) a → IsProgram (of r.script) tree → offences tree ≡ [] → ⊥
+  refused_or a tree f p o = refused-or-lawful script_prefix (of r.script) a tree f p o
+
+  -- the statements of the first form that a program is
+  forms_there : (one two : Stmts (List ℕ)) (source : List Statement) → IsProgram (of r.script) one → IsProgram (of r.script) two → IsSource one source → IsSource two source
+  forms_there one two source p q is = subst (λ (tree : Stmts (List ℕ)). IsSource tree source) (one_program (of r.script) one two p q) is
+
+  one_source : (one two : Stmts (List ℕ)) (f g : List Statement) → IsProgram (of r.script) one → IsProgram (of r.script) two → IsSource one f → IsSource two g → f ≡ g
+  one_source one two f g p q x y = some_one (source_of two) f g (forms_there one two f p q x).source y.source
+
   module _ (a : List ℕ) (s : ℕ) (b : List ℕ) (t : ℕ) where
     run-once : ToldRun r of a s → ToldRun r of b t → Same a s b t
     run-once (w.ToldRun.unread u) (w.ToldRun.unread v) = unread-once r.declarations (of r.declarations) a s b t u v
     run-once (w.ToldRun.unread u) (w.ToldRun.not_run e q g k z w) = absurd (unread_or a s e u q)
     run-once (w.ToldRun.unread u) (w.ToldRun.unknown_principal e q k j g z w) = absurd (unread_or a s e u q)
-    run-once (w.ToldRun.unread u) (w.ToldRun.long_script e q l z w) = absurd (unread_or a s e u q.read)
-    run-once (w.ToldRun.unread u) (w.ToldRun.script_refused e q h g i z w) = absurd (unread_or a s e u q.read)
-    run-once (w.ToldRun.unread u) (w.ToldRun.ran e q h g i z w) = absurd (unread_or a s e u q.read)
+    run-once (w.ToldRun.unread u) (w.ToldRun.long_script e q m z w) = absurd (unread_or a s e u q.read)
+    run-once (w.ToldRun.unread u) (w.ToldRun.script_refused e q k g w) = absurd (unread_or a s e u q.read)
+    run-once (w.ToldRun.unread u) (w.ToldRun.not_yet e q k other j m v z w) = absurd (unread_or a s e u q.read)
+    run-once (w.ToldRun.unread u) (w.ToldRun.ran e q k other j m g v z w) = absurd (unread_or a s e u q.read)
     run-once (w.ToldRun.not_run d p f h x y) (w.ToldRun.unread v) = absurd (unread_or b t d v p)
     run-once (w.ToldRun.not_run d p f h x y) (w.ToldRun.not_run e q g k z w) = (x ∙ ap fault_line (some_one (fault_of e) f g (ap fault_of (sym (one d e p q)) ∙ h) k) ∙ sym z, y ∙ sym w)
     run-once (w.ToldRun.not_run d p f h x y) (w.ToldRun.unknown_principal e q k j g z w) = absurd (runs_or_not d e p q f h k)
-    run-once (w.ToldRun.not_run d p f h x y) (w.ToldRun.long_script e q l z w) = absurd (runs_or_not d e p q.read f h q.runs)
-    run-once (w.ToldRun.not_run d p f h x y) (w.ToldRun.script_refused e q k g i z w) = absurd (runs_or_not d e p q.read f h q.runs)
-    run-once (w.ToldRun.not_run d p f h x y) (w.ToldRun.ran e q k g i z w) = absurd (runs_or_not d e p q.read f h q.runs)
+    run-once (w.ToldRun.not_run d p f h x y) (w.ToldRun.long_script e q m z w) = absurd (runs_or_not d e p q.read f h q.runs)
+    run-once (w.ToldRun.not_run d p f h x y) (w.ToldRun.script_refused e q k g w) = absurd (runs_or_not d e p q.read f h q.runs)
+    run-once (w.ToldRun.not_run d p f h x y) (w.ToldRun.not_yet e q k other j m v z w) = absurd (runs_or_not d e p q.read f h q.runs)
+    run-once (w.ToldRun.not_run d p f h x y) (w.ToldRun.ran e q k other j m g v z w) = absurd (runs_or_not d e p q.read f h q.runs)
     run-once (w.ToldRun.unknown_principal d p h i f x y) (w.ToldRun.unread v) = absurd (unread_or b t d v p)
     run-once (w.ToldRun.unknown_principal d p h i f x y) (w.ToldRun.not_run e q g k z w) = absurd (runs_or_not e d q p g k h)
     run-once (w.ToldRun.unknown_principal d p h i f x y) (w.ToldRun.unknown_principal e q k j g z w) =
         (x ∙ ap unknown_line (some_one (first_unknown e r.ids) i j (ap (λ d. first_unknown d r.ids) (sym (one d e p q)) ∙ f) g) ∙ sym z, y ∙ sym w)
-    run-once (w.ToldRun.unknown_principal d p h i f x y) (w.ToldRun.long_script e q l z w) = absurd (known_or_not d e p q.read i f q.known)
-    run-once (w.ToldRun.unknown_principal d p h i f x y) (w.ToldRun.script_refused e q k g j z w) = absurd (known_or_not d e p q.read i f q.known)
-    run-once (w.ToldRun.unknown_principal d p h i f x y) (w.ToldRun.ran e q k g j z w) = absurd (known_or_not d e p q.read i f q.known)
+    run-once (w.ToldRun.unknown_principal d p h i f x y) (w.ToldRun.long_script e q m z w) = absurd (known_or_not d e p q.read i f q.known)
+    run-once (w.ToldRun.unknown_principal d p h i f x y) (w.ToldRun.script_refused e q k g w) = absurd (known_or_not d e p q.read i f q.known)
+    run-once (w.ToldRun.unknown_principal d p h i f x y) (w.ToldRun.not_yet e q k other j m v z w) = absurd (known_or_not d e p q.read i f q.known)
+    run-once (w.ToldRun.unknown_principal d p h i f x y) (w.ToldRun.ran e q k other j m g v z w) = absurd (known_or_not d e p q.read i f q.known)
     run-once (w.ToldRun.long_script d p l x y) (w.ToldRun.unread v) = absurd (unread_or b t d v p.read)
     run-once (w.ToldRun.long_script d p l x y) (w.ToldRun.not_run e q g k z w) = absurd (runs_or_not e d q p.read g k p.runs)
     run-once (w.ToldRun.long_script d p l x y) (w.ToldRun.unknown_principal e q k j g z w) = absurd (known_or_not e d q p.read j g p.known)
     run-once (w.ToldRun.long_script d p l x y) (w.ToldRun.long_script e q m z w) = (x ∙ sym z, y ∙ sym w)
-    run-once (w.ToldRun.long_script d p l x y) (w.ToldRun.script_refused e q k g i z w) = absurd (short_or_long (of r.script) l k)
-    run-once (w.ToldRun.long_script d p l x y) (w.ToldRun.ran e q k g i z w) = absurd (short_or_long (of r.script) l k)
-    run-once (w.ToldRun.script_refused d p h f i x y) (w.ToldRun.unread v) = absurd (unread_or b t d v p.read)
-    run-once (w.ToldRun.script_refused d p h f i x y) (w.ToldRun.not_run e q g k z w) = absurd (runs_or_not e d q p.read g k p.runs)
-    run-once (w.ToldRun.script_refused d p h f i x y) (w.ToldRun.unknown_principal e q k j g z w) = absurd (known_or_not e d q p.read j g p.known)
-    run-once (w.ToldRun.script_refused d p h f i x y) (w.ToldRun.long_script e q l z w) = absurd (short_or_long (of r.script) l h)
-    run-once (w.ToldRun.script_refused d p h f i x y) (w.ToldRun.script_refused e q k g j z w) =
-        (x ∙ ap (λ f. codes "script 1: " ++ script_refusal_line f) (one_script_refusal (of r.script) f g i j) ∙ sym z, y ∙ sym w)
-    run-once (w.ToldRun.script_refused d p h f i x y) (w.ToldRun.ran e q k g j z w) = absurd (no_refused_script (of r.script) g f j i)
-    run-once (w.ToldRun.ran d p h f i x y) (w.ToldRun.unread v) = absurd (unread_or b t d v p.read)
-    run-once (w.ToldRun.ran d p h f i x y) (w.ToldRun.not_run e q g k z w) = absurd (runs_or_not e d q p.read g k p.runs)
-    run-once (w.ToldRun.ran d p h f i x y) (w.ToldRun.unknown_principal e q k j g z w) = absurd (known_or_not e d q p.read j g p.known)
-    run-once (w.ToldRun.ran d p h f i x y) (w.ToldRun.long_script e q l z w) = absurd (short_or_long (of r.script) l h)
-    run-once (w.ToldRun.ran d p h f i x y) (w.ToldRun.script_refused e q k g j z w) = absurd (no_refused_script (of r.script) f g i j)
-    run-once (w.ToldRun.ran d p h f i x y) (w.ToldRun.ran e q k g j z w) =
+    run-once (w.ToldRun.long_script d p l x y) (w.ToldRun.script_refused e q k g w) = absurd (short_or_long (of r.script) l k)
+    run-once (w.ToldRun.long_script d p l x y) (w.ToldRun.not_yet e q k other j m v z w) = absurd (short_or_long (of r.script) l k)
+    run-once (w.ToldRun.long_script d p l x y) (w.ToldRun.ran e q k other j m g v z w) = absurd (short_or_long (of r.script) l k)
+    run-once (w.ToldRun.script_refused d p h f y) (w.ToldRun.unread v) = absurd (unread_or b t d v p.read)
+    run-once (w.ToldRun.script_refused d p h f y) (w.ToldRun.not_run e q g k z w) = absurd (runs_or_not e d q p.read g k p.runs)
+    run-once (w.ToldRun.script_refused d p h f y) (w.ToldRun.unknown_principal e q k j g z w) = absurd (known_or_not e d q p.read j g p.known)
+    run-once (w.ToldRun.script_refused d p h f y) (w.ToldRun.long_script e q m z w) = absurd (short_or_long (of r.script) m h)
+    run-once (w.ToldRun.script_refused d p h f y) (w.ToldRun.script_refused e q k g w) = (refused-once script_prefix (of r.script) a b f g, y ∙ sym w)
+    run-once (w.ToldRun.script_refused d p h f y) (w.ToldRun.not_yet e q k other j m v z w) = absurd (refused_or a other f j m)
+    run-once (w.ToldRun.script_refused d p h f y) (w.ToldRun.ran e q k other j m g v z w) = absurd (refused_or a other f j m)
+    run-once (w.ToldRun.not_yet d p h tree i o n x y) (w.ToldRun.unread v) = absurd (unread_or b t d v p.read)
+    run-once (w.ToldRun.not_yet d p h tree i o n x y) (w.ToldRun.not_run e q g k z w) = absurd (runs_or_not e d q p.read g k p.runs)
+    run-once (w.ToldRun.not_yet d p h tree i o n x y) (w.ToldRun.unknown_principal e q k j g z w) = absurd (known_or_not e d q p.read j g p.known)
+    run-once (w.ToldRun.not_yet d p h tree i o n x y) (w.ToldRun.long_script e q m z w) = absurd (short_or_long (of r.script) m h)
+    run-once (w.ToldRun.not_yet d p h tree i o n x y) (w.ToldRun.script_refused e q k g w) = absurd (refused_or b tree g i o)
+    run-once (w.ToldRun.not_yet d p h tree i o n x y) (w.ToldRun.not_yet e q k other j m v z w) = (x ∙ sym z, y ∙ sym w)
+    run-once (w.ToldRun.not_yet d p h tree i o n x y) (w.ToldRun.ran e q k other j m g v z w) = absurd (n g (forms_there other tree g j i v))
+    run-once (w.ToldRun.ran d p h tree i o f c x y) (w.ToldRun.unread v) = absurd (unread_or b t d v p.read)
+    run-once (w.ToldRun.ran d p h tree i o f c x y) (w.ToldRun.not_run e q g k z w) = absurd (runs_or_not e d q p.read g k p.runs)
+    run-once (w.ToldRun.ran d p h tree i o f c x y) (w.ToldRun.unknown_principal e q k j g z w) = absurd (known_or_not e d q p.read j g p.known)
+    run-once (w.ToldRun.ran d p h tree i o f c x y) (w.ToldRun.long_script e q m z w) = absurd (short_or_long (of r.script) m h)
+    run-once (w.ToldRun.ran d p h tree i o f c x y) (w.ToldRun.script_refused e q k g w) = absurd (refused_or b tree g i o)
+    run-once (w.ToldRun.ran d p h tree i o f c x y) (w.ToldRun.not_yet e q k other j m v z w) = absurd (v f (forms_there tree other f i j c))
+    run-once (w.ToldRun.ran d p h tree i o f c x y) (w.ToldRun.ran e q k other j m g v z w) =
         let same = one d e p.read q.read in
-        let source = one_script (of r.script) f g i j in
+        let source = one_source tree other f g i j c v in
         (x ∙ (λ n. session_block 1 r.who (played r (same n) (source n))) ∙ sym z, y ∙ (λ n. end_status (played r (same n) (source n)).answer) ∙ sym w)
 
 -- ---- the program

@@ -1,6 +1,7 @@
 mod Ascii
 mod Scripts
 mod Ended
+mod FirstForms
 mod Ids
 mod Later
 mod Pieces
@@ -9,4 +10,4 @@ mod Said
 mod Sayings
 pub mod Taken
 pub mod Determined
-mod OneScript
+mod OneFault

@@ -4,10 +4,11 @@ use Rattle.std.specs.List.{flat_map}
 use Rattle.rp_base.specs.Names.{word_of}
 use Rattle.rp_base.specs.declared.memory.Memory.{Memory as MemoryFault}
 use Rattle.rp_base.specs.declared.value.Name.{Name}
-use Rattle.rp_script.specs.Refusal.{IsRefused, offence_line, refusal_lines}
+use Rattle.rp_script.specs.Refusal.{IsRefused, line, offence_line, refusal_lines}
 use Rattle.rp_script.specs.declared.refusal.Refusal.{Refusal}
 use Rattle.rp_script.specs.declared.refusal.Refusal.TheVariants as refusal
 use Rattle.rp_policy.specs.Offences.{offence_named, offence_text, offences}
+use Rattle.rp_policy.proofs.Renamed.{offences-unnumbered}
 use Rattle.rp_policy.specs.declared.offence.Offence.{Offence}
 use Rattle.rp_program.specs.declared.fault.ProgramFault.TheVariants as fault
 use Rattle.rp_run.specs.Refusals.{IsLong, IsWhole, OnRefusal, RefusesLong}
@@ -16,17 +17,18 @@ use Rattle.rp_run.proofs.Sayings.{refused_as}
 use Rattle.rp_program.specs.Program.{IsProgram}
 use Rattle.rp_run.specs.declared.answer.Answer.{Answer}
 use Rattle.rp_compile.specs.Compiled.{Compilation, IsCompiled}
+use Rattle.rp_print.proofs.Renamed.{printed_unnumbered}
 use Rattle.rp_print.specs.Statements.{printed}
 use Rattle.rp_run.specs.declared.command.Question.TheVariants.{Show}
 use Rattle.rp_tree.specs.StatementViews.{view_tree}
 use Rattle.rp_tree.specs.declared.stmt.Tree.{Tree}
-use Rattle.rp_tree.specs.Maps.{named, names_by}
+use Rattle.rp_tree.specs.Maps.{after, named, names_by, no_blocks, without_blocks}
 use Rattle.rp_tree.specs.Marks.{Rewrites, guard, table}
 use Rattle.rp_tree.specs.StatementTrees.{Stmts}
 use Rattle.rp_tree.proofs.MapLaws.{stmts_after}
 use Rattle.rp_tree.proofs.MarkLaws.{rewritten}
 use Rattle.rp_run.specs.Told as told
-use Rattle.rp_run.specs.Told.{IsShort, ToldScript, too_long_line}
+use Rattle.rp_run.specs.Told.{IsShort, ToldRefused, ToldScript, too_long_line}
 
 -- what is said to a question about a script
 abbrev pub TellsAsked : (Stmts (List ℕ) → List ℕ) → List ℕ → Option (List ℕ → List ℕ) → List ℕ → ℕ → Type 0
@@ -49,26 +51,26 @@ tells_whole says path bytes (Some of) text status whole tells =
     subst (λ file. ToldScript says path file text status) whole.0 (tells path (subst IsShort (sym whole.0) whole.1))
 
 -- the line of an offence whose name is a text
-abbrev offence_told : Offence (List ℕ) → List ℕ
-offence_told o = offence_text o ++ codes "\n"
+abbrev offence_told : List ℕ → Offence (List ℕ) → List ℕ
+offence_told prefix o = line prefix (offence_text o)
 
-lines : (words : List (List ℕ)) (found : List (Offence Name)) → flat_map (offence_line words []) found ≡ flat_map offence_told (map (offence_named (word_of words)) found)
-lines words [] = refl
-lines words (o ∷ os) = ap (λ (rest : List ℕ). offence_line words [] o ++ rest) (lines words os)
+lines : (words : List (List ℕ)) (prefix : List ℕ) (found : List (Offence Name))
+    → flat_map (offence_line words prefix) found ≡ flat_map (offence_told prefix) (map (offence_named (word_of words)) found)
+lines words prefix [] = refl
+lines words prefix (o ∷ os) = ap (λ (rest : List ℕ). offence_line words prefix o ++ rest) (lines words prefix os)
 
 mapped : {A B : Type 0} (f : A → B) (xs : List A) (ys : List B) → map f xs ≡ ys → xs ≢ [] → ys ≢ []
 mapped f [] ys same some none = some refl
 mapped f (x ∷ xs) ys same some none = absurd (cc)
 
-pub told_uncompiled : (says : Stmts (List ℕ) → List ℕ) (path bytes text : List ℕ) (words : List (List ℕ)) (r : Refusal) (status : ℕ)
-    → IsShort bytes → IsRefused words bytes r → text ≡ refusal_lines words [] r → status ≡ 4 → ToldScript says path bytes text status
-told_uncompiled says path bytes text words (refusal.NotUtf8 n) status short is said ended = told.ToldScript.no_program short (fault.NotUtf8 n) is said ended
-told_uncompiled says path bytes text words (refusal.Token f) status short is said ended = told.ToldScript.no_program short (fault.Token f) is said ended
-told_uncompiled says path bytes text words (refusal.Syntax line) status short is said ended = told.ToldScript.no_program short (fault.Syntax line) is said ended
-told_uncompiled says path bytes text words (refusal.Offences found) status short is said ended =
-    told.ToldScript.offends short is.tree is.program (mapped _ found.items _ is.all is.some)
-    (said ∙ lines words found.items ∙ ap (flat_map offence_told) is.all) ended
-told_uncompiled says path bytes text words refusal.Memory status short is said ended = absurd is
+pub told_refused : (prefix bytes text : List ℕ) (words : List (List ℕ)) (r : Refusal) → IsRefused words bytes r → text ≡ refusal_lines words prefix r → ToldRefused prefix bytes text
+told_refused prefix bytes text words (refusal.NotUtf8 n) is said = told.no_program (fault.NotUtf8 n) is said
+told_refused prefix bytes text words (refusal.Token f) is said = told.no_program (fault.Token f) is said
+told_refused prefix bytes text words (refusal.Format at) is said = told.no_program (fault.Format at) is said
+told_refused prefix bytes text words (refusal.Syntax at) is said = told.no_program (fault.Syntax at) is said
+told_refused prefix bytes text words (refusal.Offences found) is said =
+    told.offends is.tree is.program (mapped _ found.items _ is.all is.some) (said ∙ lines words prefix found.items ∙ ap (flat_map (offence_told prefix)) is.all)
+told_refused prefix bytes text words refusal.Memory is said = absurd is
 
 -- what is told of a script that is read
 abbrev TellsScript : (Stmts (List ℕ) → List ℕ) → List ℕ → Result Answer MemoryFault → Type 0
@@ -81,23 +83,30 @@ tells_accepted says bytes tree (Err e) said program lawful = tt
 
 pub tells_unaccepted : (says : Stmts (List ℕ) → List ℕ) (bytes : List ℕ) (words : List (List ℕ)) (why : Refusal) (r : Result Answer MemoryFault) → (why ≢ refusal.Memory → IsRefused words bytes why)
     → IfOk r (λ a. (a.text ≡ refusal_lines words [] why) × (a.status.0 ≡ 4)) → OnOk r (why ≢ refusal.Memory) → TellsScript says bytes r
-tells_unaccepted says bytes words why (Ok a) refused said other = λ path short. told_uncompiled says path bytes a.text words why a.status.0 short (refused other) said.0 said.1
+tells_unaccepted says bytes words why (Ok a) refused said other = λ path short. told.unaccepted short (told_refused [] bytes a.text words why (refused other) said.0) said.1
 tells_unaccepted says bytes words why (Err e) refused said other = tt
+
+-- guards, words for names and taking off the numbers of code blocks may come in any order
+guarded_words : (word : Name → List ℕ) (source : Stmts Name) → without_blocks (named word (guard source)) ≡ guard (without_blocks (named word source))
+guarded_words word source =
+    stmts_after (names_by word) no_blocks (guard source) ∙ stmts_after table (after (names_by word) no_blocks) source
+    ∙ sym (stmts_after no_blocks table (named word source) ∙ stmts_after (names_by word) (after no_blocks table) source)
 
 -- the tree that runs is printed as the source with its guards
 pub printed_guarded : (words : List (List ℕ)) (source result : Stmts Name) → Rewrites source result
-    → printed (named (word_of words) result) ≡ printed (guard (named (word_of words) source))
+    → printed (named (word_of words) result) ≡ printed (guard (without_blocks (named (word_of words) source)))
 printed_guarded words source result rewrites =
     ap (λ (tree : Stmts Name). printed (named (word_of words) tree)) (sym (rewritten source result rewrites).1)
-    ∙ ap printed (stmts_after table (names_by (word_of words)) source ∙ sym (stmts_after (names_by (word_of words)) table source))
+    ∙ sym (printed_unnumbered (λ word. word) (named (word_of words) (guard source))) ∙ ap printed (guarded_words (word_of words) source)
 
 -- what is told of a script that is shown
 pub tells_shown : (bytes : List ℕ) (words : List (List ℕ)) (c : Compilation) (tree : Tree) (line : List ℕ) (r : Result Answer MemoryFault)
-    → IsProgram bytes (named (word_of words) (view_tree c.source)) → offences (named (word_of words) (view_tree c.source)) ≡ []
+    → IsProgram bytes (without_blocks (named (word_of words) (view_tree c.source))) → offences (named (word_of words) (view_tree c.source)) ≡ []
     → IsCompiled c → tree ≡ c.rewritten → chars line ≡ printed (named (word_of words) (view_tree tree))
     → IfOk r (λ a. (a.text ≡ chars line) × (a.status.0 ≡ 0)) → TellsScript (told.said_to Show) bytes r
 tells_shown bytes words c tree line (Ok a) program lawful kept is text said = λ path short.
-    told.ToldScript.accepted short (named (word_of words) (view_tree c.source)) program lawful
+    let source : Stmts (List ℕ) = named (word_of words) (view_tree c.source) in
+    told.ToldScript.accepted short (without_blocks source) program (offences-unnumbered (λ word. word) source ∙ lawful)
     (said.0 ∙ text ∙ ap (λ (t : Tree). printed (named (word_of words) (view_tree t))) is
     ∙ printed_guarded words (view_tree c.source) (view_tree c.rewritten) kept.rewrites) said.1
 tells_shown bytes words c tree line (Err e) program lawful kept is text said = tt

@@ -3,11 +3,13 @@ use Rattle.std.specs.Prelude.{◌≡◌, ◌+◌, ℕ, false, List, ◌++◌, co
 use Rattle.rp_decl.specs.Records.{Declarations}
 use Rattle.rp_decl.specs.View.{Placed, declarations_view}
 use Rattle.rp_decl.specs.Word.{is_among}
-use Rattle.rp_first.specs.Refusal.{IsRefused as IsScriptRefused, refusal_line as script_refusal_line}
-use Rattle.rp_first.specs.declared.refusal.Refusal.{Refusal as ScriptRefusal}
+use Rattle.rp_first.specs.Script.{IsSource}
+use Rattle.rp_first.specs.Source.{Statement}
 use Rattle.rp_interact.specs.Why.{first_unknown}
+use Rattle.rp_script.specs.Refusal.{line}
+use Rattle.rp_tree.specs.StatementTrees.{Stmts}
 use Rattle.rp_run.specs.Command.{Run}
-use Rattle.rp_run.specs.Told.{IsRead, IsShort, IsTooLong, ToldRun, ToldUnread, too_long_line, undeclared_line, unknown_line}
+use Rattle.rp_run.specs.Told.{IsRead, IsShort, IsTooLong, ToldRefused, ToldRun, ToldUnread, script_prefix, too_long_line, undeclared_line, unknown_line}
 use Rattle.rp_run.specs.declared.answer.Answer.{Answer}
 use Rattle.rp_run.specs.declared.stop.Silence.{Silence}
 use Rattle.rp_run.specs.declared.stop.Silence.TheVariants as silence
@@ -75,7 +77,10 @@ RefusesUndeclared permissions id a = (is_among permissions id ≡ false) × (a.t
 abbrev pub RefusesRun : Declarations → List (List ℕ) → Answer → Type 0
 RefusesRun d ids a = (r : Run) (of : List ℕ → List ℕ) → r.ids ≡ ids → IsRead (of r.declarations) d → ToldRun r of a.text a.status.0
 
--- the bytes are no script of a run
+-- the bytes are no program, or offences stand against it
 abbrev pub RefusesScript : List ℕ → Answer → Type 0
-RefusesScript bytes a =
-    (refusal : ScriptRefusal) × (IsScriptRefused bytes refusal × (a.text ≡ codes "script 1: " ++ script_refusal_line refusal) × (a.status.0 ≡ 4))
+RefusesScript bytes a = ToldRefused script_prefix bytes a.text × (a.status.0 ≡ 4)
+
+-- the machine lacks a form of the program
+abbrev pub RefusesForms : Stmts (List ℕ) → Answer → Type 0
+RefusesForms tree a = ((source : List Statement) → ¬ IsSource tree source) × (a.text ≡ line script_prefix (codes "not yet")) × (a.status.0 ≡ 4)

@@ -1,10 +1,8 @@
 -- What the program says to its words and the contents of the files that they name.
 use Rattle.std.specs.Prelude.{◌≡◌, ◌≢◌, ◌<◌, ◌≤◌, ℕ, true, false, List, [], ◌++◌, length, codes, Some, None, MatchOption}
 use Rattle.std.specs.List.{flat_map}
-use Rattle.rp_first.specs.Refusal.{IsRefused as IsScriptRefused, refusal_line as script_refusal_line}
-use Rattle.rp_first.specs.Script.{IsScript}
+use Rattle.rp_first.specs.Script.{IsSource}
 use Rattle.rp_first.specs.Source.{Statement}
-use Rattle.rp_first.specs.declared.refusal.Refusal.{Refusal as ScriptRefusal}
 use Rattle.rp_decl.specs.Declares.{Declares, IsNoDocument, IsRefused, Refusal}
 use Rattle.rp_decl.specs.Records.{Declarations}
 use Rattle.rp_decl.specs.Word.{is_among}
@@ -16,6 +14,7 @@ use Rattle.rp_program.specs.Fault.{IsFault, fault_text}
 use Rattle.rp_program.specs.Program.{IsProgram}
 use Rattle.rp_program.specs.declared.fault.ProgramFault.{ProgramFault}
 use Rattle.rp_print.specs.Statements.{printed}
+use Rattle.rp_script.specs.Refusal.{line}
 use Rattle.rp_run.specs.Command.{Command, run, script, may, Run, May, command_of, usage}
 use Rattle.rp_run.specs.declared.command.Question.{Question}
 use Rattle.rp_run.specs.declared.command.Question.TheVariants.{Check, Show}
@@ -55,6 +54,15 @@ pub record IsRead (bytes : List ℕ) (d : Declarations) : Type 0 where
   pub short : IsShort bytes
   pub declares : Declares bytes d
 
+-- ---- a script that is refused
+
+-- The first check that a script does not pass, in the order of the constructors: its bytes are a program, and no offence stands against it. It is
+-- told by a line for the fault, or one for each offence, each behind a prefix.
+pub data ToldRefused (prefix bytes : List ℕ) (text : List ℕ) : Type 0 where
+  no_program : (fault : ProgramFault) → IsFault bytes fault → text ≡ line prefix (fault_text fault) → ToldRefused prefix bytes text
+  offends : (tree : Stmts (List ℕ)) → IsProgram bytes tree → offences tree ≢ []
+      → text ≡ flat_map (λ o. line prefix (offence_text o)) (offences tree) → ToldRefused prefix bytes text
+
 -- ---- a run
 
 -- the declarations of a run are read, can be run, and have its principals
@@ -71,7 +79,11 @@ most_cells = 1000000
 abbrev pub played : Run → Declarations → List Statement → Outcome
 played r d source = run_script d source (first_state d most_cells 1 r.ids)
 
--- The first step that refuses decides, in the order of the constructors; else the script is run.
+abbrev pub script_prefix : List ℕ
+script_prefix = codes "script 1: "
+
+-- The first step that refuses decides, in the order of the constructors; else the script is run. It is not run yet where the machine lacks one of its
+-- forms.
 pub data ToldRun (r : Run) (contents : List ℕ → List ℕ) (text : List ℕ) (status : ℕ) : Type 0 where
   unread : ToldUnread r.declarations (contents r.declarations) text status → ToldRun r contents text status
   not_run : (d : Declarations) → IsRead (contents r.declarations) d → (f : Fault) → fault_of d ≡ Some f
@@ -79,9 +91,12 @@ pub data ToldRun (r : Run) (contents : List ℕ → List ℕ) (text : List ℕ) 
   unknown_principal : (d : Declarations) → IsRead (contents r.declarations) d → fault_of d ≡ None → (id : List ℕ) → first_unknown d r.ids ≡ Some id
       → text ≡ unknown_line id → status ≡ 3 → ToldRun r contents text status
   long_script : (d : Declarations) → IsAdmitted r contents d → IsTooLong (contents r.script) → text ≡ too_long_line r.script → status ≡ 9 → ToldRun r contents text status
-  script_refused : (d : Declarations) → IsAdmitted r contents d → IsShort (contents r.script) → (refusal : ScriptRefusal) → IsScriptRefused (contents r.script) refusal
-      → text ≡ codes "script 1: " ++ script_refusal_line refusal → status ≡ 4 → ToldRun r contents text status
-  ran : (d : Declarations) → IsAdmitted r contents d → IsShort (contents r.script) → (source : List Statement) → IsScript (contents r.script) source
+  script_refused : (d : Declarations) → IsAdmitted r contents d → IsShort (contents r.script) → ToldRefused script_prefix (contents r.script) text → status ≡ 4
+      → ToldRun r contents text status
+  not_yet : (d : Declarations) → IsAdmitted r contents d → IsShort (contents r.script) → (tree : Stmts (List ℕ)) → IsProgram (contents r.script) tree → offences tree ≡ []
+      → ((source : List Statement) → ¬ IsSource tree source) → text ≡ line script_prefix (codes "not yet") → status ≡ 4 → ToldRun r contents text status
+  ran : (d : Declarations) → IsAdmitted r contents d → IsShort (contents r.script) → (tree : Stmts (List ℕ)) → IsProgram (contents r.script) tree → offences tree ≡ []
+      → (source : List Statement) → IsSource tree source
       → text ≡ session_block 1 r.who (played r d source) → status ≡ end_status (played r d source).answer → ToldRun r contents text status
 
 -- ---- a script that is checked or shown
@@ -89,9 +104,7 @@ pub data ToldRun (r : Run) (contents : List ℕ → List ℕ) (text : List ℕ) 
 -- The first check that a script does not pass decides, in the order of the constructors; else this is said of its tree.
 pub data ToldScript (said : Stmts (List ℕ) → List ℕ) (path bytes : List ℕ) (text : List ℕ) (status : ℕ) : Type 0 where
   long : IsTooLong bytes → text ≡ too_long_line path → status ≡ 9 → ToldScript said path bytes text status
-  no_program : IsShort bytes → (fault : ProgramFault) → IsFault bytes fault → text ≡ fault_text fault ++ codes "\n" → status ≡ 4 → ToldScript said path bytes text status
-  offends : IsShort bytes → (tree : Stmts (List ℕ)) → IsProgram bytes tree → offences tree ≢ []
-      → text ≡ flat_map (λ o. offence_text o ++ codes "\n") (offences tree) → status ≡ 4 → ToldScript said path bytes text status
+  unaccepted : IsShort bytes → ToldRefused [] bytes text → status ≡ 4 → ToldScript said path bytes text status
   accepted : IsShort bytes → (tree : Stmts (List ℕ)) → IsProgram bytes tree → offences tree ≡ [] → text ≡ said tree → status ≡ 0 → ToldScript said path bytes text status
 
 -- a check says of each tree that it is accepted; else it is shown as it runs, each form that needs a guard as a call of it

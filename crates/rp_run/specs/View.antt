@@ -1,12 +1,16 @@
 -- Commands, ends and answers as the program has them.
 use Rattle.std.specs.Prelude.{◌≡◌, ℕ, List, Option, Result, Ok, Err, IsSome}
-use Rattle.rp_base.specs.Names.{first_words}
+use Rattle.rp_base.specs.Names.{first_words, word_of}
 use Rattle.rp_decl.specs.Consistency.{IsConsistent}
 use Rattle.rp_decl.specs.InOrder.{AreInOrder}
 use Rattle.rp_decl.specs.Places.{GrowsTo, IsHeldBy}
 use Rattle.rp_decl.specs.View.{Placed, declarations_view}
 use Rattle.rp_base.specs.declared.value.Value.{Value}
 use Rattle.rp_machine.specs.Meaning.{End, raised, no_cell, none, Outcome, State}
+use Rattle.rp_tree.specs.Maps.{named, without_blocks}
+use Rattle.rp_tree.specs.StatementTrees.{Stmts}
+use Rattle.rp_tree.specs.StatementViews.{view_tree}
+use Rattle.rp_tree.specs.declared.stmt.Tree.{Tree}
 use Rattle.rp_run.specs.Command as words
 use Rattle.rp_run.specs.Output.{end_line, end_status}
 use Rattle.rp_run.specs.declared.answer.SessionEnd.{SessionEnd}
@@ -37,6 +41,10 @@ abbrev pub command_view : Command → words.Command
 command_view (command.Run r) = words.run (run_view r)
 command_view (command.Script q path) = words.script q path
 command_view (command.May m) = words.may (may_view m)
+
+-- the tree of a program, by the words of its names, without the numbers of its code blocks
+abbrev pub program_of : List (List ℕ) → Tree → Stmts (List ℕ)
+program_of names t = without_blocks (named (word_of names) (view_tree t))
 
 -- the names are those that the declarations were read into
 pub record IsReadInto (names : List (List ℕ)) (d : Placed) : Type 0 where

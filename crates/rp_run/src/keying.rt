@@ -1,19 +1,13 @@
 //! Declarations and scripts read into names that are first hashed anew, from a secret and their bytes: who wrote the
 //! bytes cannot pick names that collide. Nothing that is told depends on it.
 
-ghost use Rattle.std.specs.Prelude.{◌≡◌, ◌≢◌, IfErr, IfOk, List, []};
-ghost use Rattle.std.specs.List.{All};
+ghost use Rattle.std.specs.Prelude.{◌≡◌, ◌≢◌, IfErr, IfOk, []};
 ghost use Rattle.rp_base.specs.Names.{word_of};
-ghost use Rattle.rp_script.specs.Refusal.{IsRefused as IsUnaccepted};
-ghost use Rattle.rp_first.specs.Refusal.{IsRefused};
+ghost use Rattle.rp_script.specs.Refusal.{IsRefused};
 ghost use Rattle.rp_policy.specs.Offences.{offences};
 ghost use Rattle.rp_program.specs.Program.{IsProgram};
-ghost use Rattle.rp_tree.specs.Maps.{named};
+ghost use Rattle.rp_tree.specs.Maps.{named, without_blocks};
 ghost use Rattle.rp_tree.specs.StatementViews.{view_tree};
-ghost use Rattle.rp_first.specs.Rewrites.{Rewrites};
-ghost use Rattle.rp_first.specs.Script.{IsScript};
-ghost use Rattle.rp_first.specs.Source.{Statement};
-ghost use Rattle.rp_first.specs.View.{IsStatementHeld};
 ghost use Rattle.rp_decl.specs.Consistency.{IsConsistent};
 ghost use Rattle.rp_decl.specs.Declares.{Declares};
 ghost use Rattle.rp_decl.specs.Faults.{HasFault, IsFaultHeld};
@@ -22,10 +16,9 @@ ghost use Rattle.rp_decl.specs.Places.{GrowsTo, IsHeldBy};
 ghost use Rattle.rp_decl.specs.View.{declarations_view};
 
 use rp_base::{Memory, Names};
-use rp_compile::Compiled as Script;
+use rp_compile::Compiled;
 use rp_decl::{Decl, DeclFault};
-use rp_first::{Compiled, Refusal};
-use rp_script::Refusal as Unaccepted;
+use rp_script::Refusal;
 use rp_tree::Tree;
 use std::alloc::Global;
 
@@ -54,31 +47,14 @@ pub fn declarations(alloc: Global, bytes: &[u8], names: &mut Names) -> Result<De
     rp_decl::declarations(alloc, bytes, names)
 }
 
-/// The statements of the first forms that the bytes are, with guards.
-///
-/// # Errors
-/// As `rp_first::compile_script`.
-pub fn first_script(alloc: Global, bytes: &[u8], names: &mut Names) -> Result<Compiled, Refusal>
-    ensures rewritten { IfOk result (λ c. (source : List Statement)
-        × (IsScript bytes.now source × Rewrites names.new source c)) }
-    ensures one { IfOk result (λ c. (source : List Statement) → IsScript bytes.now source
-        → Rewrites names.new source c) }
-    ensures held { IfOk result (λ c. All (IsStatementHeld names.new) c) }
-    ensures refused { IfErr result (λ refusal. refusal ≢ Refusal.Memory → IsRefused bytes.now refusal) }
-    ensures names { GrowsTo names.old names.new }
-{
-    rekey(names, bytes)?;
-    rp_first::compile_script(alloc, bytes, names)
-}
-
 /// The tree of the script that the bytes are, against which the policy of names has nothing.
 ///
 /// # Errors
 /// As `rp_script::read_script`.
-pub fn read_script(alloc: Global, bytes: &[u8], names: &mut Names) -> Result<Tree, Unaccepted>
+pub fn read_script(alloc: Global, bytes: &[u8], names: &mut Names) -> Result<Tree, Refusal>
     ensures program { IfOk result (λ t. IsProgram bytes.now (named (word_of names.new) (view_tree t))) }
     ensures lawful { IfOk result (λ t. offences (named (word_of names.new) (view_tree t)) ≡ []) }
-    ensures refused { IfErr result (λ refusal. refusal ≢ Unaccepted.Memory → IsUnaccepted names.new bytes.now refusal) }
+    ensures refused { IfErr result (λ refusal. refusal ≢ Refusal.Memory → IsRefused names.new bytes.now refusal) }
 {
     rekey(names, bytes)?;
     rp_script::read_script(alloc, bytes, names)
@@ -88,10 +64,12 @@ pub fn read_script(alloc: Global, bytes: &[u8], names: &mut Names) -> Result<Tre
 ///
 /// # Errors
 /// As `rp_compile::compile_script`.
-pub fn compile_script(alloc: Global, bytes: &[u8], names: &mut Names) -> Result<Script, Unaccepted>
-    ensures program { IfOk result (λ c. IsProgram bytes.now (named (word_of names.new) (view_tree c.source))) }
+pub fn compile_script(alloc: Global, bytes: &[u8], names: &mut Names) -> Result<Compiled, Refusal>
+    ensures program { IfOk result (λ c. IsProgram bytes.now
+        (without_blocks (named (word_of names.new) (view_tree c.source)))) }
     ensures lawful { IfOk result (λ c. offences (named (word_of names.new) (view_tree c.source)) ≡ []) }
-    ensures refused { IfErr result (λ refusal. refusal ≢ Unaccepted.Memory → IsUnaccepted names.new bytes.now refusal) }
+    ensures refused { IfErr result (λ refusal. refusal ≢ Refusal.Memory → IsRefused names.new bytes.now refusal) }
+    ensures names { GrowsTo names.old names.new }
 {
     rekey(names, bytes)?;
     rp_compile::compile_script(alloc, bytes, names)

@@ -25,6 +25,7 @@ pub record HasOffences (words : List (List ℕ)) (bytes : List ℕ) (found : Lis
 abbrev pub IsRefused : List (List ℕ) → List ℕ → Refusal → Type 0
 IsRefused words bytes (refusal.NotUtf8 n) = IsFault bytes (fault.NotUtf8 n)
 IsRefused words bytes (refusal.Token f) = IsFault bytes (fault.Token f)
+IsRefused words bytes (refusal.Format line) = IsFault bytes (fault.Format line)
 IsRefused words bytes (refusal.Syntax line) = IsFault bytes (fault.Syntax line)
 IsRefused words bytes (refusal.Offences found) = HasOffences words bytes found.items
 IsRefused words bytes refusal.Memory = ⊥
@@ -33,6 +34,7 @@ IsRefused words bytes refusal.Memory = ⊥
 abbrev pub from_program : ProgramFault → Refusal
 from_program (fault.NotUtf8 n) = refusal.NotUtf8 n
 from_program (fault.Token f) = refusal.Token f
+from_program (fault.Format line) = refusal.Format line
 from_program (fault.Syntax line) = refusal.Syntax line
 from_program fault.Memory = refusal.Memory
 
@@ -48,6 +50,7 @@ offence_line words prefix offence = line prefix (offence_text (offence_named (wo
 abbrev pub refusal_lines : List (List ℕ) → List ℕ → Refusal → List ℕ
 refusal_lines words prefix (refusal.NotUtf8 n) = line prefix (fault_text (fault.NotUtf8 n))
 refusal_lines words prefix (refusal.Token f) = line prefix (fault_text (fault.Token f))
+refusal_lines words prefix (refusal.Format at) = line prefix (fault_text (fault.Format at))
 refusal_lines words prefix (refusal.Syntax at) = line prefix (fault_text (fault.Syntax at))
 refusal_lines words prefix (refusal.Offences found) = flat_map (offence_line words prefix) found.items
 refusal_lines words prefix refusal.Memory = line prefix (fault_text fault.Memory)

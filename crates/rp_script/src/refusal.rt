@@ -18,8 +18,11 @@ pub enum Refusal {
     NotUtf8(usize),
     /// The text has no tokens, for its first fault. A want of memory is `Memory`.
     Token(TokenFault),
-    /// The tokens of the text spell no tree of height at most 200. The line is that of the last place at which a
-    /// statement could begin: what stands before it can be ended to a whole script, and no longer front can.
+    /// The text of an f-literal is wrong, on this line first.
+    Format(Line),
+    /// The tokens of the text, with f-literals and sets written out, spell no tree of height at most 200. The line is
+    /// that of the last place at which a statement could begin: what stands before it can be ended to a whole script,
+    /// and no longer front can.
     Syntax(Line),
     /// The policy of names lets the tree not pass, for all these offences. There is one at least.
     Offences(Vec<Offence>),
@@ -48,6 +51,7 @@ impl From<ProgramFault> for Refusal {
         match fault {
             ProgramFault::NotUtf8(length) => Refusal::NotUtf8(length),
             ProgramFault::Token(fault) => Refusal::Token(fault),
+            ProgramFault::Format(line) => Refusal::Format(line),
             ProgramFault::Syntax(line) => Refusal::Syntax(line),
             ProgramFault::Memory => Refusal::Memory,
         }
@@ -74,6 +78,9 @@ pub fn refusal_text(
         }
         Refusal::Token(fault) => {
             add_fault_line(alloc, &mut text, prefix, ProgramFault::Token(*fault))?;
+        }
+        Refusal::Format(line) => {
+            add_fault_line(alloc, &mut text, prefix, ProgramFault::Format(*line))?;
         }
         Refusal::Syntax(line) => {
             add_fault_line(alloc, &mut text, prefix, ProgramFault::Syntax(*line))?;

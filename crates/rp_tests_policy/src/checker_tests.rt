@@ -1,7 +1,7 @@
 //! Checkers: the row of each class for each name.
 
-use crate::cases::{Question, differing};
-use crate::checker_answers::row_in_chain;
+use crate::checker_answers::{RowInChain, RowInShop};
+use rp_tests_cases::all_answer;
 use std::test::Fail;
 
 const DECLARED: &str = r#"Base => get title => zope.View
@@ -56,26 +56,19 @@ Base => set __lt__ => forbidden"#;
 
 #[test]
 fn own_rows_beat_copied_ones(rt: HostRuntime) -> Result<(), Fail> {
-    let found = differing(rt.alloc(), Question::Row, DECLARED)?;
-    assert_eq!(rt; found.as_str(), "");
-    Ok(())
+    all_answer(rt.alloc(), &RowInShop, DECLARED)
 }
 
 #[test]
 fn built_in_kinds_and_defaults(rt: HostRuntime) -> Result<(), Fail> {
-    let found = differing(rt.alloc(), Question::Row, BUILT_IN)?;
-    assert_eq!(rt; found.as_str(), "");
-    Ok(())
+    all_answer(rt.alloc(), &RowInShop, BUILT_IN)
 }
+
+const CHAIN: &str = r#"C0 => get title => public
+C500 => get title => public
+C0 => set title => forbidden"#;
 
 #[test]
 fn a_long_chain_is_followed(rt: HostRuntime) -> Result<(), Fail> {
-    for (class, what, row) in [
-        ("C0", "get title", "public"),
-        ("C500", "get title", "public"),
-        ("C0", "set title", "forbidden"),
-    ] {
-        assert_eq!(rt; row_in_chain(rt.alloc(), class, what)?.as_str(), row);
-    }
-    Ok(())
+    all_answer(rt.alloc(), &RowInChain, CHAIN)
 }

@@ -1,9 +1,8 @@
 //! Declaration files: what they declare, and why they are refused.
 
-use crate::cases::{Question, differing};
-use crate::declaration_answers::{FILE_WITH_ROLES, line_of};
+use crate::declaration_answers::{Cause, FILE_WITH_ROLES, Word, line_of};
 use crate::records_shown::shown;
-use rp_decl::{is_declared_name, is_id};
+use rp_tests_cases::{all_answer, is_told};
 use std::test::Fail;
 
 /// A text of the file, another in its place, and the cause that is told.
@@ -107,55 +106,39 @@ Nil => class Nil"#;
 
 #[test]
 fn the_version_is_asked_first(rt: HostRuntime) -> Result<(), Fail> {
-    let found = differing(rt.alloc(), Question::CauseWhere, VERSIONS)?;
-    assert_eq!(rt; found.as_str(), "");
-    Ok(())
+    all_answer(rt.alloc(), &Cause::Where, VERSIONS)
 }
 
 #[test]
 fn a_bad_shape_is_told_by_its_path(rt: HostRuntime) -> Result<(), Fail> {
-    let found = differing(rt.alloc(), Question::CauseWhere, SHAPES)?;
-    assert_eq!(rt; found.as_str(), "");
-    let found = differing(rt.alloc(), Question::CauseWhere, OBJECT_SHAPES)?;
-    assert_eq!(rt; found.as_str(), "");
-    let found = differing(rt.alloc(), Question::CauseWhere, OTHER_FORMS)?;
-    assert_eq!(rt; found.as_str(), "");
-    Ok(())
+    all_answer(rt.alloc(), &Cause::Where, SHAPES)?;
+    all_answer(rt.alloc(), &Cause::Where, OBJECT_SHAPES)?;
+    all_answer(rt.alloc(), &Cause::Where, OTHER_FORMS)
 }
 
 #[test]
 fn what_is_named_has_to_be_declared(rt: HostRuntime) -> Result<(), Fail> {
-    let found = differing(rt.alloc(), Question::CauseWhere, NAMED)?;
-    assert_eq!(rt; found.as_str(), "");
-    Ok(())
+    all_answer(rt.alloc(), &Cause::Where, NAMED)
 }
 
 #[test]
 fn roles_stand_in_files_of_version_2(rt: HostRuntime) -> Result<(), Fail> {
-    let found = differing(rt.alloc(), Question::CauseWhereRoles, ROLES)?;
-    assert_eq!(rt; found.as_str(), "");
-    Ok(())
+    all_answer(rt.alloc(), &Cause::WhereRoles, ROLES)
 }
 
 #[test]
 fn of_several_faults_one_is_told(rt: HostRuntime) -> Result<(), Fail> {
-    let found = differing(rt.alloc(), Question::Cause, SEVERAL)?;
-    assert_eq!(rt; found.as_str(), "");
-    Ok(())
+    all_answer(rt.alloc(), &Cause::Of, SEVERAL)
 }
 
 #[test]
 fn a_value_is_at_most_64_deep(rt: HostRuntime) -> Result<(), Fail> {
-    let found = differing(rt.alloc(), Question::CauseOfNested, DEPTHS)?;
-    assert_eq!(rt; found.as_str(), "");
-    Ok(())
+    all_answer(rt.alloc(), &Cause::OfNested, DEPTHS)
 }
 
 #[test]
 fn a_chain_of_classes_ends(rt: HostRuntime) -> Result<(), Fail> {
-    let found = differing(rt.alloc(), Question::CauseOfChain, CHAINS)?;
-    assert_eq!(rt; found.as_str(), "");
-    Ok(())
+    all_answer(rt.alloc(), &Cause::OfChain, CHAINS)
 }
 
 #[test]
@@ -168,7 +151,12 @@ fn what_is_no_toml_is_told_apart(rt: HostRuntime) -> Result<(), Fail> {
     ];
     for bytes in table {
         let line = line_of(rt.alloc(), bytes)?;
-        assert_eq!(rt; line.as_str(), "declarations: not TOML\n", "{bytes:?}");
+        is_told(
+            rt.alloc(),
+            "no TOML",
+            line.as_str(),
+            "declarations: not TOML\n",
+        )?;
     }
     Ok(())
 }
@@ -192,18 +180,18 @@ object root of Folder: secret='k' size=3 title='Home'
 #[test]
 fn a_file_gives_its_records(rt: HostRuntime) -> Result<(), Fail> {
     let records = shown(rt.alloc(), FILE_WITH_ROLES.as_bytes())?;
-    assert_eq!(rt; records.as_str(), RECORDS);
-    let records = shown(rt.alloc(), b"version = 1")?;
-    assert_eq!(rt;
-        records.as_str(),
-        "permissions zope.Public\nexpose\nmodule \n"
-    );
-    Ok(())
+    is_told(rt.alloc(), "the file with roles", records.as_str(), RECORDS)
 }
 
 #[test]
-fn all_parts_are_read_and_sorted(rt: HostRuntime) -> Result<(), Fail> {
-    let file = "version = 2
+fn an_empty_file_gives_no_records(rt: HostRuntime) -> Result<(), Fail> {
+    let records = shown(rt.alloc(), b"version = 1")?;
+    let wanted = "permissions zope.Public\nexpose\nmodule \n";
+    is_told(rt.alloc(), "a file of a version", records.as_str(), wanted)
+}
+
+/// A file with parts of all kinds.
+const ALL_PARTS: &str = "version = 2
 permissions = [\"b\", \"zope.Public\", \"a\", \"b\"]
 expose = [\"z\", \"f\", \"z\"]
 module = 'x = 1'
@@ -217,8 +205,8 @@ class.C.get = { \"gr\u{f6}\u{df}e\" = \"a\" }
 object.o.class = \"D\"
 object.o.fields = { t = true, n = -9223372036854775808, l = [1, [2]], d = { b = 1, a = \"\" }, e = \"\" }
 ";
-    let records = shown(rt.alloc(), file.as_bytes())?;
-    let wanted = "permissions a b zope.Public
+
+const ALL_RECORDS: &str = "permissions a b zope.Public
 expose z f z
 module x = 1
 class C
@@ -240,55 +228,41 @@ allow
 deny zope.Public
 object o of D: d=table of 2 e='' l=list of 2 n=-9223372036854775808 t=true
 ";
-    assert_eq!(rt; records.as_str(), wanted);
-    Ok(())
+
+#[test]
+fn all_parts_are_read_and_sorted(rt: HostRuntime) -> Result<(), Fail> {
+    let records = shown(rt.alloc(), ALL_PARTS.as_bytes())?;
+    is_told(rt.alloc(), "all parts", records.as_str(), ALL_RECORDS)
 }
+
+/// A word, how often it is said, and what that may be.
+const WORDS: &str = "title => 1 => name, id
+_ => 1 => name, id
+Zz09 => 1 => name, id
+None => 1 => id
+nonlocal => 1 => id
+none => 1 => name, id
+9 => 1 => id
+.-_ => 1 => id
+ => 1 => neither
+a b => 1 => neither
+na\u{ef}ve => 1 => name
+nai\u{308}ve => 1 => neither
+\u{fb01} => 1 => neither
+\u{540d}\u{524d} => 1 => name
+\u{b2} => 1 => neither";
 
 #[test]
 fn names_are_identifiers_and_ids_may_have_more(rt: HostRuntime) -> Result<(), Fail> {
-    let table = [
-        ("title", true, true),
-        ("_", true, true),
-        ("Zz09", true, true),
-        ("None", false, true),
-        ("nonlocal", false, true),
-        ("none", true, true),
-        ("9", false, true),
-        (".-_", false, true),
-        ("", false, false),
-        ("a b", false, false),
-        ("na\u{ef}ve", true, false),
-        ("nai\u{308}ve", false, false),
-        ("\u{fb01}", false, false),
-        ("\u{540d}\u{524d}", true, false),
-        ("\u{b2}", false, false),
-    ];
-    for (word, name, id) in table {
-        assert_eq!(rt;
-            is_declared_name(rt.alloc(), word)?,
-            name,
-            "{word} as a name"
-        );
-        assert_eq!(rt; is_id(word), id, "{word} as an id");
-    }
-    Ok(())
+    all_answer(rt.alloc(), &Word, WORDS)
 }
+
+const LONG_WORDS: &str = "k => 255 => name, id
+k => 256 => neither
+\u{e9} => 127 => name
+\u{e9} => 128 => neither";
 
 #[test]
 fn a_word_has_at_most_255_bytes(rt: HostRuntime) -> Result<(), Fail> {
-    for (letter, count, name, id) in [
-        ("k", 255, true, true),
-        ("k", 256, false, false),
-        ("\u{e9}", 127, true, false),
-        ("\u{e9}", 128, false, false),
-    ] {
-        let word = letter.repeat(rt.alloc(), count)?;
-        assert_eq!(rt;
-            is_declared_name(rt.alloc(), word.as_str())?,
-            name,
-            "{count}"
-        );
-        assert_eq!(rt; is_id(word.as_str()), id, "{count}");
-    }
-    Ok(())
+    all_answer(rt.alloc(), &Word, LONG_WORDS)
 }

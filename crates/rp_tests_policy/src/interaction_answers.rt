@@ -1,14 +1,16 @@
 //! What principals of declaration files have, and why.
 
-use crate::cases::seed;
+use crate::declaration_answers::read;
 use rp_base::{Memory, Names, Text};
-use rp_decl::{Decl, DeclFault, Perm, declarations};
+use rp_decl::{Decl, DeclFault, Perm};
 use rp_interact::{Interaction, Reason, WhoFault};
+use rp_tests_cases::{Question, is_told, number, part, seed};
 use std::alloc::{AllocError, Global};
+use std::test::Fail;
 
-fn read(alloc: Global, file: &str) -> Result<Decl, DeclFault> {
+fn declared(alloc: Global, file: &str) -> Result<Decl, DeclFault> {
     let mut names = Names::new(alloc, seed())?;
-    declarations(alloc, file.as_bytes(), &mut names)
+    read(alloc, file.as_bytes(), &mut names)
 }
 
 fn permission_named(decl: &Decl, id: &str) -> Perm {
@@ -64,18 +66,31 @@ fn reason_text(alloc: Global, decl: &Decl, reason: Reason) -> Result<String, All
 }
 
 /// Why the principal has the permission or not, or the fault.
-fn why(alloc: Global, file: &str, id: &str, permission: &str) -> Result<String, Memory> {
-    let Ok(decl) = read(alloc, file) else {
-        return Ok(String::from_str(alloc, "refused")?);
-    };
-    let Ok(interaction) = interaction_of(alloc, &decl, id) else {
-        return Ok(String::from_str(alloc, "unknown")?);
-    };
-    if interaction.ids().is_empty() {
-        return Ok(String::from_str(alloc, "nobody")?);
+fn why_in(alloc: Global, file: &str, id: &str, permission: &str) -> Result<String, Memory> {
+    match declared(alloc, file) {
+        Ok(decl) => why_over(alloc, &decl, id, permission),
+        Err(_) => Ok(String::from_str(alloc, "refused")?),
     }
-    let reason = interaction.why(0, permission_named(&decl, permission));
-    Ok(reason_text(alloc, &decl, reason)?)
+}
+
+fn why_over(alloc: Global, decl: &Decl, id: &str, permission: &str) -> Result<String, Memory> {
+    let permission = permission_named(decl, permission);
+    match interaction_of(alloc, decl, id) {
+        Ok(interaction) => Ok(first_why(alloc, decl, &interaction, permission)?),
+        Err(_) => Ok(String::from_str(alloc, "unknown")?),
+    }
+}
+
+fn first_why(
+    alloc: Global,
+    decl: &Decl,
+    interaction: &Interaction,
+    permission: Perm,
+) -> Result<String, AllocError> {
+    if interaction.ids().is_empty() {
+        return String::from_str(alloc, "nobody");
+    }
+    reason_text(alloc, decl, interaction.why(0, permission))
 }
 
 /// The rules for `zope.View` that apply to a principal, by the bits of a number, in their order: its own
@@ -142,30 +157,25 @@ fn first_answer(bits: usize) -> &'static str {
     "no none"
 }
 
-/// What is answered where the rules with these bits apply, the groups in one of their orders, where that is not what
-/// the first of them says.
-fn difference_of_rules(
+/// Asks whether the first of the rules with these bits decides, the groups in one of their orders.
+fn is_decided_in_order(
     alloc: Global,
     bits: usize,
     first: usize,
     is_backwards: bool,
-) -> Result<Option<String>, Memory> {
+) -> Result<(), Fail> {
     let groups = groups_of(alloc, bits, first, is_backwards)?;
     let file = file_of(alloc, bits, groups.as_str())?;
-    let reason = why(alloc, file.as_str(), "bob", "zope.View")?;
-    let is_wanted = reason.as_str() == first_answer(bits);
-    Ok(if is_wanted { None } else { Some(reason) })
+    let reason = why_in(alloc, file.as_str(), "bob", "zope.View")?;
+    is_told(alloc, file.as_str(), reason.as_str(), first_answer(bits))
 }
 
-/// The first difference of all rules in all orders, or an empty text.
-pub fn first_difference_of_rules(alloc: Global) -> Result<String, Memory> {
+/// Asks whether the first rule decides, of all choices of rules in all orders.
+pub fn are_decided_in_order(alloc: Global) -> Result<(), Fail> {
     for case in 0..384usize {
-        let is_backwards = case % 2 == 1;
-        if let Some(found) = difference_of_rules(alloc, case / 6, case / 2 % 3, is_backwards)? {
-            return Ok(found);
-        }
+        is_decided_in_order(alloc, case / 6, case / 2 % 3, case % 2 == 1)?;
     }
-    Ok(String::new(alloc))
+    Ok(())
 }
 
 const LEAST: &str = "version = 2
@@ -181,9 +191,13 @@ principal.groups = { groups = ['y', 'w', 'x', 'y'], deny = ['zope.Public'] }
 principal.nobody = {}
 ";
 
-/// Why a principal of the file above has the permission or not.
-pub fn why_least(alloc: Global, id: &str, permission: &str) -> Result<String, Memory> {
-    why(alloc, LEAST, id, permission)
+/// Why the principal of the file above that is the first part has the permission that is the second, or not.
+pub struct Why;
+
+impl Question for Why {
+    fn answer(&self, alloc: Global, parts: &[String]) -> Result<String, Fail> {
+        Ok(why_in(alloc, LEAST, part(parts, 0), part(parts, 1))?)
+    }
 }
 
 /// Whether the permission is decided so.
@@ -209,14 +223,26 @@ fn asked(
     format!(in alloc; "{has} {is_same} {count} {kept}")
 }
 
-/// Whether all of them have the permission, asked twice in each way, or the first id that is unknown.
-pub fn have(alloc: Global, who: &str, permission: &str) -> Result<String, Memory> {
-    let Ok(decl) = read(alloc, LEAST) else {
-        return Ok(String::from_str(alloc, "refused")?);
-    };
-    let permission = permission_named(&decl, permission);
-    match interaction_of(alloc, &decl, who) {
-        Ok(mut interaction) => { Ok(asked(alloc, &mut interaction, permission)?) }
+/// Whether all that the first part names have the permission that is the second, or the first id that is unknown.
+pub struct Have;
+
+impl Question for Have {
+    fn answer(&self, alloc: Global, parts: &[String]) -> Result<String, Fail> {
+        Ok(answers_of(alloc, part(parts, 0), part(parts, 1))?)
+    }
+}
+
+fn answers_of(alloc: Global, who: &str, permission: &str) -> Result<String, Memory> {
+    match declared(alloc, LEAST) {
+        Ok(decl) => answers_over(alloc, &decl, who, permission),
+        Err(_) => Ok(String::from_str(alloc, "refused")?),
+    }
+}
+
+fn answers_over(alloc: Global, decl: &Decl, who: &str, permission: &str) -> Result<String, Memory> {
+    let permission = permission_named(decl, permission);
+    match interaction_of(alloc, decl, who) {
+        Ok(mut interaction) => Ok(asked(alloc, &mut interaction, permission)?),
         Err(WhoFault::Unknown(id)) => Ok(String::from_str(alloc, id.as_str())?),
         Err(WhoFault::Memory) => Err(Memory),
     }
@@ -237,22 +263,43 @@ fn many(alloc: Global, count: usize) -> Result<String, AllocError> {
     format!(in alloc; "version = 1\npermissions = [{ids}]\nprincipal.bob.allow = [{held}]\n")
 }
 
-/// How many of the permissions are decided as `has` does, each asked twice, and how many answers are
-/// kept in the end.
-pub fn decided(alloc: Global, count: usize) -> Result<(usize, usize), Memory> {
+/// How many of the permissions, of which there are as many as the first part says, are decided as `has` does, each
+/// asked twice, and how many answers are kept in the end.
+pub struct Decided;
+
+impl Question for Decided {
+    fn answer(&self, alloc: Global, parts: &[String]) -> Result<String, Fail> {
+        Ok(decisions(alloc, number(parts, 0) as usize)?)
+    }
+}
+
+fn decisions(alloc: Global, count: usize) -> Result<String, Memory> {
     let file = many(alloc, count)?;
-    let Ok(decl) = read(alloc, file.as_str()) else {
-        return Ok((0, 0));
-    };
-    let Ok(mut interaction) = interaction_of(alloc, &decl, "bob") else {
-        return Ok((0, 0));
-    };
+    match declared(alloc, file.as_str()) {
+        Ok(decl) => decisions_over(alloc, &decl),
+        Err(_) => Ok(String::from_str(alloc, "refused")?),
+    }
+}
+
+fn decisions_over(alloc: Global, decl: &Decl) -> Result<String, Memory> {
+    match interaction_of(alloc, decl, "bob") {
+        Ok(mut interaction) => {
+            let same = decided_twice(&mut interaction, decl.permissions().len());
+            let kept = interaction.kept();
+            Ok(format!(in alloc; "{same} decided, {kept} kept")?)
+        }
+        Err(_) => Ok(String::from_str(alloc, "unknown")?),
+    }
+}
+
+/// How many of so many permissions are decided twice as `has` does.
+fn decided_twice(interaction: &mut Interaction, count: usize) -> usize {
     let mut same: usize = 0;
-    for i in 0..decl.permissions().len() {
+    for i in 0..count {
         let has = interaction.has(Perm(i));
-        if is_decided_twice(&mut interaction, Perm(i), has) {
+        if is_decided_twice(interaction, Perm(i), has) {
             same = same.saturating_add(1);
         }
     }
-    Ok((same, interaction.kept()))
+    same
 }

@@ -1,7 +1,7 @@
 //! Interactions: who has which permission, and why.
 
-use crate::cases::{Question, differing};
-use crate::interaction_answers::{decided, first_difference_of_rules};
+use crate::interaction_answers::{Decided, Have, Why, are_decided_in_order};
+use rp_tests_cases::all_answer;
 use std::test::Fail;
 
 const LEAST: &str = r#"roles => zope.View => yes role m
@@ -26,33 +26,29 @@ groups => zope.Close => false true 1 1
 roles+zed+eve => zope.View => zed
 eve => zope.Public => eve"#;
 
+/// How many permissions there are but for `zope.Public`, how many are decided, and how many answers are kept.
+const KEPT: &str = r#"0 => 1 decided, 1 kept
+1 => 2 decided, 2 kept
+63 => 64 decided, 64 kept
+64 => 65 decided, 64 kept
+70 => 71 decided, 64 kept"#;
+
 #[test]
 fn the_first_rule_decides_in_every_order(rt: HostRuntime) -> Result<(), Fail> {
-    let found = first_difference_of_rules(rt.alloc())?;
-    assert_eq!(rt; found.as_str(), "");
-    Ok(())
+    are_decided_in_order(rt.alloc())
 }
 
 #[test]
 fn the_least_group_and_role_are_told(rt: HostRuntime) -> Result<(), Fail> {
-    let found = differing(rt.alloc(), Question::Why, LEAST)?;
-    assert_eq!(rt; found.as_str(), "");
-    Ok(())
+    all_answer(rt.alloc(), &Why, LEAST)
 }
 
 #[test]
 fn each_participation_has_to_have_it(rt: HostRuntime) -> Result<(), Fail> {
-    let found = differing(rt.alloc(), Question::Have, EACH)?;
-    assert_eq!(rt; found.as_str(), "");
-    Ok(())
+    all_answer(rt.alloc(), &Have, EACH)
 }
 
 #[test]
 fn the_last_64_answers_are_kept(rt: HostRuntime) -> Result<(), Fail> {
-    for (count, kept) in [(0, 1), (1, 2), (63, 64), (64, 64), (70, 64)] {
-        let (same, held) = decided(rt.alloc(), count)?;
-        assert_eq!(rt; same, count + 1, "{count} permissions");
-        assert_eq!(rt; held, kept, "{count} permissions");
-    }
-    Ok(())
+    all_answer(rt.alloc(), &Decided, KEPT)
 }

@@ -1,10 +1,9 @@
 //! What a declaration file gives, as text.
 
-use crate::cases::seed;
+use crate::declaration_answers::read;
 use rp_base::{Memory, Name, Names, Text};
-use rp_decl::{
-    ClassDecl, Decl, DeclFault, Field, GroupDecl, ObjectDecl, Perm, PrincipalDecl, declarations,
-};
+use rp_decl::{ClassDecl, Decl, DeclFault, Field, GroupDecl, ObjectDecl, Perm, PrincipalDecl};
+use rp_tests_cases::seed;
 use std::alloc::{AllocError, Global};
 
 fn word(names: &Names, name: Name) -> &str {
@@ -201,8 +200,13 @@ fn show(alloc: Global, decl: &Decl, names: &Names) -> Result<String, AllocError>
 /// What the bytes declare, or `refused`.
 pub fn shown(alloc: Global, bytes: &[u8]) -> Result<String, Memory> {
     let mut names = Names::new(alloc, seed())?;
-    match declarations(alloc, bytes, &mut names) {
-        Ok(decl) => Ok(show(alloc, &decl, &names)?),
+    shown_over(alloc, bytes, &mut names)
+}
+
+/// The same, with the names that the bytes are read into.
+fn shown_over(alloc: Global, bytes: &[u8], names: &mut Names) -> Result<String, Memory> {
+    match read(alloc, bytes, names) {
+        Ok(decl) => Ok(show(alloc, &decl, names)?),
         Err(DeclFault::Memory) => Err(Memory),
         Err(_) => Ok(String::from_str(alloc, "refused")?),
     }

@@ -1,9 +1,9 @@
 //! What a side gets of a value.
 
-use crate::cases::seed;
 use rp_base::{Oid, Rock, Side, Value};
 use rp_proxy::take;
 use rp_store::{Object, Store};
+use rp_tests_cases::{Question, number, part, seed};
 use std::alloc::Global;
 use std::test::Fail;
 
@@ -17,8 +17,17 @@ fn word_of(value: Value) -> &'static str {
     }
 }
 
-/// What a side gets of a rock, or of a plain reference to an object of an owner or a proxy of it.
-pub fn taken(alloc: Global, value: &str, owner: u32, side: u32) -> Result<String, Fail> {
+/// What the side of the third part gets of a rock, or of a plain reference or a proxy, as the first part says, to an
+/// object of the owner of the second.
+pub struct Taken;
+
+impl Question for Taken {
+    fn answer(&self, alloc: Global, parts: &[String]) -> Result<String, Fail> {
+        taken_by(alloc, part(parts, 0), number(parts, 1), number(parts, 2))
+    }
+}
+
+fn taken_by(alloc: Global, value: &str, owner: u32, side: u32) -> Result<String, Fail> {
     let mut store = Store::new(alloc, 1, seed());
     let at = store.make(Side(owner), Object::List(Vec::new(alloc)))?;
     let value = match value {

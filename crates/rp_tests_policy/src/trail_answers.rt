@@ -5,11 +5,12 @@ ghost use Rattle.std.specs.Bool.{OnTrue};
 ghost use Rattle.rp_decl.specs.Places.{IsHeld};
 ghost use Rattle.rp_trail.specs.View.{IsClassHeld, IsVerdictDeclared};
 
-use crate::cases::{after_word, first_word, seed};
 use crate::checker_answers::{name_of, op_of, tag_of};
+use crate::declaration_answers::read;
 use rp_base::{ClassTag, Memory, Name, Names, Op};
-use rp_decl::{Decl, Perm, Row, declarations};
+use rp_decl::{Decl, Perm, Row};
 use rp_store::{Store, StoreFault};
+use rp_tests_cases::{Question, after_word, first_word, number, part, seed};
 use rp_trail::{Entry, Trail, Verdict};
 use std::alloc::Global;
 use std::test::Fail;
@@ -91,13 +92,9 @@ fn verdict_of(words: &str) -> Verdict {
     }
 }
 
-/// The class of a word, and the name of another, where both are identifiers.
-fn named(
-    alloc: Global,
-    names: &mut Names,
-    class: &str,
-    word: &str,
-) -> Result<Option<(ClassTag, Name)>, Memory> {
+/// The class and the name in a text as `Folder.title`, where both are identifiers.
+fn named(alloc: Global, names: &mut Names, text: &str) -> Result<Option<(ClassTag, Name)>, Memory> {
+    let (class, word) = text.split_once('.').unwrap_or((text, ""));
     let Some(class_name) = name_of(alloc, names, class)? else {
         return Ok(None);
     };
@@ -141,19 +138,49 @@ fn line_of(
     Ok(Trail::line(alloc, i, "bob", &entry, decl, names)?)
 }
 
-/// The line of an entry at a place, where something as `get Folder.title` was done.
-pub fn told(alloc: Global, i: usize, what: &str, verdict: &str) -> Result<String, Fail> {
-    let kind = first_word(what);
-    let Some((class, word)) = after_word(what).split_once('.') else {
-        return Ok(String::from_str(alloc, "no words")?);
-    };
+/// The line of an entry at the place that is the first part, where what the second part says was done, as `get
+/// Folder.title`, with the verdict that is the third.
+pub struct Line;
+
+impl Question for Line {
+    fn answer(&self, alloc: Global, parts: &[String]) -> Result<String, Fail> {
+        let place = number(parts, 0) as usize;
+        told(alloc, place, part(parts, 1), part(parts, 2))
+    }
+}
+
+fn told(alloc: Global, i: usize, what: &str, verdict: &str) -> Result<String, Fail> {
     let mut names = Names::new(alloc, seed())?;
-    let Ok(decl) = declarations(alloc, DECLARATIONS.as_bytes(), &mut names) else {
-        return Ok(String::from_str(alloc, "no declarations")?);
-    };
-    let Some((class, name)) = named(alloc, &mut names, class, word)? else {
-        return Ok(String::from_str(alloc, "no name")?);
-    };
-    let deed = Deed { kind, class, name };
-    line_of(alloc, i, deed, verdict_of(verdict), &decl, &names)
+    told_with(alloc, i, what, verdict_of(verdict), &mut names)
+}
+
+/// The same, with the names that the declarations are read into.
+fn told_with(
+    alloc: Global,
+    i: usize,
+    what: &str,
+    verdict: Verdict,
+    names: &mut Names,
+) -> Result<String, Fail> {
+    match read(alloc, DECLARATIONS.as_bytes(), names) {
+        Ok(decl) => told_over(alloc, i, what, verdict, &decl, names),
+        Err(_) => Ok(String::from_str(alloc, "no declarations")?),
+    }
+}
+
+fn told_over(
+    alloc: Global,
+    i: usize,
+    what: &str,
+    verdict: Verdict,
+    decl: &Decl,
+    names: &mut Names,
+) -> Result<String, Fail> {
+    match named(alloc, names, after_word(what))? {
+        Some((class, name)) => {
+            let kind = first_word(what);
+            line_of(alloc, i, Deed { kind, class, name }, verdict, decl, names)
+        }
+        None => Ok(String::from_str(alloc, "no name")?),
+    }
 }

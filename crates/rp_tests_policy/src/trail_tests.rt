@@ -1,7 +1,7 @@
 //! The trail: what an entry costs, and its line.
 
-use crate::cases::{Question, differing};
-use crate::trail_answers::pushed;
+use crate::trail_answers::{Line, pushed};
+use rp_tests_cases::{all_answer, is_told};
 use std::test::Fail;
 
 /// The number before an entry's, what is done, the verdict, and the line.
@@ -24,23 +24,16 @@ const CLASSES: &str = r#"0 => get list.x => forbidden => 1 3 bob forbid get list
 #[test]
 fn an_entry_costs_a_cell(rt: HostRuntime) -> Result<(), Fail> {
     let told = pushed(rt.alloc(), 2, 3)?;
-    assert_eq!(rt;
-        told.as_str(),
-        "empty; 1 used, 1 entries; 2 used, 2 entries; no cell, 2 used, 2 entries; "
-    );
-    Ok(())
+    let wanted = "empty; 1 used, 1 entries; 2 used, 2 entries; no cell, 2 used, 2 entries; ";
+    is_told(rt.alloc(), "three entries", told.as_str(), wanted)
 }
 
 #[test]
 fn each_verdict_is_told(rt: HostRuntime) -> Result<(), Fail> {
-    let found = differing(rt.alloc(), Question::TrailLine, VERDICTS)?;
-    assert_eq!(rt; found.as_str(), "");
-    Ok(())
+    all_answer(rt.alloc(), &Line, VERDICTS)
 }
 
 #[test]
 fn each_class_and_operation_is_told(rt: HostRuntime) -> Result<(), Fail> {
-    let found = differing(rt.alloc(), Question::TrailLine, CLASSES)?;
-    assert_eq!(rt; found.as_str(), "");
-    Ok(())
+    all_answer(rt.alloc(), &Line, CLASSES)
 }

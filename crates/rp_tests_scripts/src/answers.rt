@@ -15,7 +15,7 @@ use rp_heights::height;
 use rp_parse::{ParseFault, parse};
 use rp_program::read_text;
 use rp_token::{Token, TokenFault, TokenKind, tokens};
-use rp_tree::Tree;
+use rp_tree::{Expr, Params, Target, Tree};
 use std::alloc::{AllocError, Global};
 use std::test::Fail;
 
@@ -190,59 +190,95 @@ fn is_end(tokens: &[Token]) -> bool {
     }
 }
 
-fn expression(alloc: Global, text: &str) -> Result<String, Fail> {
-    let mut names = new_names(alloc)?;
+/// The expression that the tokens are, none where they are something else.
+fn whole_expr(alloc: Global, tokens: &[Token]) -> Option<Expr> {
+    match expr(alloc, tokens, DEPTH) {
+        Ok((expr, rest)) if is_end(rest) => Some(expr),
+        _ => None,
+    }
+}
+
+fn whole_list(alloc: Global, tokens: &[Token]) -> Option<Expr> {
+    match expr_list(alloc, tokens, DEPTH) {
+        Ok((expr, rest)) if is_end(rest) => Some(expr),
+        _ => None,
+    }
+}
+
+fn whole_target(alloc: Global, tokens: &[Token]) -> Option<Target> {
+    match target(alloc, tokens, DEPTH) {
+        Ok((target, rest)) if is_end(rest) => Some(target),
+        _ => None,
+    }
+}
+
+fn whole_params(alloc: Global, tokens: &[Token]) -> Option<Params> {
+    match params(alloc, tokens, DEPTH) {
+        Ok((params, rest)) if is_end(rest) => Some(params),
+        _ => None,
+    }
+}
+
+fn expr_text(alloc: Global, names: &Names, expr: Option<Expr>) -> Result<String, Fail> {
     let mut out = String::new(alloc);
-    let Ok(found) = read(alloc, text, &mut names) else {
-        return spelled(alloc, "-");
-    };
-    match expr(alloc, found.as_slice(), DEPTH) {
-        Ok((expr, rest)) if is_end(rest) => show_expr(&mut out, &names, &expr)?,
-        _ => out.push('-')?,
+    match expr {
+        Some(expr) => show_expr(&mut out, names, &expr)?,
+        None => out.push('-')?,
     }
     Ok(out)
+}
+
+fn target_text(alloc: Global, names: &Names, target: Option<Target>) -> Result<String, Fail> {
+    let mut out = String::new(alloc);
+    match target {
+        Some(target) => show_target(&mut out, names, &target)?,
+        None => out.push('-')?,
+    }
+    Ok(out)
+}
+
+fn params_text(alloc: Global, names: &Names, params: Option<Params>) -> Result<String, Fail> {
+    let mut out = String::new(alloc);
+    match params {
+        Some(params) => show_params(&mut out, names, &params)?,
+        None => out.push('-')?,
+    }
+    Ok(out)
+}
+
+fn expression(alloc: Global, text: &str) -> Result<String, Fail> {
+    let mut names = new_names(alloc)?;
+    match read(alloc, text, &mut names) {
+        Ok(found) => expr_text(alloc, &names, whole_expr(alloc, found.as_slice())),
+        Err(_) => spelled(alloc, "-"),
+    }
 }
 
 fn is_expression(alloc: Global, text: &str) -> Result<String, Fail> {
     let mut names = new_names(alloc)?;
     let found = read(alloc, text, &mut names)?;
-    match expr(alloc, found.as_slice(), DEPTH) {
-        Ok((_, rest)) if is_end(rest) => spelled(alloc, "yes"),
-        _ => spelled(alloc, "no"),
+    match whole_expr(alloc, found.as_slice()) {
+        Some(_) => spelled(alloc, "yes"),
+        None => spelled(alloc, "no"),
     }
 }
 
 fn list(alloc: Global, text: &str) -> Result<String, Fail> {
     let mut names = new_names(alloc)?;
-    let mut out = String::new(alloc);
     let found = read(alloc, text, &mut names)?;
-    match expr_list(alloc, found.as_slice(), DEPTH) {
-        Ok((expr, rest)) if is_end(rest) => show_expr(&mut out, &names, &expr)?,
-        _ => out.push('-')?,
-    }
-    Ok(out)
+    expr_text(alloc, &names, whole_list(alloc, found.as_slice()))
 }
 
 fn shown_target(alloc: Global, text: &str) -> Result<String, Fail> {
     let mut names = new_names(alloc)?;
-    let mut out = String::new(alloc);
     let found = read(alloc, text, &mut names)?;
-    match target(alloc, found.as_slice(), DEPTH) {
-        Ok((target, rest)) if is_end(rest) => show_target(&mut out, &names, &target)?,
-        _ => out.push('-')?,
-    }
-    Ok(out)
+    target_text(alloc, &names, whole_target(alloc, found.as_slice()))
 }
 
 fn parameters(alloc: Global, text: &str) -> Result<String, Fail> {
     let mut names = new_names(alloc)?;
-    let mut out = String::new(alloc);
     let found = read(alloc, text, &mut names)?;
-    match params(alloc, found.as_slice(), DEPTH) {
-        Ok((params, rest)) if is_end(rest) => show_params(&mut out, &names, &params)?,
-        _ => out.push('-')?,
-    }
-    Ok(out)
+    params_text(alloc, &names, whole_params(alloc, found.as_slice()))
 }
 
 fn place(alloc: Global, text: &str) -> Result<String, Fail> {

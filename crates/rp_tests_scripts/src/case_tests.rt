@@ -2,7 +2,7 @@
 //! takes, as bench/grammar_cases.py shows; the lines of refusals, and the last table, are the grammar's own.
 
 use crate::answers::Question;
-use crate::cases::first_other;
+use crate::cases::all_answer;
 use std::test::Fail;
 
 const STATEMENTS_OF_PYTHON_ARE_READ: &str = "\
@@ -127,14 +127,12 @@ x = (1,␊2)
 /// Scripts that CPython takes too.
 #[test]
 fn statements_of_python_are_read(rt: HostRuntime) -> Result<(), Fail> {
-    let other = first_other(
+    all_answer(
         rt.alloc(),
         Question::Refusal,
         "0",
         STATEMENTS_OF_PYTHON_ARE_READ,
-    )?;
-    assert_eq!(rt; other.as_str(), "");
-    Ok(())
+    )
 }
 
 const WHAT_PYTHON_REFUSES_IS_REFUSED: &str = "\
@@ -247,14 +245,12 @@ for x in y:␊    if z:␊        w␊    else:␊        break break => 5
 /// Scripts that CPython refuses too, with the line of the grammar of this language.
 #[test]
 fn what_python_refuses_is_refused(rt: HostRuntime) -> Result<(), Fail> {
-    let other = first_other(
+    all_answer(
         rt.alloc(),
         Question::Refusal,
         "1",
         WHAT_PYTHON_REFUSES_IS_REFUSED,
-    )?;
-    assert_eq!(rt; other.as_str(), "");
-    Ok(())
+    )
 }
 
 const WHAT_IS_NO_FORM_OF_THE_LANGUAGE_IS_REFUSED: &str = "\
@@ -299,12 +295,10 @@ try: pass␊except:␊    def f(): raise => 3
 /// Scripts that CPython takes, of forms that this language leaves out.
 #[test]
 fn what_is_no_form_of_the_language_is_refused(rt: HostRuntime) -> Result<(), Fail> {
-    let other = first_other(
+    all_answer(
         rt.alloc(),
         Question::Refusal,
         "1",
         WHAT_IS_NO_FORM_OF_THE_LANGUAGE_IS_REFUSED,
-    )?;
-    assert_eq!(rt; other.as_str(), "");
-    Ok(())
+    )
 }

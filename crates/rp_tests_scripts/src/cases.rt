@@ -3,30 +3,29 @@
 //! between them; one that begins with a number and × is so many copies of what stands behind.
 
 use crate::answers::{Question, answer};
+use rp_tests_cases::is_told;
 use std::alloc::{AllocError, Global};
 use std::test::Fail;
 
-/// The first case that is answered otherwise, with its answer; nothing where there is none, and `no case` of no
-/// table. A case without `=>` has the usual answer.
-pub fn first_other(
-    alloc: Global,
-    question: Question,
-    usual: &str,
-    cases: &str,
-) -> Result<String, Fail> {
+/// Asks each case of a table. A case without `=>` has the usual answer. Fails with the first case that is answered
+/// otherwise, and its answer, and where there is no case.
+pub fn all_answer(alloc: Global, question: Question, usual: &str, cases: &str) -> Result<(), Fail> {
     if cases.is_empty() {
-        return Ok(String::from_str(alloc, "no case")?);
+        return Err(Fail::new("no case"));
     }
     for case in cases.lines() {
-        let (asked, expected) = case.split_once(" =>").unwrap_or((case, usual));
-        let found = answer(alloc, question, spelled_out(alloc, asked)?.as_str())?;
-        let expected = decoded(alloc, expected.strip_prefix(" ").unwrap_or(expected))?;
-        if found.as_str() != expected.as_str() {
-            let found = found.as_str();
-            return Ok(format!(in alloc; "{case} is answered by {found}")?);
-        }
+        is_answered(alloc, question, usual, case)?;
     }
-    Ok(String::new(alloc))
+    Ok(())
+}
+
+/// Asks a case.
+fn is_answered(alloc: Global, question: Question, usual: &str, case: &str) -> Result<(), Fail> {
+    let (asked, wanted) = case.split_once(" =>").unwrap_or((case, usual));
+    let asked = spelled_out(alloc, asked)?;
+    let wanted = decoded(alloc, wanted.strip_prefix(" ").unwrap_or(wanted))?;
+    let told = answer(alloc, question, asked.as_str())?;
+    is_told(alloc, case, told.as_str(), wanted.as_str())
 }
 
 /// The text that pieces stand for.

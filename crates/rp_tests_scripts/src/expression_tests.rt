@@ -1,7 +1,7 @@
 //! Tests of the grammar of expressions.
 
 use crate::answers::Question;
-use crate::cases::first_other;
+use crate::cases::all_answer;
 use std::test::Fail;
 
 const ATOMS_AND_DISPLAYS_ARE_READ: &str = "\
@@ -32,14 +32,12 @@ False => False
 
 #[test]
 fn atoms_and_displays_are_read(rt: HostRuntime) -> Result<(), Fail> {
-    let other = first_other(
+    all_answer(
         rt.alloc(),
         Question::Expression,
         "",
         ATOMS_AND_DISPLAYS_ARE_READ,
-    )?;
-    assert_eq!(rt; other.as_str(), "");
-    Ok(())
+    )
 }
 
 const TRAILERS_ARE_READ: &str = "\
@@ -66,9 +64,7 @@ a[(b, c)] => (a [(tuple b c)])
 
 #[test]
 fn trailers_are_read(rt: HostRuntime) -> Result<(), Fail> {
-    let other = first_other(rt.alloc(), Question::Expression, "", TRAILERS_ARE_READ)?;
-    assert_eq!(rt; other.as_str(), "");
-    Ok(())
+    all_answer(rt.alloc(), Question::Expression, "", TRAILERS_ARE_READ)
 }
 
 const OPERATORS_ARE_READ: &str = "\
@@ -99,9 +95,7 @@ a if b else c if d else e => (if b a (if d c e))
 
 #[test]
 fn operators_are_read(rt: HostRuntime) -> Result<(), Fail> {
-    let other = first_other(rt.alloc(), Question::Expression, "", OPERATORS_ARE_READ)?;
-    assert_eq!(rt; other.as_str(), "");
-    Ok(())
+    all_answer(rt.alloc(), Question::Expression, "", OPERATORS_ARE_READ)
 }
 
 const LAMBDAS_ARE_READ: &str = "\
@@ -118,9 +112,7 @@ x if y else lambda: z => (if y x (lambda : z))
 
 #[test]
 fn lambdas_are_read(rt: HostRuntime) -> Result<(), Fail> {
-    let other = first_other(rt.alloc(), Question::Expression, "", LAMBDAS_ARE_READ)?;
-    assert_eq!(rt; other.as_str(), "");
-    Ok(())
+    all_answer(rt.alloc(), Question::Expression, "", LAMBDAS_ARE_READ)
 }
 
 const EXPRESSION_LISTS_ARE_READ: &str = "\
@@ -137,9 +129,7 @@ x,, => -
 
 #[test]
 fn expression_lists_are_read(rt: HostRuntime) -> Result<(), Fail> {
-    let other = first_other(rt.alloc(), Question::List, "", EXPRESSION_LISTS_ARE_READ)?;
-    assert_eq!(rt; other.as_str(), "");
-    Ok(())
+    all_answer(rt.alloc(), Question::List, "", EXPRESSION_LISTS_ARE_READ)
 }
 
 const TARGETS_ARE_READ: &str = "\
@@ -158,9 +148,7 @@ x + y => -
 
 #[test]
 fn targets_are_read(rt: HostRuntime) -> Result<(), Fail> {
-    let other = first_other(rt.alloc(), Question::Target, "", TARGETS_ARE_READ)?;
-    assert_eq!(rt; other.as_str(), "");
-    Ok(())
+    all_answer(rt.alloc(), Question::Target, "", TARGETS_ARE_READ)
 }
 
 const PARAMETERS_ARE_READ: &str = "\
@@ -175,9 +163,7 @@ a b => -
 
 #[test]
 fn parameters_are_read(rt: HostRuntime) -> Result<(), Fail> {
-    let other = first_other(rt.alloc(), Question::Parameters, "", PARAMETERS_ARE_READ)?;
-    assert_eq!(rt; other.as_str(), "");
-    Ok(())
+    all_answer(rt.alloc(), Question::Parameters, "", PARAMETERS_ARE_READ)
 }
 
 const PLACES_ARE_FOUND: &str = "\
@@ -192,9 +178,7 @@ a[b:c] => -
 
 #[test]
 fn places_are_found(rt: HostRuntime) -> Result<(), Fail> {
-    let other = first_other(rt.alloc(), Question::Place, "", PLACES_ARE_FOUND)?;
-    assert_eq!(rt; other.as_str(), "");
-    Ok(())
+    all_answer(rt.alloc(), Question::Place, "", PLACES_ARE_FOUND)
 }
 
 const OTHER_TOKENS_ARE_REFUSED: &str = "\
@@ -266,14 +250,12 @@ lambda: (
 /// Refused by CPython's own parser too.
 #[test]
 fn other_tokens_are_refused(rt: HostRuntime) -> Result<(), Fail> {
-    let other = first_other(
+    all_answer(
         rt.alloc(),
         Question::Expression,
         "-",
         OTHER_TOKENS_ARE_REFUSED,
-    )?;
-    assert_eq!(rt; other.as_str(), "");
-    Ok(())
+    )
 }
 
 const OTHER_FORMS_OF_PYTHON_ARE_REFUSED: &str = "\
@@ -298,14 +280,12 @@ await x
 /// Forms of Python that are no forms of the language.
 #[test]
 fn other_forms_of_python_are_refused(rt: HostRuntime) -> Result<(), Fail> {
-    let other = first_other(
+    all_answer(
         rt.alloc(),
         Question::Expression,
         "-",
         OTHER_FORMS_OF_PYTHON_ARE_REFUSED,
-    )?;
-    assert_eq!(rt; other.as_str(), "");
-    Ok(())
+    )
 }
 
 const AN_EXPRESSION_HAS_THE_LINE_OF_ITS_FIRST_TOKEN: &str = "\
@@ -323,14 +303,12 @@ x => 1
 /// Parentheses that make no node have no line.
 #[test]
 fn an_expression_has_the_line_of_its_first_token(rt: HostRuntime) -> Result<(), Fail> {
-    let other = first_other(
+    all_answer(
         rt.alloc(),
         Question::Line,
         "",
         AN_EXPRESSION_HAS_THE_LINE_OF_ITS_FIRST_TOKEN,
-    )?;
-    assert_eq!(rt; other.as_str(), "");
-    Ok(())
+    )
 }
 
 const DEEP_AND_LONG_EXPRESSIONS_ARE_READ: &str = "\
@@ -350,7 +328,5 @@ x
 #[test]
 fn deep_and_long_expressions_are_read(rt: HostRuntime) -> Result<(), Fail> {
     let cases = DEEP_AND_LONG_EXPRESSIONS_ARE_READ;
-    let other = first_other(rt.alloc(), Question::IsExpression, "yes", cases)?;
-    assert_eq!(rt; other.as_str(), "");
-    Ok(())
+    all_answer(rt.alloc(), Question::IsExpression, "yes", cases)
 }

@@ -1,7 +1,7 @@
 //! Tests of the transformer: which guard each form of a script is handed to (RestrictedPython, transformer).
 
 use crate::answers::Question;
-use crate::cases::first_other;
+use crate::cases::all_answer;
 use std::test::Fail;
 
 /// Each guard field of the tree that runs. One of a call without stars is empty.
@@ -56,9 +56,7 @@ a < o.b <= c[0] is not None => GetAttr GetItem
 
 #[test]
 fn forms_have_their_guards(rt: HostRuntime) -> Result<(), Fail> {
-    let other = first_other(rt.alloc(), Question::Guards, "", FORMS_HAVE_THEIR_GUARDS)?;
-    assert_eq!(rt; other.as_str(), "");
-    Ok(())
+    all_answer(rt.alloc(), Question::Guards, "", FORMS_HAVE_THEIR_GUARDS)
 }
 
 /// The policy of names refuses these scripts, so that none of them is rewritten when it runs.
@@ -70,14 +68,12 @@ def f():␊ o.a.b += f(*x) => GetAttr Write Apply -
 
 #[test]
 fn augmented_parts_have_no_guard_of_their_own(rt: HostRuntime) -> Result<(), Fail> {
-    let other = first_other(
+    all_answer(
         rt.alloc(),
         Question::Guards,
         "",
         AUGMENTED_PARTS_HAVE_NO_GUARD_OF_THEIR_OWN,
-    )?;
-    assert_eq!(rt; other.as_str(), "");
-    Ok(())
+    )
 }
 
 /// Whether nothing stands without its guard, before the transformer and after it.
@@ -111,12 +107,10 @@ o[0] -= 1 => no no
 
 #[test]
 fn what_is_transformed_stands_guarded(rt: HostRuntime) -> Result<(), Fail> {
-    let other = first_other(
+    all_answer(
         rt.alloc(),
         Question::IsGuarded,
         "no yes",
         WHAT_IS_TRANSFORMED_STANDS_GUARDED,
-    )?;
-    assert_eq!(rt; other.as_str(), "");
-    Ok(())
+    )
 }

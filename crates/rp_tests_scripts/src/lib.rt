@@ -1,4 +1,4 @@
-//! Tests of the calls that read scripts: tokens, expressions, statements, trees, their guards and compiled scripts.
+//! Tests of the calls that read scripts: tokens, trees, their guards, the names of their code blocks, compiled scripts.
 #![tactic(auto)]
 
 #[cfg(test)]
@@ -8,17 +8,27 @@ mod case_tests;
 #[cfg(test)]
 mod cases;
 #[cfg(test)]
+mod compiled_tests;
+#[cfg(test)]
+mod expansion_tests;
+#[cfg(test)]
 mod expression_tests;
 #[cfg(test)]
 mod guard_tests;
 #[cfg(test)]
 mod marks;
 #[cfg(test)]
+mod scope_tests;
+#[cfg(test)]
 mod script_tests;
 #[cfg(test)]
 mod shown;
 #[cfg(test)]
+mod shown_compiled;
+#[cfg(test)]
 mod shown_guards;
+#[cfg(test)]
+mod shown_scopes;
 #[cfg(test)]
 mod shown_scripts;
 #[cfg(test)]

@@ -1,9 +1,10 @@
 //! Tests of the compiling of scripts.
 
 use crate::answers::{Question, compiled_bytes, new_names};
-use crate::cases::first_other;
+use crate::cases::all_answer;
 use rp_base::{Line, Names};
 use rp_first::{Refusal, compile_script, refusal_text};
+use rp_tests_cases::is_told;
 use rp_token::TokenFault;
 use std::alloc::Global;
 use std::test::Fail;
@@ -30,9 +31,7 @@ join = 10 => let join be number 10;
 
 #[test]
 fn scripts_have_their_trees(rt: HostRuntime) -> Result<(), Fail> {
-    let other = first_other(rt.alloc(), Question::Compiled, "", SCRIPTS_HAVE_THEIR_TREES)?;
-    assert_eq!(rt; other.as_str(), "");
-    Ok(())
+    all_answer(rt.alloc(), Question::Compiled, "", SCRIPTS_HAVE_THEIR_TREES)
 }
 
 const SPACING_COMMENTS_AND_LINE_ENDS_ARE_FREE: &str = "\
@@ -54,14 +53,12 @@ print(x)␍␍␊ => print x;
 
 #[test]
 fn spacing_comments_and_line_ends_are_free(rt: HostRuntime) -> Result<(), Fail> {
-    let other = first_other(
+    all_answer(
         rt.alloc(),
         Question::Compiled,
         "",
         SPACING_COMMENTS_AND_LINE_ENDS_ARE_FREE,
-    )?;
-    assert_eq!(rt; other.as_str(), "");
-    Ok(())
+    )
 }
 
 const OTHER_SPELLINGS_HAVE_THE_SAME_TREES: &str = "\
@@ -80,14 +77,12 @@ x = 1; print(x) => let x be number 1;print x;
 
 #[test]
 fn other_spellings_have_the_same_trees(rt: HostRuntime) -> Result<(), Fail> {
-    let other = first_other(
+    all_answer(
         rt.alloc(),
         Question::Compiled,
         "",
         OTHER_SPELLINGS_HAVE_THE_SAME_TREES,
-    )?;
-    assert_eq!(rt; other.as_str(), "");
-    Ok(())
+    )
 }
 
 const OTHER_FORMS_ARE_NOT_BUILT_YET: &str = "\
@@ -124,14 +119,12 @@ if True: pass
 
 #[test]
 fn other_forms_are_not_built_yet(rt: HostRuntime) -> Result<(), Fail> {
-    let other = first_other(
+    all_answer(
         rt.alloc(),
         Question::Compiled,
         "not yet",
         OTHER_FORMS_ARE_NOT_BUILT_YET,
-    )?;
-    assert_eq!(rt; other.as_str(), "");
-    Ok(())
+    )
 }
 
 const OTHER_NAMES_ARE_NOT_BUILT_YET: &str = "\
@@ -162,14 +155,12 @@ caf\u{e9} = 1
 
 #[test]
 fn other_names_are_not_built_yet(rt: HostRuntime) -> Result<(), Fail> {
-    let other = first_other(
+    all_answer(
         rt.alloc(),
         Question::Compiled,
         "not yet",
         OTHER_NAMES_ARE_NOT_BUILT_YET,
-    )?;
-    assert_eq!(rt; other.as_str(), "");
-    Ok(())
+    )
 }
 
 const TEXTS_WITHOUT_A_TREE_HAVE_A_LINE: &str = "\
@@ -196,14 +187,12 @@ return
 
 #[test]
 fn texts_without_a_tree_have_a_line(rt: HostRuntime) -> Result<(), Fail> {
-    let other = first_other(
+    all_answer(
         rt.alloc(),
         Question::Compiled,
         "line 1: syntax",
         TEXTS_WITHOUT_A_TREE_HAVE_A_LINE,
-    )?;
-    assert_eq!(rt; other.as_str(), "");
-    Ok(())
+    )
 }
 
 const TEXTS_WITHOUT_TOKENS_HAVE_A_FAULT: &str = "\
@@ -224,14 +213,17 @@ x = 'a\\q' => line 1: bad escape
 
 #[test]
 fn texts_without_tokens_have_a_fault(rt: HostRuntime) -> Result<(), Fail> {
-    let other = first_other(
+    all_answer(
         rt.alloc(),
         Question::Compiled,
         "",
         TEXTS_WITHOUT_TOKENS_HAVE_A_FAULT,
-    )?;
-    assert_eq!(rt; other.as_str(), "");
-    Ok(())
+    )
+}
+
+fn is_compiled(alloc: Global, bytes: &[u8], wanted: &str) -> Result<(), Fail> {
+    let told = compiled_bytes(alloc, bytes)?;
+    is_told(alloc, "bytes", told.as_str(), wanted)
 }
 
 #[test]
@@ -243,8 +235,7 @@ fn bytes_are_utf_8(rt: HostRuntime) -> Result<(), Fail> {
         (b"x = \xe2\x82", "byte 4: not UTF-8"),
         (b"x = 1 ? 2\xc0\x80", "byte 9: not UTF-8"),
     ] {
-        let found = compiled_bytes(rt.alloc(), bytes)?;
-        assert_eq!(rt; found.as_str(), expected);
+        is_compiled(rt.alloc(), bytes, expected)?;
     }
     Ok(())
 }
@@ -267,35 +258,41 @@ const SCRIPTS_HAVE_LIMITS: &str = "\
 
 #[test]
 fn scripts_have_limits(rt: HostRuntime) -> Result<(), Fail> {
-    let other = first_other(
+    all_answer(
         rt.alloc(),
         Question::CompileRefusal,
         "",
         SCRIPTS_HAVE_LIMITS,
-    )?;
-    assert_eq!(rt; other.as_str(), "");
-    Ok(())
+    )
 }
 
-/// How many words the names have after a script was compiled, or refused.
-fn held(alloc: Global, names: &mut Names, text: &str) -> usize {
-    let _ = compile_script(alloc, text.as_bytes(), names);
+/// How many words the names have after each of the scripts of some lines was compiled, or refused.
+fn held_after(alloc: Global, scripts: &str) -> Result<String, Fail> {
+    let mut names = new_names(alloc)?;
+    let mut told = String::new(alloc);
+    for script in scripts.lines() {
+        let count = held(alloc, &mut names, script);
+        write!(told, "{count} ")?;
+    }
+    Ok(told)
+}
+
+fn held(alloc: Global, names: &mut Names, script: &str) -> usize {
+    let _ = compile_script(alloc, script.as_bytes(), names);
     names.len()
 }
 
 #[test]
 fn names_grow_by_new_words_alone(rt: HostRuntime) -> Result<(), Fail> {
-    let mut names = new_names(rt.alloc())?;
-    assert_eq!(rt; held(rt.alloc(), &mut names, "x = y"), 61);
-    assert_eq!(rt; held(rt.alloc(), &mut names, "y = \u{ff58}"), 61);
-    assert_eq!(rt; held(rt.alloc(), &mut names, "z = 1 ?"), 62);
-    Ok(())
+    let scripts = "x = y\ny = \u{ff58}\nz = 1 ?";
+    let told = held_after(rt.alloc(), scripts)?;
+    is_told(rt.alloc(), scripts, told.as_str(), "61 61 62 ")
 }
 
-/// The line that tells a refusal behind a prefix.
-fn told_behind(alloc: Global, prefix: &str, refusal: Refusal) -> Result<String, Fail> {
+/// Asks for the line that tells a refusal behind a prefix.
+fn is_told_behind(alloc: Global, prefix: &str, refusal: Refusal, wanted: &str) -> Result<(), Fail> {
     let line = refusal_text(alloc, prefix, &refusal)?;
-    Ok(String::from_str(alloc, line.as_str())?)
+    is_told(alloc, "a refusal", line.as_str(), wanted)
 }
 
 #[test]
@@ -313,8 +310,7 @@ fn refusals_are_told_in_a_line(rt: HostRuntime) -> Result<(), Fail> {
         (Refusal::Syntax(Line(12)), "s\u{f6}: line 12: syntax\n"),
         (Refusal::NotYet, "s\u{f6}: not yet\n"),
     ] {
-        let found = told_behind(rt.alloc(), "s\u{f6}: ", refusal)?;
-        assert_eq!(rt; found.as_str(), line);
+        is_told_behind(rt.alloc(), "s\u{f6}: ", refusal, line)?;
     }
     Ok(())
 }

@@ -1,8 +1,9 @@
 //! Tests of the tokens of texts.
 
 use crate::answers::{Question, new_names};
-use crate::cases::{first_other, spelled_out};
+use crate::cases::{all_answer, spelled_out};
 use rp_base::Names;
+use rp_tests_cases::is_told;
 use rp_token::tokens;
 use std::alloc::Global;
 use std::test::Fail;
@@ -26,14 +27,12 @@ x)]␊ y => x ) ] NL IN y NL DE END
 
 #[test]
 fn lines_and_blocks_have_these_tokens(rt: HostRuntime) -> Result<(), Fail> {
-    let other = first_other(
+    all_answer(
         rt.alloc(),
         Question::Tokens,
         "",
         LINES_AND_BLOCKS_HAVE_THESE_TOKENS,
-    )?;
-    assert_eq!(rt; other.as_str(), "");
-    Ok(())
+    )
 }
 
 const NUMBERS_WORDS_AND_MARKS_ARE_THESE_TOKENS: &str = "\
@@ -50,14 +49,12 @@ a*** b... %&|^<>+- => a ** * b . . . % & | ^ < > + - NL END
 
 #[test]
 fn numbers_words_and_marks_are_these_tokens(rt: HostRuntime) -> Result<(), Fail> {
-    let other = first_other(
+    all_answer(
         rt.alloc(),
         Question::Tokens,
         "",
         NUMBERS_WORDS_AND_MARKS_ARE_THESE_TOKENS,
-    )?;
-    assert_eq!(rt; other.as_str(), "");
-    Ok(())
+    )
 }
 
 const LITERALS_STAND_FOR_THESE_TEXTS: &str = "\
@@ -77,14 +74,12 @@ const LITERALS_STAND_FOR_THESE_TEXTS: &str = "\
 
 #[test]
 fn literals_stand_for_these_texts(rt: HostRuntime) -> Result<(), Fail> {
-    let other = first_other(
+    all_answer(
         rt.alloc(),
         Question::Literal,
         "",
         LITERALS_STAND_FOR_THESE_TEXTS,
-    )?;
-    assert_eq!(rt; other.as_str(), "");
-    Ok(())
+    )
 }
 
 const TEXTS_HAVE_THESE_FIRST_FAULTS: &str = "\
@@ -131,14 +126,12 @@ x␍␍y \\ => BadChar 3
 
 #[test]
 fn texts_have_these_first_faults(rt: HostRuntime) -> Result<(), Fail> {
-    let other = first_other(
+    all_answer(
         rt.alloc(),
         Question::Tokens,
         "",
         TEXTS_HAVE_THESE_FIRST_FAULTS,
-    )?;
-    assert_eq!(rt; other.as_str(), "");
-    Ok(())
+    )
 }
 
 /// 128 letters of two bytes each are 256 bytes.
@@ -154,9 +147,19 @@ const LIMITS_HOLD_WHERE_THEY_ARE_SAID: &str = "\
 #[test]
 fn limits_hold_where_they_are_said(rt: HostRuntime) -> Result<(), Fail> {
     let cases = LIMITS_HOLD_WHERE_THEY_ARE_SAID;
-    let other = first_other(rt.alloc(), Question::Count, "", cases)?;
-    assert_eq!(rt; other.as_str(), "");
-    Ok(())
+    all_answer(rt.alloc(), Question::Count, "", cases)
+}
+
+/// By how many the words of the names grow by the tokens of each of some texts, one a line.
+fn growths(alloc: Global, texts: &str) -> Result<String, Fail> {
+    let mut names = new_names(alloc)?;
+    let mut told = String::new(alloc);
+    for text in texts.lines() {
+        let before = names.len();
+        let count = held(alloc, &mut names, text)?.saturating_sub(before);
+        write!(told, "{count} ")?;
+    }
+    Ok(told)
 }
 
 /// How many words the names have after the tokens of a text were asked for.
@@ -168,13 +171,9 @@ fn held(alloc: Global, names: &mut Names, pieces: &str) -> Result<usize, Fail> {
 
 #[test]
 fn names_that_are_too_long_are_not_held(rt: HostRuntime) -> Result<(), Fail> {
-    let mut names = new_names(rt.alloc())?;
-    let before = names.len();
-    let with_longest = held(rt.alloc(), &mut names, "255×a")?;
-    assert_eq!(rt; with_longest.saturating_sub(before), 1);
-    assert_eq!(rt; held(rt.alloc(), &mut names, "256×a")?, with_longest);
-    assert_eq!(rt; held(rt.alloc(), &mut names, "128×\u{e9}")?, with_longest);
-    Ok(())
+    let texts = "255×a\n256×a\n128×\u{e9}";
+    let told = growths(rt.alloc(), texts)?;
+    is_told(rt.alloc(), texts, told.as_str(), "1 0 0 ")
 }
 
 /// Where the tokens of a text begin and end, and their lines.
@@ -191,12 +190,11 @@ fn places(alloc: Global, text: &str) -> Result<String, Fail> {
 
 #[test]
 fn tokens_have_these_places_and_lines(rt: HostRuntime) -> Result<(), Fail> {
-    let found = places(rt.alloc(), "\u{feff}if \u{e9}:\r\n  '''\n'''\r# c\n  \\\nx")?;
-    assert_eq!(rt;
-        found.as_str(),
-        "3-5 1;6-8 1;8-9 1;9-11 1;13-13 2;13-20 2;20-21 3;29-30 6;30-30 6;30-30 6;30-30 6;"
-    );
-    Ok(())
+    let text = "\u{feff}if \u{e9}:\r\n  '''\n'''\r# c\n  \\\nx";
+    let told = places(rt.alloc(), text)?;
+    let wanted =
+        "3-5 1;6-8 1;8-9 1;9-11 1;13-13 2;13-20 2;20-21 3;29-30 6;30-30 6;30-30 6;30-30 6;";
+    is_told(rt.alloc(), text, told.as_str(), wanted)
 }
 
 /// The lines of the tokens of a text.
@@ -213,7 +211,7 @@ fn lines(alloc: Global, text: &str) -> Result<String, Fail> {
 
 #[test]
 fn tokens_behind_joined_lines_have_these_lines(rt: HostRuntime) -> Result<(), Fail> {
-    let found = lines(rt.alloc(), "a:\n \\\n\\\r\n b\n\\\nc")?;
-    assert_eq!(rt; found.as_str(), "1 1 1 4 4 4 6 6 6 6 ");
-    Ok(())
+    let text = "a:\n \\\n\\\r\n b\n\\\nc";
+    let told = lines(rt.alloc(), text)?;
+    is_told(rt.alloc(), text, told.as_str(), "1 1 1 4 4 4 6 6 6 6 ")
 }

@@ -1,11 +1,12 @@
 //! Tests of the likeness, the copies and the heights of trees.
 
 use crate::answers::{Question, new_names, parsed};
-use crate::cases::{first_other, spelled_out};
+use crate::cases::{all_answer, spelled_out};
 use crate::marks::mark;
 use rp_base::Names;
 use rp_copies::{copy, same};
 use rp_heights::height;
+use rp_tests_cases::holds;
 use rp_tree::Tree;
 use std::alloc::Global;
 use std::test::Fail;
@@ -136,10 +137,9 @@ fn trees_that_differ_in_lines_alone_are_the_same(rt: HostRuntime) -> Result<(), 
     let mut names = new_names(rt.alloc())?;
     let left = trees(rt.alloc(), &mut names, "")?;
     let right = trees(rt.alloc(), &mut names, "␊␊")?;
-    assert_eq!(rt; left.len(), 77);
+    holds(left.len() == 77, "all scripts")?;
     for ((script, tree), other) in SCRIPTS.lines().zip(&left).zip(&right) {
-        assert!(rt; same(tree, other), "at {script}");
-        assert_eq!(rt; count_same(tree, &right), 1, "at {script}");
+        holds(same(tree, other) && count_same(tree, &right) == 1, script)?;
     }
     Ok(())
 }
@@ -163,8 +163,7 @@ fn a_copy_is_the_same_lines_included(rt: HostRuntime) -> Result<(), Fail> {
     let mut names = new_names(rt.alloc())?;
     let trees = trees(rt.alloc(), &mut names, "␊␊")?;
     for (script, tree) in SCRIPTS.lines().zip(&trees) {
-        assert!(rt; is_copied(rt.alloc(), tree)?, "at {script}");
-        assert_eq!(rt; line_of(tree), 3, "at {script}");
+        holds(is_copied(rt.alloc(), tree)? && line_of(tree) == 3, script)?;
     }
     Ok(())
 }
@@ -199,12 +198,10 @@ while a:␊ while a:␊  while a:␊   while a:␊    while a:␊     \
 
 #[test]
 fn trees_have_the_heights_of_the_rule(rt: HostRuntime) -> Result<(), Fail> {
-    let other = first_other(
+    all_answer(
         rt.alloc(),
         Question::Height,
         "",
         TREES_HAVE_THE_HEIGHTS_OF_THE_RULE,
-    )?;
-    assert_eq!(rt; other.as_str(), "");
-    Ok(())
+    )
 }

@@ -15,37 +15,56 @@ const CASES: &str = "
     f = lambda(); c = class C {index: f}; x = c {index: 7}; cells 1; side 2; get ~x count => AttributeError: count
 
     A method keeps its receiver plain.
-    f = lambda(); c = class C {index: f}; x = c {}; cells 1; side 2; m = get x index; m; owner m => bound(x, f); 1 | 1 cells
-    f = lambda(); c = class C {index: f}; x = c {}; cells 1; side 2; m = get ~x index; m; owner m => ~bound(x, f); 1 | 1 cells
+    f = lambda(); c = class C {index: f}; x = c {}; cells 1; side 2; m = get x index; m; owner m \
+        => bound(x, f); 1 | 1 cells
+    f = lambda(); c = class C {index: f}; x = c {}; cells 1; side 2; m = get ~x index; m; owner m \
+        => ~bound(x, f); 1 | 1 cells
 
     A new field costs a cell.
-    f = lambda(); c = class C {}; x = c {}; cells 0; side 2; give x index 8; get x index => stop cells; AttributeError: index
-    f = lambda(); c = class C {}; x = c {}; cells 0; side 2; give ~x index 8; get ~x index => stop cells; AttributeError: index
+    f = lambda(); c = class C {}; x = c {}; cells 0; side 2; give x index 8; get x index \
+        => stop cells; AttributeError: index
+    f = lambda(); c = class C {}; x = c {}; cells 0; side 2; give ~x index 8; get ~x index \
+        => stop cells; AttributeError: index
     f = lambda(); c = class C {}; x = c {}; cells 1; side 2; give x index 8; get x index => done; 8 | 1 cells
     f = lambda(); c = class C {}; x = c {}; cells 1; side 2; give ~x index 8; get ~x index => done; 8 | 1 cells
     f = lambda(); c = class C {}; x = c {index: 7}; cells 0; side 2; give x index 8; get x index => done; 8
     f = lambda(); c = class C {}; x = c {index: 7}; cells 0; side 2; give ~x index 8; get ~x index => done; 8
-    f = lambda(); c = class C {}; x = c {count: 7}; cells 0; side 2; give x index 8; get x index => stop cells; AttributeError: index
-    f = lambda(); c = class C {}; x = c {count: 7}; cells 0; side 2; give ~x index 8; get ~x index => stop cells; AttributeError: index
-    f = lambda(); c = class C {index: f}; x = c {count: 7}; cells 1; side 2; give x index 8; get x index => done; 8 | 1 cells
-    f = lambda(); c = class C {index: f}; x = c {count: 7}; cells 1; side 2; give ~x index 8; get ~x index => done; 8 | 1 cells
+    f = lambda(); c = class C {}; x = c {count: 7}; cells 0; side 2; give x index 8; get x index \
+        => stop cells; AttributeError: index
+    f = lambda(); c = class C {}; x = c {count: 7}; cells 0; side 2; give ~x index 8; get ~x index \
+        => stop cells; AttributeError: index
+    f = lambda(); c = class C {index: f}; x = c {count: 7}; cells 1; side 2; give x index 8; get x index \
+        => done; 8 | 1 cells
+    f = lambda(); c = class C {index: f}; x = c {count: 7}; cells 1; side 2; give ~x index 8; get ~x index \
+        => done; 8 | 1 cells
 
     Only fields are deleted.
-    f = lambda(); c = class C {}; x = c {index: 7}; cells 1; side 2; drop x index; get x index => done; AttributeError: index
-    f = lambda(); c = class C {}; x = c {index: 7}; cells 1; side 2; drop ~x index; get x index => done; AttributeError: index
-    f = lambda(); c = class C {index: f}; x = c {index: 7}; cells 1; side 2; drop x index; get x index => done; bound(x, f) | 1 cells
-    f = lambda(); c = class C {index: f}; x = c {index: 7}; cells 1; side 2; drop ~x index; get x index => done; bound(x, f) | 1 cells
-    f = lambda(); c = class C {index: f}; x = c {}; cells 1; side 2; drop x index; get x index => AttributeError: index; bound(x, f) | 1 cells
-    f = lambda(); c = class C {index: f}; x = c {}; cells 1; side 2; drop ~x index; get x index => AttributeError: index; bound(x, f) | 1 cells
-    f = lambda(); c = class C {}; x = c {count: 7}; cells 1; side 2; drop x index; get x index => AttributeError: index; AttributeError: index
-    f = lambda(); c = class C {}; x = c {count: 7}; cells 1; side 2; drop ~x index; get x index => AttributeError: index; AttributeError: index
+    f = lambda(); c = class C {}; x = c {index: 7}; cells 1; side 2; drop x index; get x index \
+        => done; AttributeError: index
+    f = lambda(); c = class C {}; x = c {index: 7}; cells 1; side 2; drop ~x index; get x index \
+        => done; AttributeError: index
+    f = lambda(); c = class C {index: f}; x = c {index: 7}; cells 1; side 2; drop x index; get x index \
+        => done; bound(x, f) | 1 cells
+    f = lambda(); c = class C {index: f}; x = c {index: 7}; cells 1; side 2; drop ~x index; get x index \
+        => done; bound(x, f) | 1 cells
+    f = lambda(); c = class C {index: f}; x = c {}; cells 1; side 2; drop x index; get x index \
+        => AttributeError: index; bound(x, f) | 1 cells
+    f = lambda(); c = class C {index: f}; x = c {}; cells 1; side 2; drop ~x index; get x index \
+        => AttributeError: index; bound(x, f) | 1 cells
+    f = lambda(); c = class C {}; x = c {count: 7}; cells 1; side 2; drop x index; get x index \
+        => AttributeError: index; AttributeError: index
+    f = lambda(); c = class C {}; x = c {count: 7}; cells 1; side 2; drop ~x index; get x index \
+        => AttributeError: index; AttributeError: index
 
     A reference got through a proxy is lent.
-    f = lambda(); c = class C {}; x = c {}; cells 1; side 2; give x index x; y = get x index; z = get ~x index; same x y; same ~x z; same x z => done; True; True; False | 1 cells
+    f = lambda(); c = class C {}; x = c {}; cells 1; side 2; give x index x; y = get x index; z = get ~x index; \
+        same x y; same ~x z; same x z => done; True; True; False | 1 cells
 
     Only instances take attributes.
-    f = lambda(); c = class C {index: f}; x = c {}; cells 1; side 2; give c index 8; drop c index; get c index => AttributeError: index; AttributeError: index; AttributeError: index
-    f = lambda(); c = class C {index: f}; x = c {}; cells 1; side 2; give ~c index 8; drop ~c index; get ~c index => AttributeError: index; AttributeError: index; AttributeError: index
+    f = lambda(); c = class C {index: f}; x = c {}; cells 1; side 2; give c index 8; drop c index; get c index \
+        => AttributeError: index; AttributeError: index; AttributeError: index
+    f = lambda(); c = class C {index: f}; x = c {}; cells 1; side 2; give ~c index 8; drop ~c index; get ~c index \
+        => AttributeError: index; AttributeError: index; AttributeError: index
     x = []; give x index 8; drop x index => AttributeError: index; AttributeError: index
     x = []; give ~x index 8; drop ~x index => AttributeError: index; AttributeError: index
     x = (); give x index 8; drop x index => AttributeError: index; AttributeError: index
@@ -66,10 +85,14 @@ const CASES: &str = "
     give len index 8; drop len index => AttributeError: index; AttributeError: index
 
     Classes functions and methods have no attributes.
-    f = lambda(); c = class C {index: f}; x = c {index: 7}; cells 9; side 2; get f index; get c index => AttributeError: index; AttributeError: index
-    f = lambda(); c = class C {index: f}; x = c {}; cells 9; side 2; m = get x index; get m index => AttributeError: index | 1 cells
-    f = lambda(); c = class C {index: f}; x = c {index: 7}; cells 9; side 2; get ~f index; get ~c index => AttributeError: index; AttributeError: index
-    f = lambda(); c = class C {index: f}; x = c {}; cells 9; side 2; m = get ~x index; get m index => AttributeError: index | 1 cells
+    f = lambda(); c = class C {index: f}; x = c {index: 7}; cells 9; side 2; get f index; get c index \
+        => AttributeError: index; AttributeError: index
+    f = lambda(); c = class C {index: f}; x = c {}; cells 9; side 2; m = get x index; get m index \
+        => AttributeError: index | 1 cells
+    f = lambda(); c = class C {index: f}; x = c {index: 7}; cells 9; side 2; get ~f index; get ~c index \
+        => AttributeError: index; AttributeError: index
+    f = lambda(); c = class C {index: f}; x = c {}; cells 9; side 2; m = get ~x index; get m index \
+        => AttributeError: index | 1 cells
 
     Methods are found by the kind.
     x = []; side 2; m = get x append; m; owner m => bound(x, append); 1 | 1 cells
@@ -208,12 +231,26 @@ const CASES: &str = "
     x = ''; side 2; get ~x __add__; objects => AttributeError: __add__; 0
 
     Rocks other than texts have no attributes.
-    get None count; get None append; get None args; get None real; get None __init__; get None __name__; get None __class__ => AttributeError: count; AttributeError: append; AttributeError: args; AttributeError: real; AttributeError: __init__; AttributeError: __name__; AttributeError: __class__
-    get True count; get True append; get True args; get True real; get True __init__; get True __name__; get True __class__ => AttributeError: count; AttributeError: append; AttributeError: args; AttributeError: real; AttributeError: __init__; AttributeError: __name__; AttributeError: __class__
-    get 7 count; get 7 append; get 7 args; get 7 real; get 7 __init__; get 7 __name__; get 7 __class__ => AttributeError: count; AttributeError: append; AttributeError: args; AttributeError: real; AttributeError: __init__; AttributeError: __name__; AttributeError: __class__
-    get KeyError('count') count; get KeyError('count') append; get KeyError('count') args; get KeyError('count') real; get KeyError('count') __init__; get KeyError('count') __name__; get KeyError('count') __class__ => AttributeError: count; AttributeError: append; AttributeError: args; AttributeError: real; AttributeError: __init__; AttributeError: __name__; AttributeError: __class__
-    get KeyError count; get KeyError append; get KeyError args; get KeyError real; get KeyError __init__; get KeyError __name__; get KeyError __class__ => AttributeError: count; AttributeError: append; AttributeError: args; AttributeError: real; AttributeError: __init__; AttributeError: __name__; AttributeError: __class__
-    get len count; get len append; get len args; get len real; get len __init__; get len __name__; get len __class__ => AttributeError: count; AttributeError: append; AttributeError: args; AttributeError: real; AttributeError: __init__; AttributeError: __name__; AttributeError: __class__
+    get None count; get None append; get None args; get None real; get None __init__; get None __name__; \
+        get None __class__ => AttributeError: count; AttributeError: append; AttributeError: args; \
+        AttributeError: real; AttributeError: __init__; AttributeError: __name__; AttributeError: __class__
+    get True count; get True append; get True args; get True real; get True __init__; get True __name__; \
+        get True __class__ => AttributeError: count; AttributeError: append; AttributeError: args; \
+        AttributeError: real; AttributeError: __init__; AttributeError: __name__; AttributeError: __class__
+    get 7 count; get 7 append; get 7 args; get 7 real; get 7 __init__; get 7 __name__; \
+        get 7 __class__ => AttributeError: count; AttributeError: append; AttributeError: args; AttributeError: real; \
+        AttributeError: __init__; AttributeError: __name__; AttributeError: __class__
+    get KeyError('count') count; get KeyError('count') append; get KeyError('count') args; \
+        get KeyError('count') real; get KeyError('count') __init__; get KeyError('count') __name__; \
+        get KeyError('count') __class__ => AttributeError: count; AttributeError: append; AttributeError: args; \
+        AttributeError: real; AttributeError: __init__; AttributeError: __name__; AttributeError: __class__
+    get KeyError count; get KeyError append; get KeyError args; get KeyError real; get KeyError __init__; \
+        get KeyError __name__; get KeyError __class__ => AttributeError: count; AttributeError: append; \
+        AttributeError: args; AttributeError: real; AttributeError: __init__; AttributeError: __name__; \
+        AttributeError: __class__
+    get len count; get len append; get len args; get len real; get len __init__; get len __name__; \
+        get len __class__ => AttributeError: count; AttributeError: append; AttributeError: args; \
+        AttributeError: real; AttributeError: __init__; AttributeError: __name__; AttributeError: __class__
 ";
 
 #[test]

@@ -1,5 +1,6 @@
 //! Tests of handlers, names and texts.
 use rp_base::{Kind, Memory, Name, Names, Printed, Seed, Text, identifier, is_kind};
+use rp_tests_cases::holds;
 use std::alloc::Global;
 use std::test::Fail;
 
@@ -46,16 +47,18 @@ const PLACES: [(&str, usize); 13] = [
 ];
 
 #[test]
-fn handlers_take_what_stands_under_them(rt: HostRuntime) {
+fn handlers_take_what_stands_under_them() -> Result<(), Fail> {
     for (kind, handler, is_taken) in HANDLERS {
-        assert_eq!(rt;
-            is_kind(kind, handler),
-            is_taken,
-            "{kind:?} under {handler:?}"
-        );
+        holds(is_kind(kind, handler) == is_taken, kind.as_str())?;
     }
-    assert_eq!(rt; Kind::Exception.as_str(), "Exception");
-    assert_eq!(rt; Kind::ForbiddenAttribute.as_str(), "ForbiddenAttribute");
+    Ok(())
+}
+
+#[test]
+fn kinds_have_words() -> Result<(), Fail> {
+    holds(Kind::Exception.as_str() == "Exception", "Exception")?;
+    let word = "ForbiddenAttribute";
+    holds(Kind::ForbiddenAttribute.as_str() == word, word)
 }
 
 /// Whether the word is interned at a place, and is found and told there.
@@ -70,59 +73,66 @@ fn is_at(names: &mut Names, alloc: Global, word: &str, place: usize) -> Result<b
     Ok(names.find(word) == Some(name) && names.text(Name(place)) == word)
 }
 
-/// The first of the words that is not at its place.
-fn misplaced(names: &mut Names, alloc: Global) -> Result<Option<&'static str>, Memory> {
+/// Asks whether each of the words is at its place.
+fn are_placed(names: &mut Names, alloc: Global) -> Result<(), Fail> {
     for (word, place) in PLACES {
-        if !is_at(names, alloc, word, place)? {
-            return Ok(Some(word));
-        }
+        holds(is_at(names, alloc, word, place)?, word)?;
     }
-    Ok(None)
+    Ok(())
 }
 
 #[test]
 fn names_keep_their_places_from_any_seed(rt: HostRuntime) -> Result<(), Fail> {
     let mut names = Names::new(rt.alloc(), Seed::from_bytes([7; 16]))?;
-    assert_eq!(rt; names.len(), 59);
-    assert!(rt; names.find("title").is_none());
-    assert_eq!(rt; misplaced(&mut names, rt.alloc())?, None);
-    assert_eq!(rt; names.len(), 61);
+    holds(
+        names.len() == 59 && names.find("title").is_none(),
+        "59 words",
+    )?;
+    are_placed(&mut names, rt.alloc())?;
+    holds(names.len() == 61, "61 words")?;
     names.rekey(Seed::from_bytes([9; 16]))?;
-    assert_eq!(rt; misplaced(&mut names, rt.alloc())?, None);
-    assert_eq!(rt; names.len(), 61);
-    Ok(())
+    are_placed(&mut names, rt.alloc())?;
+    holds(names.len() == 61, "61 words from another seed")
+}
+
+/// Asks whether a word, as a text, has so many characters, and whether they are ASCII.
+fn is_measured(alloc: Global, word: &str, length: usize, is_ascii: bool) -> Result<(), Fail> {
+    let text = Text::new(alloc, word)?;
+    let same = text.copy()?;
+    holds(text == same && text.is(word), word)?;
+    holds(
+        text.len() == length && text.ascii().is_some() == is_ascii,
+        word,
+    )
 }
 
 #[test]
 fn texts_are_measured(rt: HostRuntime) -> Result<(), Fail> {
-    for (word, length, is_ascii) in [("", 0, true), ("cafe", 4, true), ("caf\u{e9}", 4, false)] {
-        let text = Text::new(rt.alloc(), word)?;
-        assert_eq!(rt; text.len(), length, "{word}");
-        assert_eq!(rt; text.ascii().is_some(), is_ascii, "{word}");
-        assert!(rt; text == text.copy()? && text.is(word), "{word}");
-    }
-    Ok(())
+    is_measured(rt.alloc(), "", 0, true)?;
+    is_measured(rt.alloc(), "cafe", 4, true)?;
+    is_measured(rt.alloc(), "caf\u{e9}", 4, false)
 }
 
 #[test]
 fn texts_are_shared_and_compared(rt: HostRuntime) -> Result<(), Fail> {
     let text = Text::new(rt.alloc(), "caf\u{e9}")?;
     let same = text.copy()?;
+    holds(same.as_str() == "caf\u{e9}" && text == same, "a copy")?;
+    holds(text.is("caf\u{e9}") && !text.is("cafe\u{301}"), "a form")
+}
+
+#[test]
+fn texts_are_in_order(rt: HostRuntime) -> Result<(), Fail> {
+    let text = Text::new(rt.alloc(), "caf\u{e9}")?;
     let later = Text::new(rt.alloc(), "cafz\u{e9}")?;
-    assert_eq!(rt; same.as_str(), "caf\u{e9}");
-    assert!(rt; text == same);
-    assert!(rt; text.is("caf\u{e9}"));
-    assert!(rt; !text.is("cafe\u{301}"));
-    assert!(rt; later < text);
-    Ok(())
+    holds(later < text, "an order")
 }
 
 #[test]
 fn printed_texts_are_put_together(rt: HostRuntime) -> Result<(), Fail> {
     let mut printed = Printed::new(rt.alloc());
-    assert_eq!(rt; printed.as_str(), "");
+    holds(printed.as_str().is_empty(), "nothing")?;
     printed.add("caf\u{e9}")?;
     printed.add("\n")?;
-    assert_eq!(rt; printed.as_str(), "caf\u{e9}\n");
-    Ok(())
+    holds(printed.as_str() == "caf\u{e9}\n", "two texts")
 }

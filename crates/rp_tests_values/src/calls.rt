@@ -5,11 +5,12 @@ use crate::live::live;
 use crate::words::refusal_of;
 use crate::world::World;
 use crate::{ops_calls as ops, store_calls as stored};
-use rp_base::{Oid, Rock, Side, UnOp, Value};
+use rp_base::{Name, Oid, Rock, Side, UnOp, Value};
 use rp_compare::equal;
 use rp_ops::{Sequence, charge, charge_copies, handed, new_text, raised, step, steps};
 use rp_show::{show, shown_inside};
-use rp_store::key_of;
+use rp_store::{Store, key_of};
+use std::alloc::Global;
 
 const CALLS: [&str; 66] = [
     "step",
@@ -157,19 +158,32 @@ fn of_one(world: &mut World, verb: &str, a: &Value) -> Result<Answer, Fault> {
     if let Some(answer) = cost(world, verb, a)? {
         return Ok(answer);
     }
+    if let Some(op) = unary_of(verb) {
+        return ops::on_one(world.alloc, &world.store, op, a);
+    }
     match verb {
-        "neg" => ops::on_one(world.alloc, &world.store, UnOp::Neg, a),
-        "pos" => ops::on_one(world.alloc, &world.store, UnOp::Pos, a),
-        "invert" => ops::on_one(world.alloc, &world.store, UnOp::Invert, a),
         "truth" => ops::truth_of(&world.store, a),
         "operand" => ops::operand(&world.store, a),
         "walk" => ops::walk(world, a),
         "add_list" => ops::added(world, Sequence::List, a),
         "add_tuple" => ops::added(world, Sequence::Tuple, a),
-        "handed" => Ok(Answer::Value(handed(a, false)?)),
-        "handed_lent" => Ok(Answer::Value(handed(a, true)?)),
+        "handed" => handed_on(a, false),
+        "handed_lent" => handed_on(a, true),
         _ => told_of(world, verb, a),
     }
+}
+
+fn unary_of(verb: &str) -> Option<UnOp> {
+    match verb {
+        "neg" => Some(UnOp::Neg),
+        "pos" => Some(UnOp::Pos),
+        "invert" => Some(UnOp::Invert),
+        _ => None,
+    }
+}
+
+fn handed_on(a: &Value, is_lent: bool) -> Result<Answer, Fault> {
+    Ok(Answer::Value(handed(a, is_lent)?))
 }
 
 /// Sets the cells and steps that there are, or the side.
@@ -196,25 +210,52 @@ fn cost(world: &mut World, verb: &str, a: &Value) -> Result<Option<Answer>, Faul
 }
 
 fn told_of(world: &mut World, verb: &str, a: &Value) -> Result<Answer, Fault> {
+    match verb {
+        "show" => shown(world, a),
+        "inside" => inside(world.alloc, a),
+        "key" => key(a),
+        "new_text" | "new_character" | "refuse" => of_word(world, verb, word(a)?),
+        _ => of_place(&mut world.store, verb, place(a)?),
+    }
+}
+
+fn shown(world: &mut World, a: &Value) -> Result<Answer, Fault> {
+    let (store, meter) = (&mut world.store, &mut world.meter);
+    Ok(Answer::Shown(show(world.alloc, store, meter, &world.names, a)?))
+}
+
+fn inside(alloc: Global, a: &Value) -> Result<Answer, Fault> {
+    match a {
+        Value::Rock(rock) => Ok(Answer::Shown(shown_inside(alloc, rock)?)),
+        _ => Err(Fault::Unread),
+    }
+}
+
+/// The calls on a word.
+fn of_word(world: &mut World, verb: &str, word: &str) -> Result<Answer, Fault> {
     let (alloc, store) = (world.alloc, &mut world.store);
     match verb {
-        "show" => Ok(Answer::Shown(show(alloc, store, &mut world.meter, &world.names, a)?)),
-        "inside" => match a {
-            Value::Rock(rock) => Ok(Answer::Shown(shown_inside(alloc, rock)?)),
-            _ => Err(Fault::Unread),
-        },
-        "new_text" => Ok(Answer::Value(new_text(alloc, store, word(a)?)?)),
-        "new_character" => ops::character(alloc, store, word(a)?),
-        "refuse" => match refusal_of(word(a)?) {
-            Some(refusal) => Err(Fault::End(refusal.end(alloc))),
-            None => Err(Fault::Unread),
-        },
-        "owner" => stored::owner(store, place(a)?),
-        "tag" => stored::tag(store, place(a)?),
-        "key" => key(a),
-        "class_of" => stored::class_of(store, place(a)?),
-        "len_of" => stored::len_of(store, place(a)?),
-        "clear_methods" => stored::clear_methods(store, place(a)?),
+        "new_text" => Ok(Answer::Value(new_text(alloc, store, word)?)),
+        "new_character" => ops::character(alloc, store, word),
+        _ => refused(alloc, word),
+    }
+}
+
+fn refused(alloc: Global, word: &str) -> Result<Answer, Fault> {
+    match refusal_of(word) {
+        Some(refusal) => Err(Fault::End(refusal.end(alloc))),
+        None => Err(Fault::Unread),
+    }
+}
+
+/// The calls on an object.
+fn of_place(store: &mut Store, verb: &str, at: Oid) -> Result<Answer, Fault> {
+    match verb {
+        "owner" => stored::owner(store, at),
+        "tag" => stored::tag(store, at),
+        "class_of" => stored::class_of(store, at),
+        "len_of" => stored::len_of(store, at),
+        "clear_methods" => stored::clear_methods(store, at),
         _ => Err(Fault::Unread),
     }
 }
@@ -238,15 +279,53 @@ fn of_two(world: &mut World, verb: &str, a: &Value, b: &Value) -> Result<Answer,
         "wrap" => ops::wrap(world, count(a)?, b),
         "item" => ops::read_item(alloc, store, a, b),
         "delete" => ops::delete_item(alloc, store, a, b),
-        "entry" => stored::entry(store, place(a)?, b),
-        "push" => stored::push(store, place(a)?, b),
-        "extend" => stored::extend(alloc, store, place(a)?, place(b)?),
-        "elements" => stored::set_elements(alloc, store, place(a)?, place(b)?),
-        "set_methods" => stored::set_methods(alloc, store, place(a)?, place(b)?),
-        "element" => stored::element(store, place(a)?, (count(b)? & 0xFFFF) as usize),
-        "remove_at" => stored::remove_at(store, place(a)?, (count(b)? & 0xFFFF) as usize),
-        "drop_key" => stored::drop_key(store, place(a)?, b),
-        "seek" => stored::seek(store, place(a)?, (count(b)? & 0xFFFF) as usize),
+        _ => on_place(alloc, store, verb, place(a)?, b),
+    }
+}
+
+/// The calls on an object and a value.
+fn on_place(
+    alloc: Global,
+    store: &mut Store,
+    verb: &str,
+    at: Oid,
+    b: &Value,
+) -> Result<Answer, Fault> {
+    match verb {
+        "entry" => stored::entry(store, at, b),
+        "push" => stored::push(store, at, b),
+        "drop_key" => stored::drop_key(store, at, b),
+        "element" | "remove_at" | "seek" => on_index(store, verb, at, index(b)?),
+        _ => on_two_places(alloc, store, verb, at, place(b)?),
+    }
+}
+
+/// The place in a list that a value is.
+fn index(value: &Value) -> Result<usize, Fault> {
+    Ok((count(value)? & 0xFFFF) as usize)
+}
+
+/// The calls on an object and a place in it.
+fn on_index(store: &mut Store, verb: &str, at: Oid, i: usize) -> Result<Answer, Fault> {
+    match verb {
+        "element" => stored::element(store, at, i),
+        "remove_at" => stored::remove_at(store, at, i),
+        _ => stored::seek(store, at, i),
+    }
+}
+
+/// The calls on two objects.
+fn on_two_places(
+    alloc: Global,
+    store: &mut Store,
+    verb: &str,
+    at: Oid,
+    from: Oid,
+) -> Result<Answer, Fault> {
+    match verb {
+        "extend" => stored::extend(alloc, store, at, from),
+        "elements" => stored::set_elements(alloc, store, at, from),
+        "set_methods" => stored::set_methods(alloc, store, at, from),
         _ => Err(Fault::Unread),
     }
 }
@@ -268,15 +347,26 @@ fn on_attribute(
         return Ok(None);
     }
     let name = world.name(word(b)?)?;
+    Ok(Some(of_name(world, verb, a, name)?))
+}
+
+fn of_name(world: &mut World, verb: &str, a: &Value, name: Name) -> Result<Answer, Fault> {
     let (alloc, store) = (world.alloc, &mut world.store);
-    Ok(Some(match verb {
-        "get" => ops::get(alloc, store, &world.names, world.side, a, name)?,
-        "drop" => ops::drop_attribute(alloc, store, &world.names, a, name)?,
-        "field" => stored::field(store, place(a)?, name)?,
-        "method_of" => stored::method_of(store, place(a)?, name)?,
-        "method" => stored::method(store, place(a)?, name)?,
-        _ => stored::drop_field(store, place(a)?, name)?,
-    }))
+    match verb {
+        "get" => ops::get(alloc, store, &world.names, world.side, a, name),
+        "drop" => ops::drop_attribute(alloc, store, &world.names, a, name),
+        _ => of_part(store, verb, place(a)?, name),
+    }
+}
+
+/// The calls on an object and the name of a field or method.
+fn of_part(store: &mut Store, verb: &str, at: Oid, name: Name) -> Result<Answer, Fault> {
+    match verb {
+        "field" => stored::field(store, at, name),
+        "method_of" => stored::method_of(store, at, name),
+        "method" => stored::method(store, at, name),
+        _ => stored::drop_field(store, at, name),
+    }
 }
 
 /// Raises an exception of a kind with a text.
@@ -297,33 +387,29 @@ fn of_three(
     c: &Value,
 ) -> Result<Answer, Fault> {
     match verb {
-        "give" => {
-            let name = world.name(word(b)?)?;
-            ops::give(world.alloc, &mut world.store, &world.names, a, name, c)
-        }
-        "set_field" => {
-            let name = world.name(word(b)?)?;
-            stored::set_field(&mut world.store, place(a)?, name, c)
-        }
-        "set_method" => {
-            let name = world.name(word(b)?)?;
-            stored::set_method(&mut world.store, place(a)?, name, place(c)?)
-        }
         "live" => live(world, a, place(b)?, c),
-        "copies" => {
-            charge_copies(&mut world.store, count(a)?, count(b)?, count(c)?)?;
-            Ok(Answer::Word("done"))
-        }
+        "copies" => copied(&mut world.store, count(a)?, count(b)?, count(c)?),
         "set" => ops::store_item(world.alloc, &mut world.store, a, b, c),
         "put" => stored::put(&mut world.store, place(a)?, b, c),
-        "insert" => {
-            let i = (count(b)? & 0xFFFF) as usize;
-            stored::insert(&mut world.store, place(a)?, i, c)
-        }
-        "set_at" => {
-            let i = (count(b)? & 0xFFFF) as usize;
-            stored::set_at(&mut world.store, place(a)?, i, c)
-        }
+        "insert" => stored::insert(&mut world.store, place(a)?, index(b)?, c),
+        "set_at" => stored::set_at(&mut world.store, place(a)?, index(b)?, c),
+        "give" | "set_field" | "set_method" => named(world, verb, a, word(b)?, c),
         _ => Err(Fault::Unread),
+    }
+}
+
+fn copied(store: &mut Store, a: u64, b: u64, c: u64) -> Result<Answer, Fault> {
+    charge_copies(store, a, b, c)?;
+    Ok(Answer::Word("done"))
+}
+
+/// The calls that give an attribute, a field or a method.
+fn named(world: &mut World, verb: &str, a: &Value, word: &str, c: &Value) -> Result<Answer, Fault> {
+    let name = world.name(word)?;
+    let store = &mut world.store;
+    match verb {
+        "give" => ops::give(world.alloc, store, &world.names, a, name, c),
+        "set_field" => stored::set_field(store, place(a)?, name, c),
+        _ => stored::set_method(store, place(a)?, name, place(c)?),
     }
 }

@@ -52,17 +52,26 @@ const CASES: &str = "
     ValueError('a') == ValueError => False
 
     Other rocks are equal to themselves.
-    None == None; None == 0; KeyError == KeyError; KeyError == IndexError; len == len; len == str => True; False; True; False; True; False
+    None == None; None == 0; KeyError == KeyError; KeyError == IndexError; len == len; len == str \
+        => True; False; True; False; True; False
 
     Other kinds have no order.
-    None < None; 1 < '1'; [1] < [2]; (1,) < (2,) => TypeError: operand; TypeError: operand; TypeError: operand; TypeError: operand
-    KeyError < KeyError; len < len; {} < {}; KeyError('a') < KeyError('b') => TypeError: operand; TypeError: operand; TypeError: operand; TypeError: operand
-    None <= None; 1 <= '1'; [1] <= [2]; (1,) <= (2,) => TypeError: operand; TypeError: operand; TypeError: operand; TypeError: operand
-    KeyError <= KeyError; len <= len; {} <= {}; KeyError('a') <= KeyError('b') => TypeError: operand; TypeError: operand; TypeError: operand; TypeError: operand
-    None > None; 1 > '1'; [1] > [2]; (1,) > (2,) => TypeError: operand; TypeError: operand; TypeError: operand; TypeError: operand
-    KeyError > KeyError; len > len; {} > {}; KeyError('a') > KeyError('b') => TypeError: operand; TypeError: operand; TypeError: operand; TypeError: operand
-    None >= None; 1 >= '1'; [1] >= [2]; (1,) >= (2,) => TypeError: operand; TypeError: operand; TypeError: operand; TypeError: operand
-    KeyError >= KeyError; len >= len; {} >= {}; KeyError('a') >= KeyError('b') => TypeError: operand; TypeError: operand; TypeError: operand; TypeError: operand
+    None < None; 1 < '1'; [1] < [2]; (1,) < (2,) \
+        => TypeError: operand; TypeError: operand; TypeError: operand; TypeError: operand
+    KeyError < KeyError; len < len; {} < {}; KeyError('a') < KeyError('b') \
+        => TypeError: operand; TypeError: operand; TypeError: operand; TypeError: operand
+    None <= None; 1 <= '1'; [1] <= [2]; (1,) <= (2,) \
+        => TypeError: operand; TypeError: operand; TypeError: operand; TypeError: operand
+    KeyError <= KeyError; len <= len; {} <= {}; KeyError('a') <= KeyError('b') \
+        => TypeError: operand; TypeError: operand; TypeError: operand; TypeError: operand
+    None > None; 1 > '1'; [1] > [2]; (1,) > (2,) \
+        => TypeError: operand; TypeError: operand; TypeError: operand; TypeError: operand
+    KeyError > KeyError; len > len; {} > {}; KeyError('a') > KeyError('b') \
+        => TypeError: operand; TypeError: operand; TypeError: operand; TypeError: operand
+    None >= None; 1 >= '1'; [1] >= [2]; (1,) >= (2,) \
+        => TypeError: operand; TypeError: operand; TypeError: operand; TypeError: operand
+    KeyError >= KeyError; len >= len; {} >= {}; KeyError('a') >= KeyError('b') \
+        => TypeError: operand; TypeError: operand; TypeError: operand; TypeError: operand
 
     A pair takes a step up to the first unequal one.
     [1, 2] == [1, 2] => True | 2 steps
@@ -91,8 +100,10 @@ const CASES: &str = "
     {1: [2]} == {1: [3]} => False | 2 steps
     {None: 1, 'k': 2} == {'k': 2, None: 1} => True | 2 steps
 
-    Other objects are equal to themselves. CPython compares bound methods by what they call and for what; here two objects that are no containers are unequal.
-    steps 0; x = bound(None, append); y = bound(None, append); x == y; x != y; x == x; ~x == x => False; True; True; True
+    Other objects are equal to themselves. CPython compares bound methods by what they call and for what; here two \
+        objects that are no containers are unequal.
+    steps 0; x = bound(None, append); y = bound(None, append); x == y; x != y; x == x; ~x == x \
+        => False; True; True; True
     x = lambda(); y = lambda(); x == y; x == x => False; True
     c = class C {}; x = c {}; y = c {}; x == y; x == x; x == ~x => False; True; True
 
@@ -156,7 +167,8 @@ const CASES: &str = "
     steps 0; 'a' in '' => False
     steps 0; 'é' in 'née' => True
     steps 0; '𐀀' in 'a𐀀b' => True
-    1 in 'a'; 'a' in 1; None in None; 1 in KeyError => TypeError: operand; TypeError: operand; TypeError: operand; TypeError: operand
+    1 in 'a'; 'a' in 1; None in None; 1 in KeyError \
+        => TypeError: operand; TypeError: operand; TypeError: operand; TypeError: operand
     x = lambda(); 1 in x => TypeError: operand
 ";
 

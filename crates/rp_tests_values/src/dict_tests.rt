@@ -1,39 +1,30 @@
-//! Dicts alone, of few pairs and of many.
+//! Dicts alone, of few pairs and of many: a case is steps on a dict, and what they answer.
 
 use crate::world::seed;
 use rp_dict::Dict;
+use rp_tests_cases::{Question, after_word, all_answer, first_word, number, part};
 use std::alloc::{AllocError, Global};
 use std::test::Fail;
 
-/// The pairs in order, as `KEY=VALUE` with a blank after each.
-fn shown(alloc: Global, dict: &Dict<u32, u32>) -> Result<String, AllocError> {
-    let mut text = String::new(alloc);
-    for i in 0..dict.len() {
-        if let Some((key, value)) = dict.at(i) {
-            write!(text, "{key}={value} ")?;
+/// What the steps of the second part answer on a dict of the keys from 1 to the first part, each with ten times itself
+/// as its value.
+struct Steps;
+
+impl Question for Steps {
+    fn answer(&self, alloc: Global, parts: &[String]) -> Result<String, Fail> {
+        let mut dict = begun(alloc, number(parts, 0))?;
+        let mut told = String::new(alloc);
+        for step in part(parts, 1).split("; ") {
+            take(&mut dict, &mut told, step)?;
         }
+        Ok(String::from_str(alloc, told.as_str().trim())?)
     }
-    Ok(text)
 }
 
-/// The pairs of a dict after the keys were given these values, or taken out where there is none.
-fn changed(alloc: Global, changes: &[(u32, Option<u32>)]) -> Result<String, AllocError> {
-    let mut dict = Dict::new(alloc, seed());
-    for (key, value) in changes {
-        match value {
-            Some(value) => {
-                dict.set(*key, *value)?;
-            }
-            None => {
-                dict.remove(key);
-            }
-        }
+fn begun(alloc: Global, count: u32) -> Result<Dict<u32, u32>, AllocError> {
+    if count == 0 {
+        return Ok(Dict::new(alloc, seed()));
     }
-    shown(alloc, &dict)
-}
-
-/// A dict of the keys 1 to `count`, each with ten times itself as its value.
-fn tens(alloc: Global, count: u32) -> Result<Dict<u32, u32>, AllocError> {
     let mut dict = Dict::with_capacity(alloc, 3, seed())?;
     for key in 1..=count {
         dict.set(key, key.wrapping_mul(10))?;
@@ -41,122 +32,157 @@ fn tens(alloc: Global, count: u32) -> Result<Dict<u32, u32>, AllocError> {
     Ok(dict)
 }
 
-#[test]
-fn pairs_keep_the_order_of_insertion(rt: HostRuntime) -> Result<(), Fail> {
-    let alloc = rt.alloc();
-    assert_eq!(rt; changed(alloc, &[])?.as_str(), "");
-    let first_writing = [(3, Some(30)), (1, Some(10)), (3, Some(31)), (2, Some(20))];
-    assert_eq!(rt; changed(alloc, &first_writing)?.as_str(), "3=31 1=10 2=20 ");
-    let taken_out = [
-        (3, Some(30)),
-        (1, Some(10)),
-        (2, Some(20)),
-        (1, None),
-        (9, None),
-    ];
-    assert_eq!(rt; changed(alloc, &taken_out)?.as_str(), "3=30 2=20 ");
-    let put_again = [(3, Some(30)), (1, Some(10)), (3, None), (3, Some(33))];
-    assert_eq!(rt; changed(alloc, &put_again)?.as_str(), "1=10 3=33 ");
-    Ok(())
+/// Takes a step, and tells what it answers, with a blank behind.
+fn take(dict: &mut Dict<u32, u32>, told: &mut String, step: &str) -> Result<(), AllocError> {
+    let (verb, rest) = (first_word(step), after_word(step));
+    let (key, value) = (number_of(first_word(rest)), number_of(after_word(rest)));
+    match verb {
+        "set" => set(dict, told, key, value),
+        "push" => push(dict, key, value),
+        "get" => tell(told, dict.get(&key).copied()),
+        "remove" => tell(told, dict.remove(&key)),
+        "len" => tell(told, u32::try_from(dict.len()).ok()),
+        "show" => show(dict, told),
+        "walk" => walk(dict, told),
+        _ => look(dict, told, verb, key as usize),
+    }
 }
 
-#[test]
-fn many_pairs_are_as_few(rt: HostRuntime) -> Result<(), Fail> {
-    let alloc = rt.alloc();
-    let mut dict = tens(alloc, 12)?;
-    assert_eq!(rt; dict.len(), 12);
-    assert_eq!(rt; dict.set(2, 22)?, Some(20));
-    assert_eq!(rt; dict.remove(&5), Some(50));
-    assert_eq!(rt; dict.remove(&5), None);
-    assert_eq!(rt; dict.set(5, 55)?, None);
-    let text = shown(alloc, &dict)?;
-    assert_eq!(rt;
-        text.as_str(),
-        "1=10 2=22 3=30 4=40 6=60 7=70 8=80 9=90 10=100 11=110 12=120 5=55 "
-    );
-    assert_eq!(rt; dict.get(&12).copied(), Some(120));
-    assert_eq!(rt; dict.get(&13).copied(), None);
-    dict.clear();
-    assert_eq!(rt; shown(alloc, &dict)?.as_str(), "");
-    Ok(())
+fn number_of(text: &str) -> u32 {
+    text.parse::<u32>().unwrap_or(0)
 }
 
-#[test]
-fn answers_of_a_dict_of_one(rt: HostRuntime) -> Result<(), Fail> {
-    let alloc = rt.alloc();
-    let mut dict = Dict::new(alloc, seed());
-    assert!(rt; dict.is_empty());
-    assert_eq!(rt; dict.set(7u32, 70u32)?, None);
-    assert_eq!(rt; dict.set(7, 71)?, Some(70));
-    assert!(rt; !dict.is_empty());
-    assert_eq!(rt; dict.get(&7).copied(), Some(71));
-    assert_eq!(rt; dict.get(&8).copied(), None);
-    assert!(rt; dict.at(0).is_some());
-    assert!(rt; dict.at(1).is_none());
-    assert_eq!(rt; dict.remove(&7), Some(71));
-    assert_eq!(rt; dict.len(), 0);
-    Ok(())
+fn set(
+    dict: &mut Dict<u32, u32>,
+    told: &mut String,
+    key: u32,
+    value: u32,
+) -> Result<(), AllocError> {
+    let was = dict.set(key, value)?;
+    tell(told, was)
 }
 
-/// The pairs of a walk, as `KEY=VALUE` with a blank after each.
-fn walked(alloc: Global, dict: &Dict<u32, u32>) -> Result<String, AllocError> {
-    let mut text = String::new(alloc);
+/// Puts a pair at the end, where the key is not held.
+fn push(dict: &mut Dict<u32, u32>, key: u32, value: u32) -> Result<(), AllocError> {
+    if dict.get(&key).is_some() {
+        return Ok(());
+    }
+    dict.push(key, value)
+}
+
+fn tell(told: &mut String, answer: Option<u32>) -> Result<(), AllocError> {
+    match answer {
+        Some(number) => write!(told, "{number} "),
+        None => told.push_str("none "),
+    }
+}
+
+/// The pairs in order.
+fn show(dict: &Dict<u32, u32>, told: &mut String) -> Result<(), AllocError> {
+    told.push_str("[ ")?;
+    for i in 0..dict.len() {
+        if let Some((key, value)) = dict.at(i) {
+            write!(told, "{key}={value} ")?;
+        }
+    }
+    told.push_str("] ")
+}
+
+/// The pairs of a walk.
+fn walk(dict: &Dict<u32, u32>, told: &mut String) -> Result<(), AllocError> {
+    told.push_str("[ ")?;
     let mut walk = dict.walk();
     for _ in 0..dict.len() {
         if let Some((key, value)) = walk.next() {
-            write!(text, "{key}={value} ")?;
+            write!(told, "{key}={value} ")?;
         }
     }
-    Ok(text)
+    told.push_str("] ")
 }
+
+/// Whether a place has a pair, and whether there is none; or goes to a place, or takes all out.
+fn look(
+    dict: &mut Dict<u32, u32>,
+    told: &mut String,
+    verb: &str,
+    place: usize,
+) -> Result<(), AllocError> {
+    let word = match verb {
+        "at" => yes_or_no(dict.at(place).is_some()),
+        "empty" => yes_or_no(dict.is_empty()),
+        "seek" => {
+            dict.seek(place);
+            ""
+        }
+        "clear" => {
+            dict.clear();
+            ""
+        }
+        _ => "no step ",
+    };
+    told.push_str(word)
+}
+
+fn yes_or_no(is_so: bool) -> &'static str {
+    if is_so { "yes " } else { "no " }
+}
+
+const FEW: &str = r#"0 => show => [ ]
+0 => set 3 30; set 1 10; set 3 31; set 2 20; show => none none 30 none [ 3=31 1=10 2=20 ]
+0 => set 3 30; set 1 10; set 2 20; remove 1; remove 9; show => none none none 10 none [ 3=30 2=20 ]
+0 => set 3 30; set 1 10; remove 3; set 3 33; show => none none 30 none [ 1=10 3=33 ]
+0 => empty; set 7 70; set 7 71; empty; get 7; get 8; at 0; at 1; remove 7; len \
+    => yes none 70 no 71 none yes no 71 0"#;
+
+#[test]
+fn pairs_keep_the_order_of_insertion(rt: HostRuntime) -> Result<(), Fail> {
+    all_answer(rt.alloc(), &Steps, FEW)
+}
+
+const MANY: &str = r#"12 => len; set 2 22; remove 5; remove 5; set 5 55 => 12 20 50 none none
+12 => set 2 22; remove 5; set 5 55; show; get 12; get 13; clear; show \
+    => 20 50 none [ 1=10 2=22 3=30 4=40 6=60 7=70 8=80 9=90 10=100 11=110 12=120 5=55 ] 120 none [ ]"#;
+
+#[test]
+fn many_pairs_are_as_few(rt: HostRuntime) -> Result<(), Fail> {
+    all_answer(rt.alloc(), &Steps, MANY)
+}
+
+const WALKED: &str =
+    r#"12 => remove 1; remove 2; remove 3; remove 4; remove 5; remove 6; remove 7; remove 8; \
+    set 3 33; walk; seek 2; walk; show; len; remove 12; push 4 44; walk \
+    => 10 20 30 40 50 60 70 80 none [ 9=90 10=100 11=110 12=120 3=33 ] [ 9=90 10=100 11=110 12=120 3=33 ] \
+    [ 9=90 10=100 11=110 12=120 3=33 ] 5 120 [ 9=90 10=100 11=110 3=33 4=44 ]"#;
 
 #[test]
 fn a_walk_passes_over_what_was_taken_out(rt: HostRuntime) -> Result<(), Fail> {
-    let alloc = rt.alloc();
-    let mut dict = tens(alloc, 12)?;
-    for key in 1..9 {
-        dict.remove(&key);
-    }
-    dict.set(3, 33)?;
-    assert_eq!(rt;
-        walked(alloc, &dict)?.as_str(),
-        "9=90 10=100 11=110 12=120 3=33 "
-    );
-    dict.seek(2);
-    assert_eq!(rt;
-        walked(alloc, &dict)?.as_str(),
-        "9=90 10=100 11=110 12=120 3=33 "
-    );
-    assert_eq!(rt;
-        shown(alloc, &dict)?.as_str(),
-        "9=90 10=100 11=110 12=120 3=33 "
-    );
-    assert_eq!(rt; dict.len(), 5);
-    dict.remove(&12);
-    if dict.get(&4).is_none() {
-        dict.push(4, 44)?;
-    }
-    assert_eq!(rt;
-        walked(alloc, &dict)?.as_str(),
-        "9=90 10=100 11=110 3=33 4=44 "
-    );
-    Ok(())
+    all_answer(rt.alloc(), &Steps, WALKED)
 }
 
-/// What the value 7 of the key 1 becomes where the second part of a pair is set, and what that part was.
-fn second_set(
-    alloc: Global,
-    key: u32,
-) -> Result<(Option<(u32, u32)>, Result<u32, u32>), AllocError> {
+/// What comes of the value `7 8` of the key 1 where the second part of the value of a key, the first part, is set to 9.
+struct SecondSet;
+
+impl Question for SecondSet {
+    fn answer(&self, alloc: Global, parts: &[String]) -> Result<String, Fail> {
+        Ok(second_set(alloc, number(parts, 0))?)
+    }
+}
+
+fn second_set(alloc: Global, key: u32) -> Result<String, AllocError> {
     let mut dict = Dict::new(alloc, seed());
     dict.set(1u32, (7u32, 8u32))?;
     let was = dict.set_second(&key, 9);
-    Ok((dict.get(&1).copied(), was))
+    let (first, second) = dict.get(&1).copied().unwrap_or((0, 0));
+    match was {
+        Ok(was) => format!(in alloc; "{first} {second}, was {was}"),
+        Err(kept) => format!(in alloc; "{first} {second}, given back {kept}"),
+    }
 }
+
+const SECOND_PARTS: &str = r#"1 => 7 9, was 8
+2 => 7 8, given back 9"#;
 
 #[test]
 fn the_second_part_of_a_value_is_set_alone(rt: HostRuntime) -> Result<(), Fail> {
-    assert_eq!(rt; second_set(rt.alloc(), 1)?, (Some((7, 9)), Ok(8)));
-    assert_eq!(rt; second_set(rt.alloc(), 2)?, (Some((7, 8)), Err(9)));
-    Ok(())
+    all_answer(rt.alloc(), &SecondSet, SECOND_PARTS)
 }

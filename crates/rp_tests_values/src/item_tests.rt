@@ -54,13 +54,17 @@ const CASES: &str = "
     item None 0; set None 0 None; delete None 0 => TypeError: item; TypeError: item; TypeError: item
     item True 0; set True 0 None; delete True 0 => TypeError: item; TypeError: item; TypeError: item
     item 5 0; set 5 0 None; delete 5 0 => TypeError: item; TypeError: item; TypeError: item
-    item KeyError('abc') 0; set KeyError('abc') 0 None; delete KeyError('abc') 0 => TypeError: item; TypeError: item; TypeError: item
+    item KeyError('abc') 0; set KeyError('abc') 0 None; delete KeyError('abc') 0 \
+        => TypeError: item; TypeError: item; TypeError: item
     item KeyError 0; set KeyError 0 None; delete KeyError 0 => TypeError: item; TypeError: item; TypeError: item
     item len 0; set len 0 None; delete len 0 => TypeError: item; TypeError: item; TypeError: item
     set 'abc' 0 None; delete 'abc' 0 => TypeError: item; TypeError: item
-    x = bound(None, append); item x 0; set x 0 1; delete x 0; item ~x 0 => TypeError: item; TypeError: item; TypeError: item; TypeError: item
-    x = class C {}; item x 0; set x 0 1; delete x 0; item ~x 0 => TypeError: item; TypeError: item; TypeError: item; TypeError: item
-    x = lambda(); item x 0; set x 0 1; delete x 0; item ~x 0 => TypeError: item; TypeError: item; TypeError: item; TypeError: item
+    x = bound(None, append); item x 0; set x 0 1; delete x 0; item ~x 0 \
+        => TypeError: item; TypeError: item; TypeError: item; TypeError: item
+    x = class C {}; item x 0; set x 0 1; delete x 0; item ~x 0 \
+        => TypeError: item; TypeError: item; TypeError: item; TypeError: item
+    x = lambda(); item x 0; set x 0 1; delete x 0; item ~x 0 \
+        => TypeError: item; TypeError: item; TypeError: item; TypeError: item
 
     Values are found by key.
     d = {True: 5}; item d 1; item d True; item d KeyError; item d 2 => 5; 5; TypeError: key; KeyError: 2
@@ -114,7 +118,8 @@ const CASES: &str = "
     x = [5, 6]; set ~x -3 7; delete ~x -3; x => IndexError: index; IndexError: index; [5, 6]
 
     Elements are changed by index alone.
-    x = [5, 6]; set x True 7; x; delete x True; x; set x None 7; delete x None; set x 'a' 7; x => done; [5, 7]; done; [5]; TypeError: index; TypeError: index; TypeError: index; [5]
+    x = [5, 6]; set x True 7; x; delete x True; x; set x None 7; delete x None; set x 'a' 7; x \
+        => done; [5, 7]; done; [5]; TypeError: index; TypeError: index; TypeError: index; [5]
 
     Keys are deleted once.
     d = {1: None}; delete d 1; d; delete d 1 => done; {}; KeyError: 1
@@ -134,7 +139,8 @@ const CASES: &str = "
 
     An object is no index and no key.
     x = [1]; item x x => TypeError: index
-    d = {1: 2}; item d d; item ~d ~d; set d d 1; delete d d => TypeError: key; TypeError: key; TypeError: key; TypeError: key
+    d = {1: 2}; item d d; item ~d ~d; set d d 1; delete d d \
+        => TypeError: key; TypeError: key; TypeError: key; TypeError: key
 
     A key stays as first written.
     cells 1; d = {}; set d True None; set d 1 5; entry d 1; d => done; done; True; {True: 5} | 1 cells

@@ -3,6 +3,7 @@
 ghost use Rattle.std.specs.Prelude.{◌≡◌, ◌<◌, ◌+◌, IfOk, IsTrue};
 
 use rp_base::{Files, MemFiles, MemSink, Sink, SureFiles, SureSink, Text};
+use rp_tests_cases::holds;
 use std::alloc::Global;
 use std::test::Fail;
 
@@ -87,7 +88,7 @@ fn files_in_memory_are_read_in_pieces_and_fail_where_told(rt: HostRuntime) -> Re
         let failing = Vec::from_slice(alloc, &failing)?;
         let mut files = MemFiles::new(some_files(alloc)?, most, failing);
         let log = log_files(alloc, &mut files, first, second)?;
-        assert_eq!(rt; log.as_str(), expected);
+        holds(log.as_str() == expected, expected)?;
     }
     Ok(())
 }
@@ -103,7 +104,7 @@ fn sure_files_fill_the_buffer_and_hold_an_empty_file_at_other_paths(
     ] {
         let mut files = SureFiles::new(some_files(alloc)?);
         let log = log_files(alloc, &mut files, first, second)?;
-        assert_eq!(rt; log.as_str(), expected);
+        holds(log.as_str() == expected, expected)?;
     }
     Ok(())
 }
@@ -140,11 +141,10 @@ fn sinks_take_what_they_have_room_for_and_fail_where_told(rt: HostRuntime) -> Re
         let mut sink = MemSink::new(alloc, room, most, failing)?;
         let mut log = String::new(alloc);
         log_piece(&mut sink, "hello", &mut log)?;
-        assert_eq!(rt; log.as_str(), expected);
-        assert_eq!(rt; sink.bytes(), taken.as_bytes());
+        let is_taken = sink.bytes() == taken.as_bytes();
+        holds(log.as_str() == expected && is_taken, expected)?;
     }
     let mut log = String::new(alloc);
     log_piece(&mut SureSink::new(), "hello", &mut log)?;
-    assert_eq!(rt; log.as_str(), "5");
-    Ok(())
+    holds(log.as_str() == "5", "a sure sink")
 }

@@ -2,6 +2,7 @@
 use crate::world::seed;
 use rp_base::{Memory, NativeId, Oid, Rock, Side, Value};
 use rp_store::{Callee, Object, Store, StoreFault};
+use rp_tests_cases::holds;
 use std::alloc::Global;
 use std::test::Fail;
 
@@ -46,15 +47,27 @@ fn owner(store: &Store, at: usize) -> Option<Side> {
 #[test]
 fn objects_keep_their_owners_and_places(rt: HostRuntime) -> Result<(), Fail> {
     let mut store = Store::new(rt.alloc(), 3, seed());
-    assert_eq!(rt; make_method(&mut store, Side(4)), Ok(Oid(0)));
-    assert_eq!(rt; add_list(rt.alloc(), &mut store, Side(0))?, Oid(1));
-    assert_eq!(rt; make_scope(rt.alloc(), &mut store, Side(2)), Ok(Oid(2)));
-    assert_eq!(rt; make_method(&mut store, Side(3)), Err(StoreFault::Cells));
-    assert_eq!(rt; store.used(), 3);
-    assert_eq!(rt; store.len(), 3);
-    for (at, side) in [(0, 4), (1, 0), (2, 2)] {
-        assert_eq!(rt; owner(&store, at), Some(Side(side)), "{at}");
-    }
-    assert_eq!(rt; owner(&store, 3), None);
-    Ok(())
+    holds(make_method(&mut store, Side(4)) == Ok(Oid(0)), "a method")?;
+    holds(
+        add_list(rt.alloc(), &mut store, Side(0))? == Oid(1),
+        "a list",
+    )?;
+    holds(
+        make_scope(rt.alloc(), &mut store, Side(2)) == Ok(Oid(2)),
+        "a scope",
+    )?;
+    let refused = make_method(&mut store, Side(3));
+    holds(refused == Err(StoreFault::Cells), "no cell")?;
+    holds(
+        store.used() == 3 && store.len() == 3,
+        "three cells and objects",
+    )?;
+    have_owners(&store)
+}
+
+fn have_owners(store: &Store) -> Result<(), Fail> {
+    holds(owner(store, 0) == Some(Side(4)), "the method's owner")?;
+    holds(owner(store, 1) == Some(Side(0)), "the list's owner")?;
+    holds(owner(store, 2) == Some(Side(2)), "the scope's owner")?;
+    holds(owner(store, 3).is_none(), "no object")
 }

@@ -5,6 +5,7 @@ ghost use Rattle.rp_store.specs.Heap.{IsHeld, slots_at};
 use crate::world::seed;
 use rp_base::{ClassTag, Memory, Oid, Rock, Side, Value};
 use rp_store::{Object, Store, StoreFault};
+use rp_tests_cases::holds;
 use std::alloc::Global;
 use std::test::Fail;
 
@@ -93,24 +94,26 @@ fn made(alloc: Global, limit: u64) -> Result<Option<u64>, Memory> {
 
 #[test]
 fn scopes_cost_one_cell_and_one_for_each_slot(rt: HostRuntime) -> Result<(), Fail> {
-    assert_eq!(rt; made(rt.alloc(), 4)?, Some(4));
-    assert_eq!(rt; made(rt.alloc(), 3)?, None);
+    holds(made(rt.alloc(), 4)? == Some(4), "four cells")?;
+    holds(made(rt.alloc(), 3)?.is_none(), "three cells")?;
     let (store, at) = with_scope(rt.alloc())?;
-    assert_eq!(rt; tag(&store, at), Some(ClassTag::Other));
-    Ok(())
+    holds(tag(&store, at) == Some(ClassTag::Other), "a scope's tag")
 }
 
 #[test]
 fn slots_are_bound_and_unbound(rt: HostRuntime) -> Result<(), Fail> {
     let (mut store, at) = with_scope(rt.alloc())?;
     set(&mut store, at, 1, Some(5));
-    assert_eq!(rt; slot(&store, at, 0), None);
-    assert_eq!(rt; slot(&store, at, 1), Some(5));
+    holds(
+        slot(&store, at, 0).is_none() && slot(&store, at, 1) == Some(5),
+        "bound",
+    )?;
     set(&mut store, at, 1, None);
-    assert_eq!(rt; slot(&store, at, 1), None);
+    holds(slot(&store, at, 1).is_none(), "unbound")?;
     set(&mut store, at, 2, Some(7));
-    assert_eq!(rt; slot(&store, at, 0), None);
-    assert_eq!(rt; parent(&store, at), None);
-    assert_eq!(rt; store.used(), 0);
-    Ok(())
+    holds(
+        slot(&store, at, 0).is_none() && parent(&store, at).is_none(),
+        "no slot",
+    )?;
+    holds(store.used() == 0, "no cell")
 }

@@ -13,14 +13,16 @@ const CASES: &str = "
     show () => () | 2 cells
     show [] => [] | 2 cells
     x = []; push x x; cells 99; show x => done; [[...]] | 7 cells | 1 steps
-    t = []; x = [t, True]; y = (x,); elements x [y, True]; cells 99; show x => done; [([...],), True] | 16 cells | 3 steps
+    t = []; x = [t, True]; y = (x,); elements x [y, True]; cells 99; show x \
+        => done; [([...],), True] | 16 cells | 3 steps
     x = [1, True]; t = (x,); set_at x 0 t; cells 99; show t => done; ([(...), True],) | 16 cells | 3 steps
     show [ValueError('x'), ValueError('')] => [ValueError('x'), ValueError()] | 31 cells | 2 steps
     x = [-1, 'a']; show {True: x, None: 'é'} => {True: [-1, 'a'], None: 'é'} | 29 cells | 4 steps
     d = {}; put d 'k' ~d; cells 99; show d => done; {'k': {...}} | 12 cells | 1 steps
     show {} => {} | 2 cells
     c = class index {}; show c; show c {} => <class 'index'>; <index object> | 29 cells
-    f = def index(); show f; show lambda(); show bound(5, f); show bound(5, append) => <function index>; <function <lambda>>; <method index>; <method append> | 64 cells
+    f = def index(); show f; show lambda(); show bound(5, f); show bound(5, append) \
+        => <function index>; <function <lambda>>; <method index>; <method append> | 64 cells
 
     Cells and steps are taken in order.
     cells 9; steps 2; show [-1, 'a'] => [-1, 'a'] | 9 cells | 2 steps
@@ -39,11 +41,19 @@ const CASES: &str = "
 
     Two hundred containers lie within one another.
     x = wrap 0 []; show x => [] | 2 cells
-    x = wrap 199 []; show x => [[[[[[[[[[[[[[[[[[[[[[[[[[[[[[[[[[[[[[[[[[[[[[[[[[[[[[[[[[[[[[[[[[[[[[[[[[[[[[[[[[[[[[[[[[[[[[[[[[[[[[[[[[[[[[[[[[[[[[[[[[[[[[[[[[[[[[[[[[[[[[[[[[[[[[[[[[[[[[[[[[[[[[[[[[[[[[[[[[[[[[[[[[[[[[[[[[[[[[[[]]]]]]]]]]]]]]]]]]]]]]]]]]]]]]]]]]]]]]]]]]]]]]]]]]]]]]]]]]]]]]]]]]]]]]]]]]]]]]]]]]]]]]]]]]]]]]]]]]]]]]]]]]]]]]]]]]]]]]]]]]]]]]]]]]]]]]]]]]]]]]]]]]]]]]]]]]]]]]]]]]]]]]]]]]]]]]]]]]]]]]]]]]]]]]]]]]]]]]]] | 400 cells | 199 steps
+    x = wrap 199 []; show x => [[[[[[[[[[[[[[[[[[[[[[[[[[[[[[[[[[[[[[[[[[[[[[[[[[[[[[[[[[[[[[[[[[[[[[[[[[[[[[[[[[[[[[[[\
+        [[[[[[[[[[[[[[[[[[[[[[[[[[[[[[[[[[[[[[[[[[[[[[[[[[[[[[[[[[[[[[[[[[[[[[[[[[[[[[[[[[[[[[[[[[[[[[[[[[[[[[[[[[[[[[[\
+        []]]]]]]]]]]]]]]]]]]]]]]]]]]]]]]]]]]]]]]]]]]]]]]]]]]]]]]]]]]]]]]]]]]]]]]]]]]]]]]]]]]]]]]]]]]]]]]]]]]]]]]]]]]]]]\
+        ]]]]]]]]]]]]]]]]]]]]]]]]]]]]]]]]]]]]]]]]]]]]]]]]]]]]]]]]]]]]]]]]]]]]]]]]]]]]]]]]]]]]]]]]]] | 400 cells | 199 \
+        steps
     steps 1000; x = wrap 200 []; show x; steps 1000; cells 9 => RecursionError: depth
     x = wrap 249 []; show x; steps 1000; cells 9 => RecursionError: depth
     x = []; push x x; cells 999; show x => done; [[...]] | 7 cells | 1 steps
-    x = []; y = wrap 199 x; push x y; cells 999; show y => done; [[[[[[[[[[[[[[[[[[[[[[[[[[[[[[[[[[[[[[[[[[[[[[[[[[[[[[[[[[[[[[[[[[[[[[[[[[[[[[[[[[[[[[[[[[[[[[[[[[[[[[[[[[[[[[[[[[[[[[[[[[[[[[[[[[[[[[[[[[[[[[[[[[[[[[[[[[[[[[[[[[[[[[[[[[[[[[[[[[[[[[[[[[[[[[[[[[[[[[[[[...]]]]]]]]]]]]]]]]]]]]]]]]]]]]]]]]]]]]]]]]]]]]]]]]]]]]]]]]]]]]]]]]]]]]]]]]]]]]]]]]]]]]]]]]]]]]]]]]]]]]]]]]]]]]]]]]]]]]]]]]]]]]]]]]]]]]]]]]]]]]]]]]]]]]]]]]]]]]]]]]]]]]]]]]]]]]]]]]]]]]]]]]]]]]]]]]]]]]]]]]] | 405 cells | 200 steps
+    x = []; y = wrap 199 x; push x y; cells 999; show y => done; \
+        [[[[[[[[[[[[[[[[[[[[[[[[[[[[[[[[[[[[[[[[[[[[[[[[[[[[[[[[[[[[[[[[[[[[[[[[[[[[[[[[[[[[[[[[[[[[[[[[[[[[[[[[[[[[[[[\
+        [[[[[[[[[[[[[[[[[[[[[[[[[[[[[[[[[[[[[[[[[[[[[[[[[[[[[[[[[[[[[[[[[[[[[[[[[[[[[[[[[[[[[[[[[[...]]]]]]]]]]]]]]]]]]\
+        ]]]]]]]]]]]]]]]]]]]]]]]]]]]]]]]]]]]]]]]]]]]]]]]]]]]]]]]]]]]]]]]]]]]]]]]]]]]]]]]]]]]]]]]]]]]]]]]]]]]]]]]]]]]]]]]\
+        ]]]]]]]]]]]]]]]]]]]]]]]]]]]]]]]]]]]]]]]]]]]]]]]]]]]]]]]]]]]]]]]]]]]]]]]] | 405 cells | 200 steps
     x = []; y = wrap 200 x; push x y; show y; steps 1000; cells 9 => done; RecursionError: depth
 
     Rocks alone cost their bytes and texts nothing.

@@ -4,7 +4,9 @@ use crate::world::seed;
 use rp_base::{OpEnd, Rock, Text, Value};
 use rp_items::{SliceParts, slice};
 use rp_store::Store;
+use rp_tests_cases::holds;
 use std::alloc::Global;
+use std::test::Fail;
 
 /// A number as a part of a slice, or None.
 fn part(n: Option<i64>) -> Value {
@@ -82,7 +84,7 @@ fn is_hash(alloc: Global, text: &str, step: i64, want: u32) -> bool {
 }
 
 #[test]
-fn slices_lie_between_their_bounds(rt: HostRuntime) {
+fn slices_lie_between_their_bounds(rt: HostRuntime) -> Result<(), Fail> {
     for (text, by_3, by_2, by_1) in [
         ("", 2792054165, 2792054165, 2792054165),
         ("a", 1173332885, 1173332885, 1173332885),
@@ -90,14 +92,15 @@ fn slices_lie_between_their_bounds(rt: HostRuntime) {
         ("abc", 2948342273, 1872348685, 2714983893),
         ("abcd", 3556404787, 2216923721, 2708101861),
     ] {
-        assert!(rt; is_hash(rt.alloc(), text, 1, by_1), "{text}");
-        assert!(rt; is_hash(rt.alloc(), text, 2, by_2), "{text}");
-        assert!(rt; is_hash(rt.alloc(), text, 3, by_3), "{text}");
+        holds(is_hash(rt.alloc(), text, 1, by_1), text)?;
+        holds(is_hash(rt.alloc(), text, 2, by_2), text)?;
+        holds(is_hash(rt.alloc(), text, 3, by_3), text)?;
     }
+    Ok(())
 }
 
 #[test]
-fn backward_slices_lie_between_their_bounds(rt: HostRuntime) {
+fn backward_slices_lie_between_their_bounds(rt: HostRuntime) -> Result<(), Fail> {
     for (text, by_3, by_2, by_1) in [
         ("", 2792054165, 2792054165, 2792054165),
         ("a", 3698671377, 3698671377, 3698671377),
@@ -105,8 +108,9 @@ fn backward_slices_lie_between_their_bounds(rt: HostRuntime) {
         ("abc", 3563134377, 2237934341, 3203467513),
         ("abcd", 79828703, 399402365, 1235946629),
     ] {
-        assert!(rt; is_hash(rt.alloc(), text, -1, by_1), "{text}");
-        assert!(rt; is_hash(rt.alloc(), text, -2, by_2), "{text}");
-        assert!(rt; is_hash(rt.alloc(), text, -3, by_3), "{text}");
+        holds(is_hash(rt.alloc(), text, -1, by_1), text)?;
+        holds(is_hash(rt.alloc(), text, -2, by_2), text)?;
+        holds(is_hash(rt.alloc(), text, -3, by_3), text)?;
     }
+    Ok(())
 }

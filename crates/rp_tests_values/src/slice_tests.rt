@@ -25,22 +25,26 @@ const CASES: &str = "
     side 3; x = [0, 1, 2, 3]; side 1; cells 4; slice x None None -1; x => stop cells; [0, 1, 2, 3]
     side 3; x = [0, 1, 2, 3]; side 1; y = slice x 1 3 None; y; owner y => [1, 2]; 3 | 3 cells
     side 3; x = [0, 1, 2, 3]; side 1; y = slice x 3 0 -2; y; owner y => [3, 1]; 3 | 3 cells
-    side 3; x = [0, 1, 2, 3]; side 1; cells 1; y = slice x 9223372036854775807 None 9223372036854775807; y; owner y => []; 3 | 1 cells
+    side 3; x = [0, 1, 2, 3]; side 1; cells 1; y = slice x 9223372036854775807 None 9223372036854775807; y; owner y \
+        => []; 3 | 1 cells
     side 3; x = [0, 1, 2, 3]; side 1; cells 5; y = slice ~x None None -1; y; owner y => ~[3, 2, 1, 0]; 3 | 5 cells
     side 3; x = [0, 1, 2, 3]; side 1; cells 4; slice ~x None None -1; x => stop cells; [0, 1, 2, 3]
     side 3; x = [0, 1, 2, 3]; side 1; y = slice ~x 1 3 None; y; owner y => ~[1, 2]; 3 | 3 cells
     side 3; x = [0, 1, 2, 3]; side 1; y = slice ~x 3 0 -2; y; owner y => ~[3, 1]; 3 | 3 cells
-    side 3; x = [0, 1, 2, 3]; side 1; cells 1; y = slice ~x 9223372036854775807 None 9223372036854775807; y; owner y => ~[]; 3 | 1 cells
+    side 3; x = [0, 1, 2, 3]; side 1; cells 1; y = slice ~x 9223372036854775807 None 9223372036854775807; y; \
+        owner y => ~[]; 3 | 1 cells
     side 3; x = (0, 1, 2, 3); side 1; cells 5; y = slice x None None -1; y; owner y => (3, 2, 1, 0); 3 | 5 cells
     side 3; x = (0, 1, 2, 3); side 1; cells 4; slice x None None -1; x => stop cells; (0, 1, 2, 3)
     side 3; x = (0, 1, 2, 3); side 1; y = slice x 1 3 None; y; owner y => (1, 2); 3 | 3 cells
     side 3; x = (0, 1, 2, 3); side 1; y = slice x 3 0 -2; y; owner y => (3, 1); 3 | 3 cells
-    side 3; x = (0, 1, 2, 3); side 1; cells 1; y = slice x 9223372036854775807 None 9223372036854775807; y; owner y => (); 3 | 1 cells
+    side 3; x = (0, 1, 2, 3); side 1; cells 1; y = slice x 9223372036854775807 None 9223372036854775807; y; owner y \
+        => (); 3 | 1 cells
     side 3; x = (0, 1, 2, 3); side 1; cells 5; y = slice ~x None None -1; y; owner y => ~(3, 2, 1, 0); 3 | 5 cells
     side 3; x = (0, 1, 2, 3); side 1; cells 4; slice ~x None None -1; x => stop cells; (0, 1, 2, 3)
     side 3; x = (0, 1, 2, 3); side 1; y = slice ~x 1 3 None; y; owner y => ~(1, 2); 3 | 3 cells
     side 3; x = (0, 1, 2, 3); side 1; y = slice ~x 3 0 -2; y; owner y => ~(3, 1); 3 | 3 cells
-    side 3; x = (0, 1, 2, 3); side 1; cells 1; y = slice ~x 9223372036854775807 None 9223372036854775807; y; owner y => ~(); 3 | 1 cells
+    side 3; x = (0, 1, 2, 3); side 1; cells 1; y = slice ~x 9223372036854775807 None 9223372036854775807; y; \
+        owner y => ~(); 3 | 1 cells
 
     A slice of a lent list holds its elements as they were stored.
     x = []; y = [x, ~x, 1]; slice ~y None None None => ~[x, ~x, 1] | 4 cells

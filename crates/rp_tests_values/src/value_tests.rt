@@ -1,5 +1,6 @@
 //! Tests of the copies of values, and of the count of steps.
 use rp_base::{Kind, Memory, Meter, NativeId, Oid, Rock, Text, Value};
+use rp_tests_cases::holds;
 use std::alloc::Global;
 use std::test::Fail;
 
@@ -43,16 +44,15 @@ fn of_each_kind(alloc: Global) -> Result<[Value; 9], Memory> {
 #[test]
 fn values_are_copied(rt: HostRuntime) -> Result<(), Fail> {
     for value in &of_each_kind(rt.alloc())? {
-        assert!(rt; is_same_value(value, &value.copy()?));
+        holds(is_same_value(value, &value.copy()?), "a copy")?;
     }
     Ok(())
 }
 
 #[test]
-fn meters_count_down_to_nothing(rt: HostRuntime) {
+fn meters_count_down_to_nothing() -> Result<(), Fail> {
     let mut meter = Meter { left: 2 };
-    for (is_taken, left) in [(true, 1), (true, 0), (false, 0)] {
-        assert_eq!(rt; meter.step(), is_taken);
-        assert_eq!(rt; meter.left, left);
-    }
+    holds(meter.step() && meter.left == 1, "one step")?;
+    holds(meter.step() && meter.left == 0, "two steps")?;
+    holds(!meter.step() && meter.left == 0, "no step")
 }

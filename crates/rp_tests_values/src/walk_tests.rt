@@ -35,8 +35,10 @@ const CASES: &str = "
     x = [1, 2]; y = x *= 3; same x y; x => True; [1, 2, 1, 2, 1, 2] | 4 cells
     x = []; y = x *= 3; same x y; x => True; []
 
-    A list stays where no memory holds its copies. The cells are within the limit, and the copies larger than any memory.
-    cells 18446744073709551615; x = [1, 2]; x *= 9223372036854775807; x => no memory; [1, 2] | 18446744073709551612 cells
+    A list stays where no memory holds its copies. The cells are within the limit, and the copies larger than any \
+        memory.
+    cells 18446744073709551615; x = [1, 2]; x *= 9223372036854775807; x \
+        => no memory; [1, 2] | 18446744073709551612 cells
 
     Lists take no other operands in place.
     x = [1, 2]; x += 5; x => TypeError: iterate; [1, 2]
@@ -84,7 +86,8 @@ const CASES: &str = "
     x = []; walk [x] => [x] | 1 steps
     x = []; walk ~(x, 1) => [~x, 1] | 2 steps
 
-    A walk goes on over what grows. As CPython walks: a list to its present end, and a dict that changed its size raises.
+    A walk goes on over what grows. As CPython walks: a list to its present end, and a dict that changed its size \
+        raises.
     x = [1, 2]; live x x 3 => [1, 2, 3] | 1 cells | 3 steps
     x = [1, 2]; live ~x x 3 => [1, 2, 3] | 1 cells | 3 steps
     x = []; live x x 1 => [1] | 1 cells | 1 steps

@@ -1,5 +1,6 @@
 //! Tests of identifiers and keywords.
 use rp_base::{Memory, identifier, is_keyword};
+use rp_tests_cases::holds;
 use std::alloc::Global;
 use std::test::Fail;
 
@@ -72,7 +73,7 @@ fn is_spelled(alloc: Global, word: &str, count: usize) -> Result<bool, Memory> {
 #[test]
 fn identifiers_are_spelled_in_their_form(rt: HostRuntime) -> Result<(), Fail> {
     for (word, form) in SPELLED {
-        assert!(rt; spells(rt.alloc(), word, form)?, "{word:?}");
+        holds(spells(rt.alloc(), word, form)?, word)?;
     }
     Ok(())
 }
@@ -80,21 +81,18 @@ fn identifiers_are_spelled_in_their_form(rt: HostRuntime) -> Result<(), Fail> {
 #[test]
 fn identifiers_have_at_most_255_bytes(rt: HostRuntime) -> Result<(), Fail> {
     for (word, count, is_short) in LONG {
-        assert_eq!(rt;
-            is_spelled(rt.alloc(), word, count)?,
-            is_short,
-            "{count} times {word}"
-        );
+        holds(is_spelled(rt.alloc(), word, count)? == is_short, word)?;
     }
     Ok(())
 }
 
 #[test]
-fn keywords_are_those_of_python(rt: HostRuntime) {
+fn keywords_are_those_of_python() -> Result<(), Fail> {
     for word in KEYWORDS {
-        assert!(rt; is_keyword(word), "{word}");
+        holds(is_keyword(word), word)?;
     }
     for word in OTHER_WORDS {
-        assert!(rt; !is_keyword(word), "{word}");
+        holds(!is_keyword(word), word)?;
     }
+    Ok(())
 }

@@ -12,7 +12,7 @@ use Rattle.rp_run.proofs.playing.play.Goals as goal
 pub finish-finished-requires : goal.finish-finished-requires
 finish-finished-requires c =
     let names : c.in_ok-session.session.names ≡ c.args.admitted.names = ap (λ (s : Scene). s.names) c.in_ok-session.ensures.begins ∙ c.in_ok-world.ensures.names in
-    record { held = subst (λ (ns : List (List ℕ)). All (IsStatementHeld ns) c.args.script.now) (sym names) c.requires.held }
+    record { held = subst (λ (ns : List (List ℕ)). All (IsStatementHeld ns) c.args.forms.now) (sym names) c.requires.held }
 
 pub returns-clause-text : goal.returns-clause-text
 returns-clause-text c =
@@ -20,7 +20,7 @@ returns-clause-text c =
     let begins : c.in_ok-session.session ≡ first_scene c.args.admitted.names d most_cells 1 c.args.command.now.ids.items =
     begins_first _ _ _ _ _ _ _ _ _ _ _ c.in_ok-session.ensures.begins c.in_ok-world.ensures.names c.in_ok-world.ensures.decl c.in_ok-world.ensures.limit
     (ap (λ (r : Running). r.session) c.in_ok-world.ensures.running) (ap (λ (r : Running). r.interaction.ids) c.in_ok-world.ensures.running ∙ c.requires.ids) in
-    let ended = told_end (run_view c.args.command.now) d c.args.admitted.names c.args.script.now c.in_ok-session.session _ _ _ begins c.finish-finished.ensures.meaning c.in_ok-end.ensures in
+    let ended = told_end (run_view c.args.command.now) d c.args.admitted.names c.args.forms.now c.in_ok-session.session _ _ _ begins c.finish-finished.ensures.meaning c.in_ok-end.ensures in
     told_text 1 c.args.command.now.who _ _ _ _ c.session-2.result ended c.printed.ensures c.session-2.ensures.text
 
 pub returns-clause-status : goal.returns-clause-status
@@ -29,5 +29,5 @@ returns-clause-status c =
     let begins : c.in_ok-session.session ≡ first_scene c.args.admitted.names d most_cells 1 c.args.command.now.ids.items =
     begins_first _ _ _ _ _ _ _ _ _ _ _ c.in_ok-session.ensures.begins c.in_ok-world.ensures.names c.in_ok-world.ensures.decl c.in_ok-world.ensures.limit
     (ap (λ (r : Running). r.session) c.in_ok-world.ensures.running) (ap (λ (r : Running). r.interaction.ids) c.in_ok-world.ensures.running ∙ c.requires.ids) in
-    let ended = told_end (run_view c.args.command.now) d c.args.admitted.names c.args.script.now c.in_ok-session.session _ _ _ begins c.finish-finished.ensures.meaning c.in_ok-end.ensures in
+    let ended = told_end (run_view c.args.command.now) d c.args.admitted.names c.args.forms.now c.in_ok-session.session _ _ _ begins c.finish-finished.ensures.meaning c.in_ok-end.ensures in
     told_status _ _ _ c.session-2.result ended c.session-2.ensures.status

@@ -1,0 +1,13 @@
+//! Tests of whole runs: what the program says to words, declarations and scripts, and over files and sinks that fail.
+#![tactic(auto)]
+
+#[cfg(test)]
+mod check_tests;
+#[cfg(test)]
+mod outside_tests;
+#[cfg(test)]
+mod program_answers;
+#[cfg(test)]
+mod program_tests;
+#[cfg(test)]
+mod show_tests;
