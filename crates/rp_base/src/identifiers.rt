@@ -16,14 +16,6 @@ use unicode_normalization::{is_nfkc, to_nfkc};
 /// The most bytes of UTF-8 that an identifier has.
 pub const LONGEST_NAME: usize = 255;
 
-/// The keywords of Python 3 (Python Language Reference, "Keywords").
-const KEYWORDS: [&str; 35] = [
-    "False", "None", "True", "and", "as", "assert", "async", "await", "break", "class", "continue",
-    "def", "del", "elif", "else", "except", "finally", "for", "from", "global", "if", "import",
-    "in", "is", "lambda", "nonlocal", "not", "or", "pass", "raise", "return", "try", "while",
-    "with", "yield",
-];
-
 /// The identifier that a word spells: its form NFKC, where the word and that form are identifiers
 /// (UAX 31; `_` may begin one) and the form has at most 255 bytes of UTF-8.
 ///
@@ -59,11 +51,23 @@ pub fn is_identifier_word(alloc: Global, word: &str) -> Result<bool, Memory>
     Ok(is_nfkc(alloc, word)?)
 }
 
-/// Whether the word is a keyword of Python 3.
+/// Whether the word is a keyword of Python 3 (Python Language Reference, "Keywords").
 pub fn is_keyword(word: &str) -> bool
     ensures { result ≡ is_keyword word.now }
 {
-    KEYWORDS.contains(&word)
+    match word.len() {
+        2 => ["as", "if", "in", "is", "or"].contains(&word),
+        3 => ["and", "def", "del", "for", "not", "try"].contains(&word),
+        4 => ["None", "True", "elif", "else", "from", "pass", "with"].contains(&word),
+        5 => [
+            "False", "async", "await", "break", "class", "raise", "while", "yield",
+        ]
+        .contains(&word),
+        6 => ["assert", "except", "global", "import", "lambda", "return"].contains(&word),
+        7 => ["finally"].contains(&word),
+        8 => ["continue", "nonlocal"].contains(&word),
+        _ => false,
+    }
 }
 
 fn is_short_identifier(word: &str) -> bool

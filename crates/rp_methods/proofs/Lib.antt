@@ -4,6 +4,7 @@ pub mod Cuts
 pub mod Ends
 pub mod Listed
 pub mod Made
+pub mod NoClasses
 pub mod Pieces
 pub mod Sound
 pub mod Taken

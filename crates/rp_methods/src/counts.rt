@@ -1,5 +1,5 @@
 //! How many arguments the built-in methods take.
-ghost use Rattle.std.specs.Prelude.{◌≡◌};
+ghost use Rattle.std.specs.Prelude.{◌≡◌, is_some};
 ghost use Rattle.std.specs.Option.{option_map_or};
 ghost use Rattle.rp_store.specs.Heap.{IsHeld, content_at};
 ghost use Rattle.rp_store.specs.Kept.{IsSound};
@@ -46,6 +46,14 @@ pub fn method_takes(store: &Store, receiver: &Value, id: NativeId, count: usize)
         Some(counts) => counts.take(count),
         None => true,
     }
+}
+
+/// Whether a receiver has a built-in method.
+pub fn has_method(store: &Store, receiver: &Value, id: NativeId) -> bool
+    requires { IsSound store.now.heap receiver.now }
+    ensures { result ≡ is_some (counts_of (receiver_of store.now.heap receiver.now) id) }
+{
+    counts_of(receiver_of(store, receiver), id).is_some()
 }
 
 /// The kind of a value, as far as it has built-in methods.

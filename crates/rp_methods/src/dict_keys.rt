@@ -1,5 +1,5 @@
 //! The methods of dicts that take a key.
-#![tactic(auto, using(rp_store::proofs::Shapes::goes_on))]
+#![tactic(auto, using(rp_store::proofs::Shapes::goes_on, crate::proofs::NoClasses::no_class))]
 
 ghost use Rattle.std.specs.Prelude.{◌≡◌, ℕ, List, slice_get, IfOk, IfSome, OnErr};
 ghost use Rattle.std.specs.Option.{option_copied, option_map_or};
@@ -12,6 +12,7 @@ ghost use Rattle.rp_store.specs.Store.{written};
 ghost use Rattle.rp_store.specs.Writers.{without_entry};
 ghost use Rattle.rp_ops.specs.Outcome.{Meets, gives, on_value, state_of};
 ghost use Rattle.rp_items.specs.Items.{set_item};
+ghost use Rattle.rp_methods.specs.Classes.{AddsNoClass};
 ghost use Rattle.rp_methods.specs.Dicts.{dict_pop, get, get_or, missed, pop_or, set_default, setdefault};
 
 use crate::fault::Fault;
@@ -117,6 +118,7 @@ pub(crate) fn setdefault(
         (setdefault at args.now (state_of store.old steps)) }
     ensures sound { IfOk result (λ v. IsSound store.new.heap v) }
     ensures shape { KeepsShape store.old.heap store.new.heap }
+    ensures classes { AddsNoClass store.old.heap store.new.heap }
     ensures same { OnErr result (store.new ≡ store.old) }
     ensures counters { KeepsCounters store.old store.new }
 {
@@ -141,6 +143,7 @@ fn set_default(
         (set_default at k.now default.now (state_of store.old steps)) }
     ensures sound { IfOk result (λ v. IsSound store.new.heap v) }
     ensures shape { KeepsShape store.old.heap store.new.heap }
+    ensures classes { AddsNoClass store.old.heap store.new.heap }
     ensures same { OnErr result (store.new ≡ store.old) }
     ensures counters { KeepsCounters store.old store.new }
 {
@@ -164,6 +167,7 @@ fn set_missing(
         (set_default at (Value.Rock rock.now) default.now (state_of store.old steps)) }
     ensures sound { IfOk result (λ v. IsSound store.new.heap v) }
     ensures shape { KeepsShape store.old.heap store.new.heap }
+    ensures classes { AddsNoClass store.old.heap store.new.heap }
     ensures same { OnErr result (store.new ≡ store.old) }
     ensures counters { KeepsCounters store.old store.new }
 {
@@ -191,6 +195,7 @@ fn set_new(
         (λ _ s. gives value.now s)) }
     ensures sound { IfOk result (λ v. IsSound store.new.heap v) }
     ensures shape { KeepsShape store.old.heap store.new.heap }
+    ensures classes { AddsNoClass store.old.heap store.new.heap }
     ensures same { OnErr result (store.new ≡ store.old) }
     ensures counters { KeepsCounters store.old store.new }
 {
@@ -208,6 +213,7 @@ pub(crate) fn pop(alloc: Global, store: &mut Store, at: Oid, args: &[Value]) -> 
         (dict_pop at args.now (state_of store.old steps)) }
     ensures sound { IfOk result (λ v. IsSound store.new.heap v) }
     ensures shape { KeepsShape store.old.heap store.new.heap }
+    ensures classes { AddsNoClass store.old.heap store.new.heap }
     ensures same { OnErr result (store.new ≡ store.old) }
     ensures counters { KeepsCounters store.old store.new }
 {
@@ -231,6 +237,7 @@ fn pop_or(
         (pop_or at k.now (option_copied default.entry) (state_of store.old steps)) }
     ensures sound { IfOk result (λ v. IsSound store.new.heap v) }
     ensures shape { KeepsShape store.old.heap store.new.heap }
+    ensures classes { AddsNoClass store.old.heap store.new.heap }
     ensures same { OnErr result (store.new ≡ store.old) }
     ensures counters { KeepsCounters store.old store.new }
 {
@@ -254,6 +261,7 @@ fn pop_entry(
         (pop_or at (Value.Rock rock.now) (option_copied default.entry) (state_of store.old steps)) }
     ensures sound { IfOk result (λ v. IsSound store.new.heap v) }
     ensures shape { KeepsShape store.old.heap store.new.heap }
+    ensures classes { AddsNoClass store.old.heap store.new.heap }
     ensures same { OnErr result (store.new ≡ store.old) }
     ensures counters { KeepsCounters store.old store.new }
 {
@@ -294,6 +302,7 @@ fn drop_key(store: &mut Store, at: Oid, key: &Key)
     requires dict { Names store.old.heap IsDict at }
     ensures dropped { store.new ≡ written store.old at (without_entry key.now) }
     ensures shape { KeepsShape store.old.heap store.new.heap }
+    ensures classes { AddsNoClass store.old.heap store.new.heap }
     ensures counters { KeepsCounters store.old store.new }
 {
     let _removed = store.drop_key(at, key);
@@ -312,6 +321,7 @@ pub(crate) fn put(
     ensures plain { (steps : ℕ) → Meets result (state_of store.new steps)
         (set_item (Value.Ref at) (Value.Rock rock.now) value.now (state_of store.old steps)) }
     ensures shape { KeepsShape store.old.heap store.new.heap }
+    ensures classes { AddsNoClass store.old.heap store.new.heap }
     ensures same { OnErr result (store.new ≡ store.old) }
     ensures counters { KeepsCounters store.old store.new }
 {

@@ -1,5 +1,5 @@
 //! The entries of dicts as tuples, and as what other dicts take.
-#![tactic(auto, using(rp_store::proofs::Shapes::goes_on))]
+#![tactic(auto, using(rp_store::proofs::Shapes::goes_on, crate::proofs::NoClasses::no_class))]
 
 ghost use Rattle.std.specs.Prelude.{◌≡◌, ◌+◌, ◌*◌, ◌^◌, ◌<◌, ◌≤◌, ◌++◌, ℕ, List, None, Some, is_some, if◌then◌else◌};
 ghost use Rattle.std.specs.Prelude.{[], ◌∷◌, length, IfOk, IfSome, MatchOption, OnOk};
@@ -13,6 +13,7 @@ ghost use Rattle.rp_store.specs.Shape.{KeepsShape};
 ghost use Rattle.rp_store.specs.Store.{added};
 ghost use Rattle.rp_ops.specs.Outcome.{Meets, charged, gives, state_of};
 ghost use Rattle.rp_ops.specs.View.{handed};
+ghost use Rattle.rp_methods.specs.Classes.{AddsNoClass};
 ghost use Rattle.rp_methods.specs.Dicts.{items, new_keys, pairs, pairs_given, pairs_in, put_all, roomed, tuples_listed};
 ghost use Rattle.rp_methods.specs.Dicts.{update};
 
@@ -38,6 +39,7 @@ pub(crate) fn items(
         (items at args.now (state_of store.old steps)) }
     ensures sound { IfOk result (λ v. IsSound store.new.heap v) }
     ensures shape { KeepsShape store.old.heap store.new.heap }
+    ensures classes { AddsNoClass store.old.heap store.new.heap }
     ensures counters { KeepsCounters store.old store.new }
 {
     let [] = args else {
@@ -52,6 +54,7 @@ fn list_items(alloc: Global, store: &mut Store, at: Oid) -> Result<Value, OpEnd>
     ensures plain { (steps : ℕ) → Meets result (state_of store.new steps) (items at [] (state_of store.old steps)) }
     ensures sound { IfOk result (λ v. IsSound store.new.heap v) }
     ensures shape { KeepsShape store.old.heap store.new.heap }
+    ensures classes { AddsNoClass store.old.heap store.new.heap }
     ensures counters { KeepsCounters store.old store.new }
 {
     let entries = pairs_of(alloc, dict_at(store, at), false)?;
@@ -103,6 +106,7 @@ fn list_pairs(
         (charged (1 + length entries.now * 4) (state_of store.old steps) (λ s. tuples_listed side entries.now [] s)) }
     ensures sound { IfOk result (λ v. IsSound store.new.heap v) }
     ensures shape { KeepsShape store.old.heap store.new.heap }
+    ensures classes { AddsNoClass store.old.heap store.new.heap }
     ensures counters { KeepsCounters store.old store.new }
 {
     charge_copies(store, 1, entries.len() as u64, 4)?;
@@ -122,6 +126,7 @@ fn make_pairs(
         ≡ gives v (state_of store.new steps)) }
     ensures sound { IfOk result (λ v. IsSound store.new.heap v) }
     ensures shape { KeepsShape store.old.heap store.new.heap }
+    ensures classes { AddsNoClass store.old.heap store.new.heap }
     ensures counters { KeepsCounters store.old store.new }
 {
     let made = make_tuples(alloc, store, side, entries)?;
@@ -144,6 +149,7 @@ fn make_tuples(
         ≡ tuples_listed side [] v.items (state_of store.new steps)) }
     ensures sound { IfOk result (λ v. AreSound store.new.heap v.items) }
     ensures shape { KeepsShape store.old.heap store.new.heap }
+    ensures classes { AddsNoClass store.old.heap store.new.heap }
     ensures counters { KeepsCounters store.old store.new }
 {
     let mut made = Vec::with_capacity(alloc, entries.len())?;
@@ -171,6 +177,7 @@ fn make_pair(
         ≡ added store.old side (object.tuple (Value.Rock rock.now ∷ value.now ∷ []))) }
     ensures sound { IfOk result (λ v. IsSound store.new.heap v) }
     ensures shape { KeepsShape store.old.heap store.new.heap }
+    ensures classes { AddsNoClass store.old.heap store.new.heap }
     ensures counters { KeepsCounters store.old store.new }
 {
     let both = both(alloc, rock, value)?;
@@ -206,6 +213,7 @@ pub(crate) fn update(
         (update at args.now (state_of store.old steps)) }
     ensures sound { IfOk result (λ v. IsSound store.new.heap v) }
     ensures shape { KeepsShape store.old.heap store.new.heap }
+    ensures classes { AddsNoClass store.old.heap store.new.heap }
     ensures counters { KeepsCounters store.old store.new }
 {
     let [d] = args else {
@@ -222,6 +230,7 @@ fn update_by(alloc: Global, store: &mut Store, at: Oid, d: &Value) -> Result<Val
         (update at (d.now ∷ []) (state_of store.old steps)) }
     ensures sound { IfOk result (λ v. IsSound store.new.heap v) }
     ensures shape { KeepsShape store.old.heap store.new.heap }
+    ensures classes { AddsNoClass store.old.heap store.new.heap }
     ensures counters { KeepsCounters store.old store.new }
 {
     let Some(entries) = pairs_given(alloc, store, d)? else {
@@ -291,6 +300,7 @@ fn put_room(
         (roomed (new_keys store.old.heap at 0 entries.now) (state_of store.old steps) (put_all at entries.now)) }
     ensures sound { IfOk result (λ v. IsSound store.new.heap v) }
     ensures shape { KeepsShape store.old.heap store.new.heap }
+    ensures classes { AddsNoClass store.old.heap store.new.heap }
     ensures counters { KeepsCounters store.old store.new }
 {
     let count = new_keys(store, at, entries)?;
@@ -350,6 +360,7 @@ fn put_all(
         (put_all at entries.now (state_of store.old steps)) }
     ensures sound { IfOk result (λ v. IsSound store.new.heap v) }
     ensures shape { KeepsShape store.old.heap store.new.heap }
+    ensures classes { AddsNoClass store.old.heap store.new.heap }
     ensures counters { KeepsCounters store.old store.new }
 {
     for (rock, value) in entries {

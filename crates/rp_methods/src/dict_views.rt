@@ -1,5 +1,5 @@
 //! Lists and dicts that are made of the entries of a dict.
-#![tactic(auto, using(rp_store::proofs::Shapes::goes_on))]
+#![tactic(auto, using(rp_store::proofs::Shapes::goes_on, crate::proofs::NoClasses::no_class))]
 
 ghost use Rattle.std.specs.Prelude.{◌≡◌, ◌∷◌, ◌++◌, [], ℕ, map, IfOk, OnErr, OnOk};
 ghost use Rattle.rp_dict.specs.Dict.{insert_entry};
@@ -14,6 +14,7 @@ ghost use Rattle.rp_ops.specs.View.{key_rock};
 ghost use Rattle.rp_store.specs.Object as object;
 ghost use Rattle.rp_ops.specs.Binary.{new_object};
 ghost use Rattle.rp_items.specs.Slices.{owner_of};
+ghost use Rattle.rp_methods.specs.Classes.{AddsNoClass};
 ghost use Rattle.rp_methods.specs.Dicts.{copy, entries_of, keys, values};
 
 use crate::fault::Fault;
@@ -37,6 +38,7 @@ pub(crate) fn keys(
         (keys at args.now (state_of store.old steps)) }
     ensures sound { IfOk result (λ v. IsSound store.new.heap v) }
     ensures shape { KeepsShape store.old.heap store.new.heap }
+    ensures classes { AddsNoClass store.old.heap store.new.heap }
     ensures same { OnErr result (store.new ≡ store.old) }
     ensures counters { KeepsCounters store.old store.new }
 {
@@ -54,6 +56,7 @@ fn list_keys(alloc: Global, store: &mut Store, at: Oid) -> Result<Value, OpEnd>
         (object.list (map key_rock (entries_of store.old.heap at))) (state_of store.old steps)) }
     ensures sound { IfOk result (λ v. IsSound store.new.heap v) }
     ensures shape { KeepsShape store.old.heap store.new.heap }
+    ensures classes { AddsNoClass store.old.heap store.new.heap }
     ensures same { OnErr result (store.new ≡ store.old) }
     ensures counters { KeepsCounters store.old store.new }
 {
@@ -98,6 +101,7 @@ pub(crate) fn values(
         (values at args.now (state_of store.old steps)) }
     ensures sound { IfOk result (λ v. IsSound store.new.heap v) }
     ensures shape { KeepsShape store.old.heap store.new.heap }
+    ensures classes { AddsNoClass store.old.heap store.new.heap }
     ensures same { OnErr result (store.new ≡ store.old) }
     ensures counters { KeepsCounters store.old store.new }
 {
@@ -115,6 +119,7 @@ fn list_values(alloc: Global, store: &mut Store, at: Oid) -> Result<Value, OpEnd
         (object.list (map (λ e. e.1.1) (entries_of store.old.heap at))) (state_of store.old steps)) }
     ensures sound { IfOk result (λ v. IsSound store.new.heap v) }
     ensures shape { KeepsShape store.old.heap store.new.heap }
+    ensures classes { AddsNoClass store.old.heap store.new.heap }
     ensures same { OnErr result (store.new ≡ store.old) }
     ensures counters { KeepsCounters store.old store.new }
 {
@@ -159,6 +164,7 @@ pub(crate) fn copy(
         (copy at args.now (state_of store.old steps)) }
     ensures sound { IfOk result (λ v. IsSound store.new.heap v) }
     ensures shape { KeepsShape store.old.heap store.new.heap }
+    ensures classes { AddsNoClass store.old.heap store.new.heap }
     ensures same { OnErr result (store.new ≡ store.old) }
     ensures counters { KeepsCounters store.old store.new }
 {
@@ -176,6 +182,7 @@ fn make_copy(alloc: Global, store: &mut Store, at: Oid) -> Result<Value, OpEnd>
         (state_of store.old steps)) }
     ensures sound { IfOk result (λ v. IsSound store.new.heap v) }
     ensures shape { KeepsShape store.old.heap store.new.heap }
+    ensures classes { AddsNoClass store.old.heap store.new.heap }
     ensures same { OnErr result (store.new ≡ store.old) }
     ensures counters { KeepsCounters store.old store.new }
 {

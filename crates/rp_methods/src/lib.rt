@@ -18,5 +18,5 @@ mod text_makers;
 mod text_pieces;
 mod text_tests;
 
-pub use counts::method_takes;
+pub use counts::{has_method, method_takes};
 pub use methods::call_method;

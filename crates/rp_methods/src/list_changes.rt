@@ -1,5 +1,5 @@
 //! Elements put into lists, and put in another order.
-#![tactic(auto, using(rp_store::proofs::Shapes::goes_on))]
+#![tactic(auto, using(rp_store::proofs::Shapes::goes_on, crate::proofs::NoClasses::no_class))]
 
 ghost use Rattle.std.specs.Prelude.{◌≡◌, ◌≤◌, ℕ, length, reverse, IfOk, OnErr};
 ghost use Rattle.std.specs.Option.{option_map_or};
@@ -12,6 +12,7 @@ ghost use Rattle.rp_store.specs.Writers.{extended, inserted, pushed};
 ghost use Rattle.rp_ops.specs.Keys.{index_number};
 ghost use Rattle.rp_ops.specs.Outcome.{Meets, on_value, state_of};
 ghost use Rattle.rp_ops.specs.Walk.{elements};
+ghost use Rattle.rp_methods.specs.Classes.{AddsNoClass};
 ghost use Rattle.rp_methods.specs.Faults.{wrong_argument};
 ghost use Rattle.rp_methods.specs.Lists.{append, extend, grows, insert, insert_at, reversed};
 
@@ -38,6 +39,7 @@ pub(crate) fn append(
         (append at args.now (state_of store.old steps)) }
     ensures sound { IfOk result (λ v. IsSound store.new.heap v) }
     ensures shape { KeepsShape store.old.heap store.new.heap }
+    ensures classes { AddsNoClass store.old.heap store.new.heap }
     ensures same { OnErr result (store.new ≡ store.old) }
     ensures counters { KeepsCounters store.old store.new }
 {
@@ -58,6 +60,7 @@ fn push(store: &mut Store, at: Oid, x: Value) -> Result<Value, OpEnd>
         (grows 1 at (pushed x) (state_of store.old steps)) }
     ensures sound { IfOk result (λ v. IsSound store.new.heap v) }
     ensures shape { KeepsShape store.old.heap store.new.heap }
+    ensures classes { AddsNoClass store.old.heap store.new.heap }
     ensures same { OnErr result (store.new ≡ store.old) }
     ensures counters { KeepsCounters store.old store.new }
 {
@@ -80,6 +83,7 @@ pub(crate) fn extend(
         (extend at args.now (state_of store.old meter.old.left)) }
     ensures sound { IfOk result (λ v. IsSound store.new.heap v) }
     ensures shape { KeepsShape store.old.heap store.new.heap }
+    ensures classes { AddsNoClass store.old.heap store.new.heap }
     ensures same { OnErr result (store.new.heap ≡ store.old.heap) }
     ensures fewer { meter.new.left ≤ meter.old.left }
     ensures counters { KeepsCounters store.old store.new }
@@ -104,6 +108,7 @@ fn extend_by(
         (on_value (elements w.now (state_of store.old meter.old.left)) (λ vs s. grows (length vs) at (extended vs) s)) }
     ensures sound { IfOk result (λ v. IsSound store.new.heap v) }
     ensures shape { KeepsShape store.old.heap store.new.heap }
+    ensures classes { AddsNoClass store.old.heap store.new.heap }
     ensures same { OnErr result (store.new.heap ≡ store.old.heap) }
     ensures fewer { meter.new.left ≤ meter.old.left }
     ensures counters { KeepsCounters store.old store.new }
@@ -121,6 +126,7 @@ fn put_last(store: &mut Store, at: Oid, values: Vec<Value>) -> Result<Value, OpE
         (grows (length values.items) at (extended values.items) (state_of store.old steps)) }
     ensures sound { IfOk result (λ v. IsSound store.new.heap v) }
     ensures shape { KeepsShape store.old.heap store.new.heap }
+    ensures classes { AddsNoClass store.old.heap store.new.heap }
     ensures same { OnErr result (store.new ≡ store.old) }
     ensures counters { KeepsCounters store.old store.new }
 {
@@ -142,6 +148,7 @@ pub(crate) fn insert(
         (insert at args.now (state_of store.old steps)) }
     ensures sound { IfOk result (λ v. IsSound store.new.heap v) }
     ensures shape { KeepsShape store.old.heap store.new.heap }
+    ensures classes { AddsNoClass store.old.heap store.new.heap }
     ensures same { OnErr result (store.new ≡ store.old) }
     ensures counters { KeepsCounters store.old store.new }
 {
@@ -166,6 +173,7 @@ fn insert_named(
         (wrong_argument (state_of store.old steps))) }
     ensures sound { IfOk result (λ v. IsSound store.new.heap v) }
     ensures shape { KeepsShape store.old.heap store.new.heap }
+    ensures classes { AddsNoClass store.old.heap store.new.heap }
     ensures same { OnErr result (store.new ≡ store.old) }
     ensures counters { KeepsCounters store.old store.new }
 {
@@ -184,6 +192,7 @@ fn insert_at(store: &mut Store, at: Oid, i: i64, x: Value) -> Result<Value, OpEn
         (insert_at at i x (state_of store.old steps)) }
     ensures sound { IfOk result (λ v. IsSound store.new.heap v) }
     ensures shape { KeepsShape store.old.heap store.new.heap }
+    ensures classes { AddsNoClass store.old.heap store.new.heap }
     ensures same { OnErr result (store.new ≡ store.old) }
     ensures counters { KeepsCounters store.old store.new }
 {
@@ -201,6 +210,7 @@ fn insert_before(store: &mut Store, at: Oid, place: usize, x: Value) -> Result<V
         (grows 1 at (inserted place x) (state_of store.old steps)) }
     ensures sound { IfOk result (λ v. IsSound store.new.heap v) }
     ensures shape { KeepsShape store.old.heap store.new.heap }
+    ensures classes { AddsNoClass store.old.heap store.new.heap }
     ensures same { OnErr result (store.new ≡ store.old) }
     ensures counters { KeepsCounters store.old store.new }
 {
@@ -221,6 +231,7 @@ pub(crate) fn reverse(
         (reversed at args.now (state_of store.old steps)) }
     ensures sound { IfOk result (λ v. IsSound store.new.heap v) }
     ensures shape { KeepsShape store.old.heap store.new.heap }
+    ensures classes { AddsNoClass store.old.heap store.new.heap }
     ensures same { OnErr result (store.new ≡ store.old) }
     ensures counters { KeepsCounters store.old store.new }
 {

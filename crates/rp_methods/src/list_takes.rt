@@ -1,5 +1,5 @@
 //! Elements taken out of lists.
-#![tactic(auto, using(rp_store::proofs::Shapes::goes_on))]
+#![tactic(auto, using(rp_store::proofs::Shapes::goes_on, crate::proofs::NoClasses::no_class))]
 
 ghost use Rattle.std.specs.Prelude.{◌≡◌, ◌<◌, ℕ, length, IfOk, OnErr};
 ghost use Rattle.std.specs.Option.{option_map_or};
@@ -10,6 +10,7 @@ ghost use Rattle.rp_store.specs.Parts.{IsList};
 ghost use Rattle.rp_store.specs.Shape.{KeepsShape};
 ghost use Rattle.rp_ops.specs.Outcome.{Meets, gives, state_of};
 ghost use Rattle.rp_ops.specs.Keys.{index_number};
+ghost use Rattle.rp_methods.specs.Classes.{AddsNoClass};
 ghost use Rattle.rp_methods.specs.Faults.{wrong_argument};
 ghost use Rattle.rp_methods.specs.Lists.{pop, pop_at, taken_out};
 
@@ -27,6 +28,7 @@ pub(crate) fn pop(alloc: Global, store: &mut Store, at: Oid, args: &[Value]) -> 
     ensures plain { (steps : ℕ) → Meets result (state_of store.new steps) (pop at args.now (state_of store.old steps)) }
     ensures sound { IfOk result (λ v. IsSound store.new.heap v) }
     ensures shape { KeepsShape store.old.heap store.new.heap }
+    ensures classes { AddsNoClass store.old.heap store.new.heap }
     ensures same { OnErr result (store.new ≡ store.old) }
     ensures counters { KeepsCounters store.old store.new }
 {
@@ -45,6 +47,7 @@ fn pop_named(alloc: Global, store: &mut Store, at: Oid, i: &Value) -> Result<Val
         (wrong_argument (state_of store.old steps))) }
     ensures sound { IfOk result (λ v. IsSound store.new.heap v) }
     ensures shape { KeepsShape store.old.heap store.new.heap }
+    ensures classes { AddsNoClass store.old.heap store.new.heap }
     ensures same { OnErr result (store.new ≡ store.old) }
     ensures counters { KeepsCounters store.old store.new }
 {
@@ -60,6 +63,7 @@ fn pop_at(alloc: Global, store: &mut Store, at: Oid, i: i64) -> Result<Value, Op
     ensures plain { (steps : ℕ) → Meets result (state_of store.new steps) (pop_at at i (state_of store.old steps)) }
     ensures sound { IfOk result (λ v. IsSound store.new.heap v) }
     ensures shape { KeepsShape store.old.heap store.new.heap }
+    ensures classes { AddsNoClass store.old.heap store.new.heap }
     ensures same { OnErr result (store.new ≡ store.old) }
     ensures counters { KeepsCounters store.old store.new }
 {
@@ -77,6 +81,7 @@ fn take_out(store: &mut Store, at: Oid, place: usize) -> Value
         ≡ gives result (state_of store.new steps) }
     ensures sound { IsSound store.new.heap result }
     ensures shape { KeepsShape store.old.heap store.new.heap }
+    ensures classes { AddsNoClass store.old.heap store.new.heap }
     ensures counters { KeepsCounters store.old store.new }
 {
     store.kept();

@@ -1,5 +1,5 @@
 //! Calls of built-in methods.
-#![tactic(auto, using(rp_store::proofs::Shapes::goes_on))]
+#![tactic(auto, using(rp_store::proofs::Shapes::goes_on, crate::proofs::NoClasses::no_class))]
 
 ghost use Rattle.std.specs.Prelude.{◌≤◌, ℕ, IfOk};
 ghost use Rattle.rp_store.specs.Counters.{KeepsCounters};
@@ -8,6 +8,7 @@ ghost use Rattle.rp_store.specs.Kept.{AreSound, IsSound};
 ghost use Rattle.rp_store.specs.Parts.{IsDict, IsList};
 ghost use Rattle.rp_store.specs.Shape.{KeepsShape};
 ghost use Rattle.rp_ops.specs.Outcome.{Meets, state_of};
+ghost use Rattle.rp_methods.specs.Classes.{AddsNoClass};
 ghost use Rattle.rp_methods.specs.Dicts.{dict_method};
 ghost use Rattle.rp_methods.specs.Lists.{list_method, tuple_method};
 ghost use Rattle.rp_methods.specs.Methods.{method, method_of, object_method};
@@ -60,6 +61,7 @@ pub fn call_method(
         (method side receiver.now id args.now (state_of store.old meter.old.left)) }
     ensures sound { IfOk result (λ v. IsSound store.new.heap v) }
     ensures shape { KeepsShape store.old.heap store.new.heap }
+    ensures classes { AddsNoClass store.old.heap store.new.heap }
     ensures fewer { meter.new.left ≤ meter.old.left }
     ensures counters { KeepsCounters store.old store.new }
 {
@@ -91,6 +93,7 @@ fn method_of(
         (method_of side receiver.now id args.now (state_of store.old meter.old.left)) }
     ensures sound { IfOk result (λ v. IsSound store.new.heap v) }
     ensures shape { KeepsShape store.old.heap store.new.heap }
+    ensures classes { AddsNoClass store.old.heap store.new.heap }
     ensures fewer { meter.new.left ≤ meter.old.left }
     ensures counters { KeepsCounters store.old store.new }
 {
@@ -117,6 +120,7 @@ fn object_method(
         (object_method at id args.now (state_of store.old meter.old.left)) }
     ensures sound { IfOk result (λ v. IsSound store.new.heap v) }
     ensures shape { KeepsShape store.old.heap store.new.heap }
+    ensures classes { AddsNoClass store.old.heap store.new.heap }
     ensures fewer { meter.new.left ≤ meter.old.left }
     ensures counters { KeepsCounters store.old store.new }
 {
@@ -144,6 +148,7 @@ fn list_method(
         (list_method at id args.now (state_of store.old meter.old.left)) }
     ensures sound { IfOk result (λ v. IsSound store.new.heap v) }
     ensures shape { KeepsShape store.old.heap store.new.heap }
+    ensures classes { AddsNoClass store.old.heap store.new.heap }
     ensures fewer { meter.new.left ≤ meter.old.left }
     ensures counters { KeepsCounters store.old store.new }
 {
@@ -196,6 +201,7 @@ fn dict_method(
         (dict_method at id args.now (state_of store.old steps)) }
     ensures sound { IfOk result (λ v. IsSound store.new.heap v) }
     ensures shape { KeepsShape store.old.heap store.new.heap }
+    ensures classes { AddsNoClass store.old.heap store.new.heap }
     ensures counters { KeepsCounters store.old store.new }
 {
     match id {
@@ -225,6 +231,7 @@ fn text_method(
         (text_method side text.now id args.now (state_of store.old meter.old.left)) }
     ensures sound { IfOk result (λ v. IsSound store.new.heap v) }
     ensures shape { KeepsShape store.old.heap store.new.heap }
+    ensures classes { AddsNoClass store.old.heap store.new.heap }
     ensures fewer { meter.new.left ≤ meter.old.left }
     ensures counters { KeepsCounters store.old store.new }
 {

@@ -1,5 +1,5 @@
 //! The methods of lists that search, which tuples have too.
-#![tactic(auto, using(rp_store::proofs::Shapes::goes_on))]
+#![tactic(auto, using(rp_store::proofs::Shapes::goes_on, crate::proofs::NoClasses::no_class))]
 
 ghost use Rattle.std.specs.Prelude.{◌≡◌, ◌<◌, ◌≤◌, length, IfOk, OnErr};
 ghost use Rattle.rp_store.specs.Counters.{KeepsCounters};
@@ -10,6 +10,7 @@ ghost use Rattle.rp_store.specs.Shape.{KeepsShape};
 ghost use Rattle.rp_store.specs.Store.{written};
 ghost use Rattle.rp_store.specs.Writers.{without_element};
 ghost use Rattle.rp_ops.specs.Outcome.{Meets, gives, on_value, state_of, with_change};
+ghost use Rattle.rp_methods.specs.Classes.{AddsNoClass};
 ghost use Rattle.rp_methods.specs.Lists.{count, counted, index, none, number, remove, sought};
 
 use crate::fault::Fault;
@@ -106,6 +107,7 @@ pub(crate) fn remove(
         (remove at args.now (state_of store.old meter.old.left)) }
     ensures sound { IfOk result (λ v. IsSound store.new.heap v) }
     ensures shape { KeepsShape store.old.heap store.new.heap }
+    ensures classes { AddsNoClass store.old.heap store.new.heap }
     ensures same { OnErr result (store.new ≡ store.old) }
     ensures fewer { meter.new.left ≤ meter.old.left }
     ensures counters { KeepsCounters store.old store.new }
@@ -130,6 +132,7 @@ fn remove_first(
         (λ p s. gives none (with_change s at (without_element p)))) }
     ensures sound { IfOk result (λ v. IsSound store.new.heap v) }
     ensures shape { KeepsShape store.old.heap store.new.heap }
+    ensures classes { AddsNoClass store.old.heap store.new.heap }
     ensures same { OnErr result (store.new ≡ store.old) }
     ensures fewer { meter.new.left ≤ meter.old.left }
     ensures counters { KeepsCounters store.old store.new }
@@ -145,6 +148,7 @@ fn drop_at(store: &mut Store, at: Oid, place: usize)
     requires place { place < length (elements_at store.old.heap at) }
     ensures dropped { store.new ≡ written store.old at (without_element place) }
     ensures shape { KeepsShape store.old.heap store.new.heap }
+    ensures classes { AddsNoClass store.old.heap store.new.heap }
     ensures counters { KeepsCounters store.old store.new }
 {
     let _removed = store.remove_at(at, place);

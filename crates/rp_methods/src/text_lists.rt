@@ -1,5 +1,5 @@
 //! The methods of texts that make a list of texts.
-#![tactic(auto, using(rp_store::proofs::Shapes::goes_on))]
+#![tactic(auto, using(rp_store::proofs::Shapes::goes_on, crate::proofs::NoClasses::no_class))]
 
 ghost use Rattle.std.specs.Prelude.{◌≡◌, ◌<◌, ◌+◌, ◌++◌, ◌∷◌, [], ℕ, chars, encode_utf8_all, length, map, IfNone, IfOk};
 ghost use Rattle.std.specs.Prelude.{IfSome, OnOk};
@@ -9,6 +9,7 @@ ghost use Rattle.rp_store.specs.Kept.{AreSound, IsSound};
 ghost use Rattle.rp_store.specs.Object as object;
 ghost use Rattle.rp_store.specs.Shape.{KeepsShape};
 ghost use Rattle.rp_ops.specs.Outcome.{Meets, gives, state_of};
+ghost use Rattle.rp_methods.specs.Classes.{AddsNoClass};
 ghost use Rattle.rp_methods.specs.Dicts.{next_object, with_added};
 ghost use Rattle.rp_methods.specs.Texts.{letters_of, on_text, pieces, split, split_by, text_value, texts_listed, words};
 
@@ -34,6 +35,7 @@ pub(crate) fn split(
         (split side text.now args.now (state_of store.old steps)) }
     ensures sound { IfOk result (λ v. IsSound store.new.heap v) }
     ensures shape { KeepsShape store.old.heap store.new.heap }
+    ensures classes { AddsNoClass store.old.heap store.new.heap }
     ensures counters { KeepsCounters store.old store.new }
 {
     match args {
@@ -54,6 +56,7 @@ fn split_value(
         (on_text part.now (state_of store.old steps) (λ u s. split_by side text.now u s)) }
     ensures sound { IfOk result (λ v. IsSound store.new.heap v) }
     ensures shape { KeepsShape store.old.heap store.new.heap }
+    ensures classes { AddsNoClass store.old.heap store.new.heap }
     ensures counters { KeepsCounters store.old store.new }
 {
     match text_of(part) {
@@ -73,6 +76,7 @@ fn split_by(
         (split_by side text.now part.now (state_of store.old steps)) }
     ensures sound { IfOk result (λ v. IsSound store.new.heap v) }
     ensures shape { KeepsShape store.old.heap store.new.heap }
+    ensures classes { AddsNoClass store.old.heap store.new.heap }
     ensures counters { KeepsCounters store.old store.new }
 {
     if !is_some(part) {
@@ -93,6 +97,7 @@ fn split_some(
         (texts_listed side (pieces part.now text.now) (state_of store.old steps)) }
     ensures sound { IfOk result (λ v. IsSound store.new.heap v) }
     ensures shape { KeepsShape store.old.heap store.new.heap }
+    ensures classes { AddsNoClass store.old.heap store.new.heap }
     ensures counters { KeepsCounters store.old store.new }
 {
     let values = pieces_of(alloc, text.as_str(), part.as_str())?;
@@ -104,6 +109,7 @@ fn split_words(alloc: Global, store: &mut Store, side: Side, text: &Text) -> Res
         (texts_listed side (words text.now) (state_of store.old steps)) }
     ensures sound { IfOk result (λ v. IsSound store.new.heap v) }
     ensures shape { KeepsShape store.old.heap store.new.heap }
+    ensures classes { AddsNoClass store.old.heap store.new.heap }
     ensures counters { KeepsCounters store.old store.new }
 {
     let values = words_of(alloc, text.as_str())?;
@@ -160,6 +166,7 @@ fn list_texts(store: &mut Store, side: Side, values: Vec<Value>) -> Result<Value
         (texts_listed side (map letters_of values.items) (state_of store.old steps)) }
     ensures sound { IfOk result (λ v. IsSound store.new.heap v) }
     ensures shape { KeepsShape store.old.heap store.new.heap }
+    ensures classes { AddsNoClass store.old.heap store.new.heap }
     ensures counters { KeepsCounters store.old store.new }
 {
     let Some(bytes) = bytes_within(values.as_slice(), room_in(store)) else {
@@ -178,6 +185,7 @@ fn add_list(store: &mut Store, side: Side, values: Vec<Value>) -> Result<Value, 
         (with_added side (object.list values.items) (state_of store.old steps)) ≡ gives v (state_of store.new steps)) }
     ensures sound { IfOk result (λ v. IsSound store.new.heap v) }
     ensures shape { KeepsShape store.old.heap store.new.heap }
+    ensures classes { AddsNoClass store.old.heap store.new.heap }
     ensures counters { KeepsCounters store.old store.new }
 {
     let at = store.add(side, Object::List(values))?;

@@ -2,8 +2,10 @@
 //! is wanted, and `~` stands for the end of a line within a part.
 #![tactic(auto)]
 
+mod declared;
 mod table;
 mod words;
 
+pub use declared::{FOLDER_FILE, ROLES_FILE};
 pub use table::{Question, all_answer, holds, is_told};
 pub use words::{after_word, first_word, number, part, seed};

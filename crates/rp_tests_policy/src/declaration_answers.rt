@@ -3,7 +3,7 @@
 use crate::chains::chain_file;
 use rp_base::{Memory, Names};
 use rp_decl::{Decl, DeclFault, declarations, fault_line, is_declared_name, is_id};
-use rp_tests_cases::{Question, number, part, seed};
+use rp_tests_cases::{FOLDER_FILE, Question, ROLES_FILE, number, part, seed};
 use std::alloc::Global;
 use std::test::Fail;
 
@@ -30,8 +30,8 @@ impl Cause {
     fn line(&self, alloc: Global, first: &str, parts: &[String]) -> Result<String, Memory> {
         match self {
             Cause::Of => cause_of(alloc, first.as_bytes()),
-            Cause::Where => cause_changed(alloc, FILE, first, part(parts, 1)),
-            Cause::WhereRoles => cause_changed(alloc, FILE_WITH_ROLES, first, part(parts, 1)),
+            Cause::Where => cause_changed(alloc, FOLDER_FILE, first, part(parts, 1)),
+            Cause::WhereRoles => cause_changed(alloc, ROLES_FILE, first, part(parts, 1)),
             Cause::OfChain => cause_of_chain(alloc, first),
             Cause::OfNested => cause_of_nested(alloc, number(parts, 0) as usize),
         }
@@ -58,39 +58,6 @@ fn kind_of(alloc: Global, word: &str) -> Result<&'static str, Memory> {
         (false, false) => "neither",
     })
 }
-
-/// A declaration file of version 1.
-const FILE: &str = r#"version = 1
-permissions = ["zope.View", "zope.Manage"]
-expose = ["root"]
-[class.Folder]
-get = { title = "zope.View", size = "zope.Public" }
-set = { title = "zope.Manage" }
-[principal.bob]
-allow = ["zope.View"]
-[principal.eve]
-[object.root]
-class = "Folder"
-fields = { title = "Home", size = 3, secret = "k" }
-"#;
-
-/// The same with roles.
-pub const FILE_WITH_ROLES: &str = r#"version = 2
-permissions = ["zope.View", "zope.Manage"]
-expose = ["root"]
-[class.Folder]
-get = { title = "zope.View", size = "zope.Public" }
-set = { title = "zope.Manage" }
-[principal.bob]
-allow = ["zope.View"]
-[principal.eve]
-roles = ["reader"]
-[object.root]
-class = "Folder"
-fields = { title = "Home", size = 3, secret = "k" }
-[role.reader]
-permissions = ["zope.View"]
-"#;
 
 /// The declarations, with the names that they were read into. Nothing is claimed of them, so that what calls this is
 /// proved over no more than it needs.
@@ -149,5 +116,5 @@ fn cause_of_nested(alloc: Global, depth: usize) -> Result<String, Memory> {
     let open = "[".repeat(alloc, depth)?;
     let close = "]".repeat(alloc, depth)?;
     let value = format!(in alloc; "size = {open}{close}")?;
-    cause_changed(alloc, FILE, "size = 3", value.as_str())
+    cause_changed(alloc, FOLDER_FILE, "size = 3", value.as_str())
 }

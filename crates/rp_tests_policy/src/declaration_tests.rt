@@ -1,8 +1,8 @@
 //! Declaration files: what they declare, and why they are refused.
 
-use crate::declaration_answers::{Cause, FILE_WITH_ROLES, Word, line_of};
+use crate::declaration_answers::{Cause, Word, line_of};
 use crate::records_shown::shown;
-use rp_tests_cases::{all_answer, is_told};
+use rp_tests_cases::{ROLES_FILE, all_answer, is_told};
 use std::test::Fail;
 
 /// A text of the file, another in its place, and the cause that is told.
@@ -179,7 +179,7 @@ object root of Folder: secret='k' size=3 title='Home'
 
 #[test]
 fn a_file_gives_its_records(rt: HostRuntime) -> Result<(), Fail> {
-    let records = shown(rt.alloc(), FILE_WITH_ROLES.as_bytes())?;
+    let records = shown(rt.alloc(), ROLES_FILE.as_bytes())?;
     is_told(rt.alloc(), "the file with roles", records.as_str(), RECORDS)
 }
 

@@ -2,9 +2,9 @@
 
 ghost use Rattle.std.specs.Prelude.{◌≡◌, ◌<◌};
 
-use crate::program_answers::{AMPLE, PRINT_TITLE, RUN, TITLE, file_list, status_of, told};
+use crate::program_answers::{AMPLE, PRINT_TITLE, RUN, file_list, status_of, told};
 use rp_base::{Files, MemFiles, MemSink, Memory, Sink, Status, SureFiles, SureSink, Text};
-use rp_tests_cases::{holds, is_told};
+use rp_tests_cases::{FOLDER_FILE, holds, is_told};
 use std::alloc::Global;
 use std::test::Fail;
 
@@ -31,7 +31,7 @@ fn run_title<F: Files, K: Sink>(alloc: Global, files: &mut F, out: &mut K) -> Re
 fn written(alloc: Global, sink: FailingSink) -> Result<(u8, Vec<u8>), Fail>
     requires { 0 < sink.most }
 {
-    let mut files = SureFiles::new(file_list(alloc, TITLE.as_bytes(), PRINT_TITLE)?);
+    let mut files = SureFiles::new(file_list(alloc, FOLDER_FILE.as_bytes(), PRINT_TITLE)?);
     let failing = vec![in alloc; sink.failing]?;
     let mut out = MemSink::new(alloc, sink.room, sink.most, failing)?;
     let Status(status) = run_title(alloc, &mut files, &mut out)?;
@@ -61,7 +61,7 @@ fn is_front_written(
 
 /// Asks whether the program ends with this status and these bytes are written, where a call of the files fails.
 fn ends_where_fails(alloc: Global, failing: u64, wanted: u8, bytes: &[u8]) -> Result<(), Fail> {
-    let list = file_list(alloc, TITLE.as_bytes(), PRINT_TITLE)?;
+    let list = file_list(alloc, FOLDER_FILE.as_bytes(), PRINT_TITLE)?;
     let mut files = MemFiles::new(list, AMPLE, vec![in alloc; failing]?);
     let mut out = MemSink::new(alloc, AMPLE, AMPLE, Vec::new(alloc))?;
     let Status(status) = run_title(alloc, &mut files, &mut out)?;
@@ -70,7 +70,7 @@ fn ends_where_fails(alloc: Global, failing: u64, wanted: u8, bytes: &[u8]) -> Re
 
 /// Asks whether the title is printed where a read gives one byte.
 fn is_title_printed_by_bytes(alloc: Global) -> Result<(), Fail> {
-    let list = file_list(alloc, TITLE.as_bytes(), PRINT_TITLE)?;
+    let list = file_list(alloc, FOLDER_FILE.as_bytes(), PRINT_TITLE)?;
     let mut files = MemFiles::new(list, 1, Vec::new(alloc));
     let mut out = MemSink::new(alloc, AMPLE, AMPLE, Vec::new(alloc))?;
     let Status(status) = run_title(alloc, &mut files, &mut out)?;
@@ -85,7 +85,7 @@ fn blank_files(
 ) -> Result<Vec<(Text, Vec<u8>)>, Memory> {
     let blanks = vec![in alloc; b' '; count]?;
     if is_script {
-        return file_list(alloc, TITLE.as_bytes(), blanks.as_slice());
+        return file_list(alloc, FOLDER_FILE.as_bytes(), blanks.as_slice());
     }
     file_list(alloc, blanks.as_slice(), b"")
 }
@@ -144,7 +144,7 @@ fn writes_a_front_where_a_write_fails(rt: HostRuntime) -> Result<(), Fail> {
 #[test]
 fn runs_over_files_and_a_sink_that_never_fail(rt: HostRuntime) -> Result<(), Fail> {
     let alloc = rt.alloc();
-    let mut files = SureFiles::new(file_list(alloc, TITLE.as_bytes(), PRINT_TITLE)?);
+    let mut files = SureFiles::new(file_list(alloc, FOLDER_FILE.as_bytes(), PRINT_TITLE)?);
     let mut out = SureSink::new();
     let Status(status) = run_title(alloc, &mut files, &mut out)?;
     holds(status == 0, status as u64)

@@ -4,7 +4,7 @@ ghost use Rattle.std.specs.Prelude.{◌≡◌};
 
 use rp_base::{Files, MemFiles, MemSink, Memory, Sink, Status, Text};
 use rp_run::{USAGE, run};
-use rp_tests_cases::{Question, is_told, part};
+use rp_tests_cases::{FOLDER_FILE, Question, ROLES_FILE, is_told, part};
 use std::alloc::{AllocError, Global};
 use std::test::Fail;
 
@@ -31,10 +31,10 @@ impl Question for Said {
 impl Said {
     fn text(&self, alloc: Global, first: &str, second: &str) -> Result<String, Fail> {
         match self {
-            Said::To => said_over(alloc, first, TITLE, second.as_bytes()),
-            Said::Of => said_over(alloc, RUN, TITLE, first.as_bytes()),
-            Said::Where => said_where(alloc, TITLE, first, second),
-            Said::WhereRoles => said_where(alloc, ROLES, first, second),
+            Said::To => said_over(alloc, first, FOLDER_FILE, second.as_bytes()),
+            Said::Of => said_over(alloc, RUN, FOLDER_FILE, first.as_bytes()),
+            Said::Where => said_where(alloc, FOLDER_FILE, first, second),
+            Said::WhereRoles => said_where(alloc, ROLES_FILE, first, second),
             Said::Usage => usage_or(alloc, first),
         }
     }
@@ -42,38 +42,6 @@ impl Said {
 
 /// The words by which bob runs a script.
 pub const RUN: &str = "run title.toml bob:s.py";
-
-pub const TITLE: &str = r#"version = 1
-permissions = ["zope.View", "zope.Manage"]
-expose = ["root"]
-[class.Folder]
-get = { title = "zope.View", size = "zope.Public" }
-set = { title = "zope.Manage" }
-[principal.bob]
-allow = ["zope.View"]
-[principal.eve]
-[object.root]
-class = "Folder"
-fields = { title = "Home", size = 3, secret = "k" }
-"#;
-
-/// The same, where eve has a role.
-pub const ROLES: &str = r#"version = 2
-permissions = ["zope.View", "zope.Manage"]
-expose = ["root"]
-[class.Folder]
-get = { title = "zope.View", size = "zope.Public" }
-set = { title = "zope.Manage" }
-[role.reader]
-permissions = ["zope.View"]
-[principal.bob]
-allow = ["zope.View"]
-[principal.eve]
-roles = ["reader"]
-[object.root]
-class = "Folder"
-fields = { title = "Home", size = 3, secret = "k" }
-"#;
 
 /// A group allows what its member is denied.
 pub const GROUPS: &str = r#"version = 1
@@ -174,7 +142,7 @@ fn said_where(alloc: Global, declarations: &str, from: &str, to: &str) -> Result
 
 /// `usage` where that is said to a line, and nothing else.
 fn usage_or(alloc: Global, line: &str) -> Result<String, Fail> {
-    let said = said_over(alloc, line, TITLE, PRINT_TITLE)?;
+    let said = said_over(alloc, line, FOLDER_FILE, PRINT_TITLE)?;
     if said.as_str().strip_suffix("2") == Some(USAGE) {
         return Ok(String::from_str(alloc, "usage")?);
     }

@@ -1,7 +1,7 @@
 //! The program: what it says to words and files, with the status behind it.
 
-use crate::program_answers::{GROUPS, PRINT_TITLE, ROLES, RUN, Said, TITLE, is_said, said_over};
-use rp_tests_cases::all_answer;
+use crate::program_answers::{GROUPS, PRINT_TITLE, RUN, Said, is_said, said_over};
+use rp_tests_cases::{FOLDER_FILE, ROLES_FILE, all_answer};
 use std::test::Fail;
 
 /// The words, the script, and what is said.
@@ -144,14 +144,14 @@ fn takes_roles_of_version_2(rt: HostRuntime) -> Result<(), Fail> {
     is_said(
         rt.alloc(),
         may,
-        ROLES,
+        ROLES_FILE,
         b"",
         "eve yes role reader\nmay yes\n0",
     )?;
     is_said(
         rt.alloc(),
         run,
-        ROLES,
+        ROLES_FILE,
         PRINT_TITLE,
         "session 1 eve\nHome\nend ok\n0",
     )
@@ -165,7 +165,7 @@ fn tells_permissions_of_declarations_that_are_not_run(rt: HostRuntime) -> Result
         ("version = 1", "version = 1\nmodule = \"x = 1\""),
         ("[\"root\"]", "[\"rot\"]"),
     ] {
-        let changed = TITLE.replace(rt.alloc(), from, to)?;
+        let changed = FOLDER_FILE.replace(rt.alloc(), from, to)?;
         is_said(
             rt.alloc(),
             BOB,
@@ -187,23 +187,29 @@ fn refuses_in_the_order_of_the_steps(rt: HostRuntime) -> Result<(), Fail> {
         b"x\xFF",
         "declarations: not TOML\n3",
     )?;
-    is_said(rt.alloc(), line, TITLE, b"x\xFF", "principal: dave\n3")?;
+    is_said(
+        rt.alloc(),
+        line,
+        FOLDER_FILE,
+        b"x\xFF",
+        "principal: dave\n3",
+    )?;
     is_said(
         rt.alloc(),
         RUN,
-        TITLE,
+        FOLDER_FILE,
         b"x\xFF",
         "script 1: byte 1: not UTF-8\n4",
     )?;
     let wanted = "script 1: line 2: tab in indentation\n4";
-    is_said(rt.alloc(), RUN, TITLE, b"x = 1\n\ty = 2", wanted)
+    is_said(rt.alloc(), RUN, FOLDER_FILE, b"x = 1\n\ty = 2", wanted)
 }
 
 /// A line has 2,000 bytes, and reading the title and printing it are 2,001 cells.
 #[test]
 fn stops_a_session_where_no_cell_is_left(rt: HostRuntime) -> Result<(), Fail> {
     let title = "a".repeat(rt.alloc(), 1999)?;
-    let changed = TITLE.replace(rt.alloc(), "Home", title.as_str())?;
+    let changed = FOLDER_FILE.replace(rt.alloc(), "Home", title.as_str())?;
     let script = "print(root.title)\n".repeat(rt.alloc(), 600)?;
     let said = said_over(rt.alloc(), RUN, changed.as_str(), script.as_bytes())?;
     assert_eq!(rt; said.len(), 14 + 499 * 2_000 + 18 + 1);
@@ -215,5 +221,5 @@ fn stops_a_session_where_no_cell_is_left(rt: HostRuntime) -> Result<(), Fail> {
 fn says_that_brackets_are_too_deep(rt: HostRuntime) -> Result<(), Fail> {
     let script = vec![in rt.alloc(); b'('; 201]?;
     let wanted = "script 1: line 1: brackets too deep\n4";
-    is_said(rt.alloc(), RUN, TITLE, script.as_slice(), wanted)
+    is_said(rt.alloc(), RUN, FOLDER_FILE, script.as_slice(), wanted)
 }

@@ -1,6 +1,6 @@
 //! Tests of compiled scripts and trusted modules: where their code blocks find names, and what they are refused for.
 
-use crate::shown_scopes::{Reading, first_other_scope};
+use crate::shown_scopes::{Reading, all_found};
 use std::test::Fail;
 
 /// Each script with places that code blocks of its compiled form find, or with why it is refused.
@@ -32,18 +32,14 @@ x = $ => line 1: bad character
 
 #[test]
 fn compiled_blocks_find_their_names(rt: HostRuntime) -> Result<(), Fail> {
-    let other = first_other_scope(
+    all_found(
         rt.alloc(),
         Reading::Script,
         COMPILED_BLOCKS_FIND_THEIR_NAMES,
-    )?;
-    assert_eq!(rt; other.as_str(), "");
-    Ok(())
+    )
 }
 
 #[test]
 fn trusted_blocks_find_their_names(rt: HostRuntime) -> Result<(), Fail> {
-    let other = first_other_scope(rt.alloc(), Reading::Module, TRUSTED_BLOCKS_FIND_THEIR_NAMES)?;
-    assert_eq!(rt; other.as_str(), "");
-    Ok(())
+    all_found(rt.alloc(), Reading::Module, TRUSTED_BLOCKS_FIND_THEIR_NAMES)
 }

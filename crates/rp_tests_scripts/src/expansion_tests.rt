@@ -7,22 +7,27 @@ use rp_base::Printed;
 use rp_guard::transform;
 use rp_print::source_text;
 use rp_program::{ProgramFault, add_fault, read_text};
+use rp_tests_cases::is_told;
 use std::alloc::Global;
 use std::test::Fail;
 
-/// The first case that is answered otherwise, with its answer; nothing where there is none. A case stands on a line,
-/// the script on the left of `=>` and on its right its text as it runs, or the fault that is told.
-fn first_other(alloc: Global, cases: &str) -> Result<String, Fail> {
+/// Asks each case. A case stands on a line, the script on the left of `=>` and on its right its text as it runs, or the
+/// fault that is told.
+///
+/// # Errors
+/// The first case that is answered otherwise, with its answer; and where memory was refused.
+fn all_told(alloc: Global, cases: &str) -> Result<(), Fail> {
     for case in cases.lines() {
-        let (script, expected) = case.split_once(" => ").unwrap_or((case, "no answer"));
-        let found = told(alloc, spelled_out(alloc, script)?.as_str())?;
-        let expected = spelled_out(alloc, expected)?;
-        if found.as_str().trim_end() != expected.as_str() {
-            let found = found.as_str();
-            return Ok(format!(in alloc; "{case} is answered by {found}")?);
-        }
+        is_case_told(alloc, case)?;
     }
-    Ok(String::new(alloc))
+    Ok(())
+}
+
+fn is_case_told(alloc: Global, case: &str) -> Result<(), Fail> {
+    let (script, wanted) = case.split_once(" => ").unwrap_or((case, "no answer"));
+    let found = told(alloc, spelled_out(alloc, script)?.as_str())?;
+    let wanted = spelled_out(alloc, wanted)?;
+    is_told(alloc, case, found.as_str().trim_end(), wanted.as_str())
 }
 
 /// The text of a script as it runs, or the fault that is told.
@@ -57,9 +62,7 @@ y = f('a') => y = f('a')"#;
 
 #[test]
 fn f_literals_are_written_out(rt: HostRuntime) -> Result<(), Fail> {
-    let other = first_other(rt.alloc(), F_LITERALS_ARE_WRITTEN_OUT)?;
-    assert_eq!(rt; other.as_str(), "");
-    Ok(())
+    all_told(rt.alloc(), F_LITERALS_ARE_WRITTEN_OUT)
 }
 
 const SETS_ARE_DICTS: &str = r#"y = x in {1, 2} => y = x in {1: None, 2: None}
@@ -78,9 +81,7 @@ y = x in {1: 2} => y = x in {1: 2}"#;
 
 #[test]
 fn sets_are_dicts(rt: HostRuntime) -> Result<(), Fail> {
-    let other = first_other(rt.alloc(), SETS_ARE_DICTS)?;
-    assert_eq!(rt; other.as_str(), "");
-    Ok(())
+    all_told(rt.alloc(), SETS_ARE_DICTS)
 }
 
 /// A `}` or `{` alone, an expression that is blank or has no tokens, closes what it didn't open, or has a `{` or `#`.
@@ -100,9 +101,7 @@ y = f'{}'␊␉x => line 2: tab in indentation"#;
 
 #[test]
 fn wrong_f_literals_are_refused(rt: HostRuntime) -> Result<(), Fail> {
-    let other = first_other(rt.alloc(), WRONG_F_LITERALS_ARE_REFUSED)?;
-    assert_eq!(rt; other.as_str(), "");
-    Ok(())
+    all_told(rt.alloc(), WRONG_F_LITERALS_ARE_REFUSED)
 }
 
 const OTHER_FORMS_ARE_REFUSED: &str = r#"x = 'a' f'b' => line 1: syntax
@@ -120,7 +119,5 @@ pass␊y = x in {1} + z => line 2: syntax"#;
 
 #[test]
 fn other_forms_are_refused(rt: HostRuntime) -> Result<(), Fail> {
-    let other = first_other(rt.alloc(), OTHER_FORMS_ARE_REFUSED)?;
-    assert_eq!(rt; other.as_str(), "");
-    Ok(())
+    all_told(rt.alloc(), OTHER_FORMS_ARE_REFUSED)
 }

@@ -1,6 +1,6 @@
 //! Tests of the names of code blocks: where each block finds a name (Python Language Reference, Naming and binding).
 
-use crate::shown_scopes::{Reading, first_other_scope};
+use crate::shown_scopes::{Reading, all_found};
 use std::test::Fail;
 
 /// Each script with some of its code blocks by their numbers, and where these find some names: among their own local
@@ -62,7 +62,5 @@ def f():␊ global x␊ return [x for y in x] => 1: x=global; 2: y=local 0, x=gl
 
 #[test]
 fn blocks_find_their_names(rt: HostRuntime) -> Result<(), Fail> {
-    let other = first_other_scope(rt.alloc(), Reading::Program, BLOCKS_FIND_THEIR_NAMES)?;
-    assert_eq!(rt; other.as_str(), "");
-    Ok(())
+    all_found(rt.alloc(), Reading::Program, BLOCKS_FIND_THEIR_NAMES)
 }

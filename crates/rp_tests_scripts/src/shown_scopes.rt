@@ -8,6 +8,7 @@ use crate::shown_compiled::{module_places, script_places};
 use rp_base::{Name, Names};
 use rp_program::{ProgramFault, read_text};
 use rp_scope::{Layouts, Place2, number, resolve};
+use rp_tests_cases::is_told;
 use rp_tree::Tree;
 use std::alloc::{AllocError, Global};
 use std::test::Fail;
@@ -23,22 +24,25 @@ pub enum Reading {
     Module,
 }
 
-/// The first case that is answered otherwise, with its answer; nothing where there is none, and `no case` of no table.
-/// A case is a text, and behind `=>` the blocks that are asked with `; ` between them: a number, `: `, and names with
-/// their places with `, ` between them; or why the text is refused.
-pub fn first_other_scope(alloc: Global, reading: Reading, cases: &str) -> Result<String, Fail> {
+/// Asks each case. A case is a text, and behind `=>` the blocks that are asked with `; ` between them: a number, `: `, and
+/// names with their places with `, ` between them; or why the text is refused.
+///
+/// # Errors
+/// The first case that is answered otherwise, with its answer; a table with no case; and where memory was refused.
+pub fn all_found(alloc: Global, reading: Reading, cases: &str) -> Result<(), Fail> {
     if cases.is_empty() {
-        return Ok(String::from_str(alloc, "no case")?);
+        return Err(Fail::new("no case"));
     }
     for case in cases.lines() {
-        let (text, expected) = case.split_once(" => ").unwrap_or((case, "a place"));
-        let found = places(alloc, reading, spelled_out(alloc, text)?.as_str(), expected)?;
-        if found.as_str() != expected {
-            let found = found.as_str();
-            return Ok(format!(in alloc; "{case} is answered by {found}")?);
-        }
+        is_found(alloc, reading, case)?;
     }
-    Ok(String::new(alloc))
+    Ok(())
+}
+
+fn is_found(alloc: Global, reading: Reading, case: &str) -> Result<(), Fail> {
+    let (text, wanted) = case.split_once(" => ").unwrap_or((case, "a place"));
+    let found = places(alloc, reading, spelled_out(alloc, text)?.as_str(), wanted)?;
+    is_told(alloc, case, found.as_str(), wanted)
 }
 
 /// The places of the names that are asked, in the form of the question.

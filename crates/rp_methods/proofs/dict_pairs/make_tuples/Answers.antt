@@ -4,6 +4,7 @@ use Rattle.rp_ops.specs.Outcome.{state_of}
 use Rattle.rp_methods.specs.Dicts.{tuples_listed}
 use Rattle.rp_methods.proofs.Listed.{listed-next, sound-next}
 use Rattle.rp_methods.proofs.Walked.{sound-item}
+use Rattle.rp_methods.proofs.NoClasses.{AddsNoClass-trans}
 use Rattle.rp_methods.proofs.dict_pairs.make_tuples.Goals as goal
 
 pub make_pair-requires : goal.make_pair-requires
@@ -22,5 +23,6 @@ loop-rock-preserved c =
       made = sound-next old.heap new.heap c.loop-rock.made.items c.push.new.self.items c.in_ok-pair.pair c.make_pair.ensures.shape c.loop-rock.invariant.made
           c.in_ok-pair.ensures.sound c.in_ok-push.ensures.items;
       shape = KeepsShape-trans c.args.store.now.heap old.heap new.heap c.loop-rock.invariant.shape c.make_pair.ensures.shape;
+      classes = AddsNoClass-trans c.args.store.now.heap old.heap new.heap c.loop-rock.invariant.classes c.make_pair.ensures.classes;
       counters = KeepsCounters-trans c.args.store.now old new c.loop-rock.invariant.counters c.make_pair.ensures.counters;
     }

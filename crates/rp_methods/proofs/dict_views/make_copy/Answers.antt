@@ -5,6 +5,7 @@ use Rattle.std.proofs.lemmas.List.Elements.{All-same}
 use Rattle.rp_ops.specs.Outcome.{state_of}
 use Rattle.rp_methods.specs.Dicts.{entries_of}
 use Rattle.rp_methods.proofs.Made.{made-same}
+use Rattle.rp_methods.proofs.NoClasses.{no_class-made}
 use Rattle.rp_methods.proofs.dict_views.make_copy.Goals as goal
 
 pub returns-clause-plain : goal.returns-clause-plain
@@ -19,3 +20,7 @@ new_object-requires-clause-holds c =
 
 pub new_object-requires-clause-value : goal.new_object-requires-clause-value
 new_object-requires-clause-value c = λ h. h
+
+pub returns-clause-classes : goal.returns-clause-classes
+returns-clause-classes c =
+    no_class-made c.args.store.now c.new_object.new.store c.owner-owner.result c.new_object.result _ (λ h. h) c.new_object.ensures.made c.new_object.ensures.same

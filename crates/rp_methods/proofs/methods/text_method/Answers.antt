@@ -3,6 +3,7 @@ use Rattle.rp_base.specs.declared.native.NativeId.{NativeId}
 use Rattle.rp_store.proofs.CallerLemmas.{KeepsShape-same}
 use Rattle.rp_ops.specs.Outcome.{Meets, state_of}
 use Rattle.rp_methods.specs.Texts.{text_method}
+use Rattle.rp_methods.proofs.NoClasses.{AddsNoClass-same}
 use Rattle.rp_methods.proofs.methods.text_method.Goals as goal
 
 pub returns-in-Join-clause-sound : goal.returns-in-Join-clause-sound
@@ -85,3 +86,12 @@ returns-in-IsDigit-clause-plain c =
 
 pub returns-in-IsDigit-clause-sound : goal.returns-in-IsDigit-clause-sound
 returns-in-IsDigit-clause-sound c = c.isdigit.ensures.sound c.args.store.now.heap
+
+pub returns-in-Join-clause-classes : goal.returns-in-Join-clause-classes
+returns-in-Join-clause-classes c = AddsNoClass-same c.args.store.now.heap c.join.new.store.heap c.join.ensures.same
+
+pub returns-in-Strip-clause-classes : goal.returns-in-Strip-clause-classes
+returns-in-Strip-clause-classes c = AddsNoClass-same c.args.store.now.heap c.strip.new.store.heap c.strip.ensures.same
+
+pub returns-in-Replace-clause-classes : goal.returns-in-Replace-clause-classes
+returns-in-Replace-clause-classes c = AddsNoClass-same c.args.store.now.heap c.replace.new.store.heap c.replace.ensures.same

@@ -1,0 +1,4 @@
+pub mod Deciding
+pub mod Sets
+pub mod Literals
+pub mod Spelled

@@ -1,0 +1,16 @@
+-- A list, from its first element and the part behind it, as code takes them.
+use Rattle.std.proofs.Common.{◌≡◌, ◌<◌, ◌≤◌, ◌-◌, List, [], ◌∷◌, length, get_or, take, drop, refl, ap, ◌∙◌, arith}
+use Rattle.std.proofs.lemmas.List.{take_all}
+
+pub first_rest : {A : Type 0} (xs : List A) (x : A) → 1 ≤ length xs → x ≡ get_or xs 0 x → x ∷ take (length xs - 1) (drop 1 xs) ≡ xs
+first_rest [] x some is = absurd (omega arith)
+first_rest (y ∷ ys) x some is = ap (λ z. z ∷ take (length (y ∷ ys) - 1) ys) is ∙ ap (λ zs. y ∷ zs) (take_all (length (y ∷ ys) - 1) ys (omega arith))
+
+pub only_first : {A : Type 0} (xs : List A) (x : A) → 1 ≤ length xs → length xs < 2 → x ≡ get_or xs 0 x → x ∷ [] ≡ xs
+only_first [] x some one is = absurd (omega arith)
+only_first (y ∷ []) x some one is = ap (λ z. z ∷ []) is
+only_first (y ∷ z ∷ zs) x some one is = absurd (omega arith)
+
+pub none_left : {A : Type 0} (xs : List A) → length xs < 1 → xs ≡ []
+none_left [] none = refl
+none_left (x ∷ xs) none = absurd (omega arith)

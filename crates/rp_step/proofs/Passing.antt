@@ -1,0 +1,102 @@
+-- What tasks pass on, and what is left where none waits.
+use Rattle.std.proofs.Common.{◌≡◌, ℕ, zero, suc, ◌+◌, List, [], ◌∷◌, drop, refl, sym, ap, ◌∙◌, subst, arith}
+use Rattle.std.proofs.Math.Seq.{drop-nil}
+use Rattle.rp_base.specs.declared.value.Value.{Value}
+use Rattle.rp_frame.specs.Top.{below}
+use Rattle.rp_frame.specs.declared.control.Control.{Control}
+use Rattle.rp_frame.specs.declared.task.ExprTask.{ExprTask}
+use Rattle.rp_frame.specs.declared.task.ExprTask.TheVariants as expr
+use Rattle.rp_frame.specs.declared.task.FlowTask.TheVariants as flow
+use Rattle.rp_frame.specs.declared.task.StmtTask.{StmtTask}
+use Rattle.rp_frame.specs.declared.task.StmtTask.TheVariants as stmt
+use Rattle.rp_frame.specs.declared.task.Task.{Task}
+use Rattle.rp_frame.specs.declared.task.Task.TheVariants as task
+use Rattle.rp_meaning.specs.Frame.{Frame, Run}
+use Rattle.rp_meaning.specs.State.{State, Outcome, Flow}
+use Rattle.rp_ops.specs.Outcome.{End, ends}
+use Rattle.rp_proxy.specs.declared.world.World.{World}
+use Rattle.rp_step.specs.Law.{Leaves, Takes, frame_in, rest_of}
+use Rattle.rp_step.specs.Left.{at_hand, flow_with}
+use Rattle.rp_step.specs.Moment.{state_of}
+use Rattle.rp_step.specs.Ready.{IsReady}
+use Rattle.rp_step.specs.Rest.{Held, after, begun, did, gave, rest}
+use Rattle.rp_step.specs.declared.machine.Machine.{Machine}
+use Rattle.rp_step.proofs.AtHand.{below_ready, drop_ready}
+
+below_drop : (vs : List Value) → below vs ≡ drop 1 vs
+below_drop [] = refl
+below_drop (v ∷ vs) = refl
+
+module _ (f : Frame) (vs : List Value) where
+  -- an expression that has no value
+  pub expr_cut : (t : ExprTask) (e : End) (s : State) → after (task.Expr t) (gave f vs (ends e s)) ≡ gave f (drop (at_hand t) vs) (ends e s)
+  expr_cut (expr.Operands os) e s = refl
+  expr_cut (expr.Operand op os) e s = ap (λ vs. gave f vs (ends e s)) (below_drop vs)
+  expr_cut expr.Not e s = refl
+  expr_cut (expr.Cond a b) e s = refl
+  expr_cut (expr.Unary op) e s = refl
+  expr_cut (expr.Power x) e s = refl
+  expr_cut expr.Exponent e s = ap (λ vs. gave f vs (ends e s)) (below_drop vs)
+
+  pub stmt_cut : (t : StmtTask) (e : End) (s : State) → after (task.Stmt t) (gave f vs (ends e s)) ≡ did f vs (ends e s)
+  stmt_cut stmt.Evaluate e s = refl
+  stmt_cut (stmt.Assign ps) e s = refl
+  stmt_cut (stmt.Branch b bs x) e s = refl
+  stmt_cut (stmt.Test b) e s = refl
+  stmt_cut (stmt.Assert m) e s = refl
+  stmt_cut stmt.Fail e s = refl
+
+  -- a statement that was cut off
+  pub did_cut : (t : Task) (e : End) (s : State) → after t (did f vs (ends e s)) ≡ did f (drop (flow_with t) vs) (ends e s)
+  did_cut (task.Expr t) e s = refl
+  did_cut (task.Stmt t) e s = refl
+  did_cut (task.Flow (flow.Block xs)) e s = refl
+  did_cut (task.Flow (flow.While n x b)) e s = refl
+  did_cut (task.Flow (flow.Store ps)) e s = ap (λ vs. did f vs (ends e s)) (below_drop vs)
+  did_cut (task.Flow (flow.Delete ps)) e s = refl
+
+-- a task that was taken off
+pub leaves_by : (m n : Machine) (w v : World) (t : Task) (ts : List Task) → m.tasks ≡ t ∷ ts → Takes t (record m { tasks = ts }) w n v → Leaves m w n v
+leaves_by m n w v t ts is law base = law base ∙ ap (λ ts. rest ts (begun (frame_in base m) m.control m.values m.end (state_of w))) (sym is)
+
+pub leaves_same : (m : Machine) (w : World) (ts : List Task) → m.tasks ≡ [] → ts ≡ [] → Leaves m w (record m { tasks = ts }) w
+leaves_same m w ts is none base = ap (λ ts. rest ts (begun (frame_in base m) m.control m.values m.end (state_of w))) (none ∙ sym is)
+
+pub leaves_trans : (m n o : Machine) (w v u : World) → Leaves m w n v → Leaves n v o u → Leaves m w o u
+leaves_trans m n o w v u first second base = second base ∙ first base
+
+-- the end of a statement
+abbrev pub ended : Held → Outcome Flow → Outcome Flow
+ended (gave f vs o) other = other
+ended (did f vs o) other = o
+
+pub left_is : (base : Run) (m : Machine) (s : State) (f : Frame) (vs : List Value) (o : Outcome Flow) → m.tasks ≡ [] → rest_of base m s ≡ did f vs o
+    → ended (begun (frame_in base m) m.control m.values m.end s) o ≡ o
+left_is base m s f vs o none is =
+    ap (λ h. ended h o) (ap (λ ts. rest ts (begun (frame_in base m) m.control m.values m.end s)) (sym none) ∙ is)
+
+-- some values at hand were dropped
+module _ (m n : Machine) (k : ℕ) (is : n ≡ record m { values = drop k m.values }) where
+  pub forgot : (o : Machine) (control : Control)
+      → ((base : Run) (s : State) → rest_of base o s ≡ rest n.tasks (begun (frame_in base n) control n.values n.end s))
+      → (base : Run) (s : State) → rest_of base o s ≡ rest m.tasks (begun (frame_in base m) control (drop k m.values) m.end s)
+  forgot o control law base s = subst (λ (z : Machine). rest_of base o s ≡ rest z.tasks (begun (frame_in base z) control z.values z.end s)) is (law base s)
+
+  pub ready_forgot : (w : World) → IsReady m.units.now m.frame m.values w → IsReady n.units.now n.frame n.values w
+  ready_forgot w h = subst (λ (z : Machine). IsReady z.units.now z.frame z.values w) (sym is) (drop_ready m.units.now m.frame k m.values w h)
+
+below_dropped : (n : ℕ) (vs : List Value) → below (drop n vs) ≡ drop (suc n) vs
+below_dropped n [] = ap below (drop-nil n)
+below_dropped zero (v ∷ vs) = refl
+below_dropped (suc n) (v ∷ vs) = below_dropped n vs
+
+one_more : (k : ℕ) → suc k ≡ k + 1
+one_more k = omega arith
+
+pub popped : (m n : Machine) (k : ℕ) (us : List Value) → n ≡ record m { values = drop k m.values } → us ≡ below n.values
+    → record n { values = us } ≡ record m { values = drop (k + 1) m.values }
+popped m n k us is last = ap (λ (z : Machine). record z { values = us }) is
+    ∙ ap (λ us. record m { values = us }) (last ∙ ap (λ (z : Machine). below z.values) is ∙ below_dropped k m.values ∙ ap (λ j. drop j m.values) (one_more k))
+
+pub ready_less : (m : Machine) (us : List Value) → us ≡ below m.values → (w : World) → IsReady m.units.now m.frame m.values w → IsReady m.units.now m.frame us w
+ready_less m us left w h = subst (λ (us : List Value). IsReady m.units.now m.frame us w) (sym left) (below_ready m.units.now m.frame m.values w h)

@@ -1,0 +1,22 @@
+use Rattle.rp_step.proofs.machine.Machine.after_expr.Goals as goal
+
+pub returns-in-Operands-clause-law : goal.returns-in-Operands-clause-law
+returns-in-Operands-clause-law c = rw (c.in-Operands.is) c.operands.ensures.law
+
+pub returns-in-Operand-clause-law : goal.returns-in-Operand-clause-law
+returns-in-Operand-clause-law c = rw (c.in-Operand.is) c.after_operand.ensures.law
+
+pub returns-in-Not-clause-law : goal.returns-in-Not-clause-law
+returns-in-Not-clause-law c = rw (c.in-Not.is) c.not_of.ensures.law
+
+pub returns-in-Cond-clause-law : goal.returns-in-Cond-clause-law
+returns-in-Cond-clause-law c = rw (c.in-Cond.is) c.either.ensures.law
+
+pub returns-in-Unary-clause-law : goal.returns-in-Unary-clause-law
+returns-in-Unary-clause-law c = rw (c.in-Unary.is) c.unary_of.ensures.law
+
+pub returns-in-Power-clause-law : goal.returns-in-Power-clause-law
+returns-in-Power-clause-law c = rw (c.in-Power.is) c.to_power.ensures.law
+
+pub returns-in-Exponent-clause-law : goal.returns-in-Exponent-clause-law
+returns-in-Exponent-clause-law c = rw (c.in-Exponent.is) c.after_exponent.ensures.law

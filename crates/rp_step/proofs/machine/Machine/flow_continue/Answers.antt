@@ -1,0 +1,42 @@
+use Rattle.std.proofs.Common.{ap}
+use Rattle.rp_frame.specs.Top.{below}
+use Rattle.rp_meaning.specs.State.{continued}
+use Rattle.rp_ops.specs.Outcome.{gives}
+use Rattle.rp_step.proofs.Doings.{held_as, held_by}
+use Rattle.rp_step.specs.Does as does
+use Rattle.rp_step.specs.Law.{frame_in}
+use Rattle.rp_step.specs.Moment.{state_of}
+use Rattle.rp_step.specs.Rest.{after_flow, did, loop}
+use Rattle.rp_step.proofs.machine.Machine.flow_continue.Goals as goal
+
+pub returns-in-While-clause-law : goal.returns-in-While-clause-law
+returns-in-While-clause-law c =
+    let m = c.args.self.now in
+    let w = c.args.world.now in
+    held_as m c.loop_turn.new.self c.loop_turn.new.world c.loop_turn.result (λ base. after_flow c.args.task (frame_in base m) m.values (gives continued (state_of w)))
+    (λ base. did (frame_in base m) m.values (loop c.in-While.turns (does.expr c.in-While.test.now) (does.block c.in-While.body.now) (frame_in base m) (state_of w)))
+    (λ base. ap (λ t. after_flow t (frame_in base m) m.values (gives continued (state_of w))) c.in-While.is) c.loop_turn.ensures.law
+
+pub returns-in-Store-clause-law : goal.returns-in-Store-clause-law
+returns-in-Store-clause-law c =
+    let m = c.args.self.now in
+    let w = c.args.world.now in
+    held_by m c.go_without.new.self w c.go_without.result (λ base. after_flow c.args.task (frame_in base m) m.values (gives continued (state_of w)))
+    (λ base. did (frame_in base m) (below m.values) (gives continued (state_of w)))
+    (λ base. ap (λ t. after_flow t (frame_in base m) m.values (gives continued (state_of w))) c.in-Store.is) (λ base. c.go_without.ensures.law base (state_of w))
+
+pub returns-in-Block-clause-law : goal.returns-in-Block-clause-law
+returns-in-Block-clause-law c =
+    let m = c.args.self.now in
+    let w = c.args.world.now in
+    held_by m c.go.new.self w c.go.result (λ base. after_flow c.args.task (frame_in base m) m.values (gives continued (state_of w)))
+    (λ base. did (frame_in base m) m.values (gives continued (state_of w)))
+    (λ base. ap (λ t. after_flow t (frame_in base m) m.values (gives continued (state_of w))) c.in-Block.is) (λ base. c.go.ensures.law base (state_of w))
+
+pub returns-in-Delete-clause-law : goal.returns-in-Delete-clause-law
+returns-in-Delete-clause-law c =
+    let m = c.args.self.now in
+    let w = c.args.world.now in
+    held_by m c.go-in-Delete.new.self w c.go-in-Delete.result (λ base. after_flow c.args.task (frame_in base m) m.values (gives continued (state_of w)))
+    (λ base. did (frame_in base m) m.values (gives continued (state_of w)))
+    (λ base. ap (λ t. after_flow t (frame_in base m) m.values (gives continued (state_of w))) c.in-Delete.is) (λ base. c.go-in-Delete.ensures.law base (state_of w))

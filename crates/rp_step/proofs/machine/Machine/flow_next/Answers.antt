@@ -1,0 +1,45 @@
+use Rattle.std.proofs.Common.{ap}
+use Rattle.rp_frame.specs.Top.{below, top}
+use Rattle.rp_meaning.specs.State.{next}
+use Rattle.rp_meaning.specs.Statements as forms
+use Rattle.rp_ops.specs.Outcome.{gives}
+use Rattle.rp_proxy.specs.declared.world.World.{World}
+use Rattle.rp_step.proofs.Doings.{held_as}
+use Rattle.rp_step.proofs.Moves.{on_ok}
+use Rattle.rp_step.specs.Does as does
+use Rattle.rp_step.specs.Law.{Executes, frame_in}
+use Rattle.rp_step.specs.Moment.{state_of}
+use Rattle.rp_step.specs.Rest.{after_flow, did, loop}
+use Rattle.rp_step.proofs.machine.Machine.flow_next.Goals as goal
+
+pub returns-in-Block-clause-law : goal.returns-in-Block-clause-law
+returns-in-Block-clause-law c =
+    let m = c.args.self.now in
+    let w = c.args.world.now in
+    held_as m c.block.new.self w c.block.result (λ base. after_flow c.args.task (frame_in base m) m.values (gives next (state_of w)))
+    (λ base. did (frame_in base m) m.values (does.block c.in-Block.rest.now (frame_in base m) (state_of w)))
+    (λ base. ap (λ t. after_flow t (frame_in base m) m.values (gives next (state_of w))) c.in-Block.is) (on_ok c.block.result ((u : World) → Executes (does.block c.in-Block.rest.now) m u c.block.new.self u) (Executes (does.block c.in-Block.rest.now) m w c.block.new.self w) (λ law. law w) c.block.ensures.law)
+
+pub returns-in-While-clause-law : goal.returns-in-While-clause-law
+returns-in-While-clause-law c =
+    let m = c.args.self.now in
+    let w = c.args.world.now in
+    held_as m c.loop_turn.new.self c.loop_turn.new.world c.loop_turn.result (λ base. after_flow c.args.task (frame_in base m) m.values (gives next (state_of w)))
+    (λ base. did (frame_in base m) m.values (loop c.in-While.turns (does.expr c.in-While.test.now) (does.block c.in-While.body.now) (frame_in base m) (state_of w)))
+    (λ base. ap (λ t. after_flow t (frame_in base m) m.values (gives next (state_of w))) c.in-While.is) c.loop_turn.ensures.law
+
+pub returns-in-Store-clause-law : goal.returns-in-Store-clause-law
+returns-in-Store-clause-law c =
+    let m = c.args.self.now in
+    let w = c.args.world.now in
+    held_as m c.store_more.new.self c.store_more.new.world c.store_more.result (λ base. after_flow c.args.task (frame_in base m) m.values (gives next (state_of w)))
+    (λ base. did (frame_in base m) (below m.values) (forms.store_all (does.places c.in-Store.places.now) (top m.values) (frame_in base m) (state_of w)))
+    (λ base. ap (λ t. after_flow t (frame_in base m) m.values (gives next (state_of w))) c.in-Store.is) c.store_more.ensures.law
+
+pub returns-in-Delete-clause-law : goal.returns-in-Delete-clause-law
+returns-in-Delete-clause-law c =
+    let m = c.args.self.now in
+    let w = c.args.world.now in
+    held_as m c.delete_all.new.self c.delete_all.new.world c.delete_all.result (λ base. after_flow c.args.task (frame_in base m) m.values (gives next (state_of w)))
+    (λ base. did (frame_in base m) m.values (does.deletes c.in-Delete.places.now (frame_in base m) (state_of w)))
+    (λ base. ap (λ t. after_flow t (frame_in base m) m.values (gives next (state_of w))) c.in-Delete.is) c.delete_all.ensures.law

@@ -1,0 +1,25 @@
+use Rattle.std.proofs.Common.{sym, ap, ◌∙◌}
+use Rattle.rp_step.proofs.Passing.{ended, left_is}
+use Rattle.rp_step.specs.Law.{frame_in}
+use Rattle.rp_step.specs.Rest.{begun}
+use Rattle.rp_step.proofs.machine.Machine.left.Goals as goal
+
+pub returns-in-Next-clause-law : goal.returns-in-Next-clause-law
+returns-in-Next-clause-law c = λ base s f vs o none is.
+    let m = c.args.self.now in
+    sym (left_is base m s f vs o none is) ∙ ap (λ z. ended (begun (frame_in base m) z m.values m.end s) o) c.in-Next.is
+
+pub returns-in-Broke-clause-law : goal.returns-in-Broke-clause-law
+returns-in-Broke-clause-law c = λ base s f vs o none is.
+    let m = c.args.self.now in
+    sym (left_is base m s f vs o none is) ∙ ap (λ z. ended (begun (frame_in base m) z m.values m.end s) o) c.in-Broke.is
+
+pub returns-in-Continued-clause-law : goal.returns-in-Continued-clause-law
+returns-in-Continued-clause-law c = λ base s f vs o none is.
+    let m = c.args.self.now in
+    sym (left_is base m s f vs o none is) ∙ ap (λ z. ended (begun (frame_in base m) z m.values m.end s) o) c.in-Continued.is
+
+pub returns-in-CutOff-clause-law : goal.returns-in-CutOff-clause-law
+returns-in-CutOff-clause-law c = λ base s f vs o none is.
+    let m = c.args.self.now in
+    c.why.ensures.end s o (sym (left_is base m s f vs o none is) ∙ ap (λ z. ended (begun (frame_in base m) z m.values m.end s) o) c.in-CutOff.is)

@@ -1,0 +1,17 @@
+use Rattle.std.proofs.Common.{suc, ap}
+use Rattle.rp_step.proofs.Doings.{pushed}
+use Rattle.rp_step.proofs.Loops.{loop_unrolled}
+use Rattle.rp_step.specs.Does as does
+use Rattle.rp_step.specs.Law.{frame_in}
+use Rattle.rp_step.specs.Moment.{state_of}
+use Rattle.rp_step.specs.Rest.{did, loop, turn}
+use Rattle.rp_step.proofs.machine.Machine.next_turn.Goals as goal
+
+pub returns-clause-law : goal.returns-clause-law
+returns-clause-law c =
+    let m = c.args.self.now in
+    let w = c.args.world.now in
+    let x = does.expr c.args.test.now in
+    let body = does.block c.args.body.now in
+    pushed m c.turn.new.self w c.turn.new.world c.turn.result _ c.push.new.self (loop (suc c.args.behind) x body) (turn x body) c.in_ok-push.ensures.pushed
+    (λ base. ap (did (frame_in base m) m.values) (loop_unrolled c.args.behind x body (frame_in base m) (state_of w))) c.turn.ensures.law

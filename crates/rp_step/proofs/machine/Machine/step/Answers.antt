@@ -1,0 +1,20 @@
+use Rattle.std.proofs.Common.{sym, ap, ◌∙◌}
+use Rattle.rp_step.specs.Law.{frame_in}
+use Rattle.rp_step.specs.Moment.{state_of}
+use Rattle.rp_step.specs.Rest.{begun, rest}
+use Rattle.rp_step.proofs.machine.Machine.step.Goals as goal
+
+pub returns-in_ok-expression-in-Expression-clause-law : goal.returns-in_ok-expression-in-Expression-clause-law
+returns-in_ok-expression-in-Expression-clause-law c = λ base.
+    let m = c.args.self.now in
+    c.in_ok-expression-in-Expression.ensures.law base ∙ ap (λ z. rest m.tasks (begun (frame_in base m) z m.values m.end (state_of c.args.world.now))) (sym c.in-Expression.is)
+
+pub returns-in_ok-statement-in-Statement-clause-law : goal.returns-in_ok-statement-in-Statement-clause-law
+returns-in_ok-statement-in-Statement-clause-law c = λ base.
+    let m = c.args.self.now in
+    c.in_ok-statement-in-Statement.ensures.law base ∙ ap (λ z. rest m.tasks (begun (frame_in base m) z m.values m.end (state_of c.args.world.now))) (sym c.in-Statement.is)
+
+pub returns-in_ok-block-in-Block-clause-law : goal.returns-in_ok-block-in-Block-clause-law
+returns-in_ok-block-in-Block-clause-law c = λ base.
+    let m = c.args.self.now in
+    c.in_ok-block-in-Block.ensures.law c.args.world.now base ∙ ap (λ z. rest m.tasks (begun (frame_in base m) z m.values m.end (state_of c.args.world.now))) (sym c.in-Block.is)

@@ -1,0 +1,31 @@
+use Rattle.std.proofs.Common.{None, sym, ap, ◌∙◌}
+use Rattle.std.specs.Prelude.{is_some}
+use Rattle.rp_meaning.specs.Scopes.{held, with_slot_set}
+use Rattle.rp_meaning.specs.State.{next}
+use Rattle.rp_ops.specs.Outcome.{gives}
+use Rattle.rp_step.proofs.Going.{IsEnd-same}
+use Rattle.rp_step.proofs.Unbinding.{bound, unbound}
+use Rattle.rp_step.specs.Law.{frame_in}
+use Rattle.rp_step.specs.Moment.{place_view, program_at, state_of}
+use Rattle.rp_step.specs.Parts.{unbound_at}
+use Rattle.rp_step.specs.Slots.{slot_found}
+use Rattle.rp_step.proofs.machine.Machine.unbind.Goals as goal
+
+pub returns-then-is_bound-clause-law : goal.returns-then-is_bound-clause-law
+returns-then-is_bound-clause-law c = λ base.
+    let m = c.args.self.now in
+    let w = c.args.world.now in
+    let f = frame_in base m in
+    let e = c.slot-slot.ensures.slot ∙ ap (λ p. slot_found (program_at m.units.now m.frame.side).layouts w.store.heap m.frame.scope p c.args.name) c.place-place.ensures in
+    bound f c.args.name (state_of w) (ap (λ z. is_some (held w.store.heap z)) (sym e) ∙ sym c.is_bound.ensures ∙ c.if-is_bound.true)
+    ∙ ap (gives next) (sym (c.set.ensures.law ∙ ap (λ z. with_slot_set z None (state_of w)) e))
+
+pub returns-else-is_bound-clause-law : goal.returns-else-is_bound-clause-law
+returns-else-is_bound-clause-law c = λ base.
+    let m = c.args.self.now in
+    let w = c.args.world.now in
+    let f = frame_in base m in
+    let e = c.slot-slot.ensures.slot ∙ ap (λ p. slot_found (program_at m.units.now m.frame.side).layouts w.store.heap m.frame.scope p c.args.name) c.place-place.ensures in
+    IsEnd-same c.not_bound.result (state_of w) _ _
+    (unbound f c.args.name (state_of w) (ap (λ z. is_some (held w.store.heap z)) (sym e) ∙ sym c.is_bound.ensures ∙ c.if-is_bound.false)
+    ∙ ap (λ p. unbound_at (place_view p) c.args.name (state_of w)) (sym c.place-place.ensures)) c.not_bound.ensures

@@ -1,0 +1,63 @@
+-- What the program's trees do: what the trees do that they stand for. These names are opaque where the machine is proved, and their equations, one for
+-- each level of a tree, are all that is known of them there.
+use Rattle.std.specs.Prelude.{List, Option, map, option_map}
+use Rattle.rp_base.specs.declared.operator.BinOp.{BinOp}
+use Rattle.rp_tree.specs.declared.expr.Expr.{Expr}
+use Rattle.rp_tree.specs.declared.expr.ExprForm.{ExprForm}
+use Rattle.rp_tree.specs.declared.expr.Place.{Place}
+use Rattle.rp_tree.specs.declared.stmt.Branch.{Branch}
+use Rattle.rp_tree.specs.declared.stmt.Stmt.{Stmt}
+use Rattle.rp_tree.specs.declared.stmt.StmtForm.{StmtForm}
+use Rattle.rp_tree.specs.ExpressionViews.{view_expr, view_form, view_place}
+use Rattle.rp_tree.specs.StatementViews.{view_branch, view_stmt, view_stmt_form}
+use Rattle.rp_meaning.specs.Frame.{Meaning, Doing}
+use Rattle.rp_meaning.specs.Meaning as m
+use Rattle.rp_meaning.specs.Statements as d
+use Rattle.rp_meaning.specs.Statements.{Store}
+
+unfoldable pub expr : Expr → Meaning
+expr x = m.eval (view_expr x)
+
+unfoldable pub form : ExprForm → Meaning
+form x = m.eval_form (view_form x)
+
+unfoldable pub place : Place → Store
+place x = m.place (view_place x)
+
+unfoldable pub stmt : Stmt → Doing
+stmt x = m.exec (view_stmt x)
+
+unfoldable pub stmt_form : StmtForm → Doing
+stmt_form x = m.exec_form (view_stmt_form x)
+
+unfoldable pub delete : Place → Doing
+delete x = m.delete (view_place x)
+
+-- a branch of `if`: its test and its block
+unfoldable pub branch : Branch → Meaning × Doing
+branch x = (m.eval (view_branch x).0, d.block (m.stmts (view_branch x).1))
+
+-- one that may be missing
+abbrev pub maybe : Option Expr → Option Meaning
+maybe x = option_map expr x
+
+-- lists of trees
+
+abbrev pub op : BinOp × Expr → BinOp × Meaning
+op p = (p.0, expr p.1)
+
+abbrev pub ops : List (BinOp × Expr) → List (BinOp × Meaning)
+ops ps = map op ps
+
+abbrev pub places : List Place → List Store
+places ps = map place ps
+
+abbrev pub deletes : List Place → Doing
+deletes ps = d.block (map delete ps)
+
+abbrev pub branches : List Branch → List (Meaning × Doing)
+branches bs = map branch bs
+
+-- a block
+abbrev pub block : List Stmt → Doing
+block xs = d.block (map stmt xs)

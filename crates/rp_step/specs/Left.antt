@@ -1,0 +1,32 @@
+-- How the code tells that a block was left, and how many values a task has at hand.
+use Rattle.std.specs.Prelude.{ℕ, Result, Ok, Err}
+use Rattle.rp_base.specs.declared.value.OpEnd.{OpEnd}
+use Rattle.rp_frame.specs.declared.task.ExprTask.{ExprTask}
+use Rattle.rp_frame.specs.declared.task.ExprTask.TheVariants as expr
+use Rattle.rp_frame.specs.declared.task.FlowTask.TheVariants as flow
+use Rattle.rp_frame.specs.declared.task.Task.{Task}
+use Rattle.rp_frame.specs.declared.task.Task.TheVariants as task
+use Rattle.rp_meaning.specs.State as meant
+use Rattle.rp_meaning.specs.State.{Flow}
+use Rattle.rp_step.specs.declared.unwinding.Left.{Left}
+use Rattle.rp_step.specs.declared.unwinding.Left.TheVariants as left
+
+abbrev pub flow_of : Left → Flow
+flow_of left.Next = meant.next
+flow_of left.Broke = meant.broke
+flow_of left.Continued = meant.continued
+
+abbrev pub flows : Result Left OpEnd → Result Flow OpEnd
+flows (Ok left) = Ok (flow_of left)
+flows (Err e) = Err e
+
+-- the values at hand that an expression waits with
+abbrev pub at_hand : ExprTask → ℕ
+at_hand (expr.Operand op os) = 1
+at_hand expr.Exponent = 1
+at_hand _ = 0
+
+-- and what waits for the end of a statement
+abbrev pub flow_with : Task → ℕ
+flow_with (task.Flow (flow.Store ps)) = 1
+flow_with _ = 0

@@ -1,0 +1,11 @@
+pub mod Comes
+pub mod Does
+pub mod ExpressionSteps
+pub mod Law
+pub mod Left
+pub mod Moment
+pub mod Parts
+pub mod Ready
+pub mod Rest
+pub mod Rocks
+pub mod Slots

@@ -1,0 +1,114 @@
+-- What a machine still has to do.
+use Rattle.std.specs.Prelude.{ℕ, true, false, List, [], ◌∷◌, Option}
+use Rattle.rp_base.specs.declared.operator.BinOp.{BinOp}
+use Rattle.rp_base.specs.declared.operator.BinOp.TheVariants.{Pow}
+use Rattle.rp_base.specs.declared.kind.Kind.TheVariants.{AssertionError}
+use Rattle.rp_base.specs.declared.value.OpEnd.{OpEnd}
+use Rattle.rp_base.specs.declared.value.Value.{Value}
+use Rattle.rp_base.specs.declared.word.TheConstants.{STR}
+use Rattle.rp_frame.specs.Top.{top, below}
+use Rattle.rp_frame.specs.declared.control.Control.{Control}
+use Rattle.rp_frame.specs.declared.control.Control.TheVariants as control
+use Rattle.rp_frame.specs.declared.task.ExprTask.{ExprTask}
+use Rattle.rp_frame.specs.declared.task.ExprTask.TheVariants as expr
+use Rattle.rp_frame.specs.declared.task.FlowTask.{FlowTask}
+use Rattle.rp_frame.specs.declared.task.FlowTask.TheVariants as flow
+use Rattle.rp_frame.specs.declared.task.StmtTask.{StmtTask}
+use Rattle.rp_frame.specs.declared.task.StmtTask.TheVariants as stmt
+use Rattle.rp_frame.specs.declared.task.Task.{Task}
+use Rattle.rp_frame.specs.declared.task.Task.TheVariants as task
+use Rattle.rp_meaning.specs.Expressions as e
+use Rattle.rp_meaning.specs.Frame.{Frame, Meaning, Doing, asked_for}
+use Rattle.rp_meaning.specs.Operators.{operate, operate_unary}
+use Rattle.rp_meaning.specs.State.{State, Outcome, Flow, next, broke, continued, on_next, stepped, done, plainly}
+use Rattle.rp_meaning.specs.Statements as d
+use Rattle.rp_meaning.specs.Walks.{on_truth, on_turn, turns}
+use Rattle.rp_ops.specs.Outcome.{gives, ends, raises, on_value}
+use Rattle.rp_show.specs.Show.{show}
+use Rattle.rp_step.specs.Comes.{end_of}
+use Rattle.rp_step.specs.Does as does
+
+-- how a part ends, in a frame with values at hand
+pub data Held : Type 0 where
+  gave : Frame → List Value → Outcome Value → Held
+  did : Frame → List Value → Outcome Flow → Held
+
+-- a turn of a loop, with its step: a test that is false leaves the loop
+
+abbrev pub tested_turn : Value → Doing → Doing
+tested_turn v body f s = on_truth v f s (body f) (gives broke)
+
+abbrev pub turn : Meaning → Doing → Doing
+turn m body f s = stepped s (λ s. on_value (m f s) (λ v s. tested_turn v body f s))
+
+-- `assert`, from its test, or from its message
+
+abbrev pub asserted : Value → Option Meaning → Doing
+asserted v message f s = on_truth v f s done (d.failed message f)
+
+abbrev pub failed_with : Value → Doing
+failed_with v f s = asked_for f STR v s (λ s. on_value (plainly (show s.names v) s) (λ t s. raises AssertionError t s))
+
+-- the operators behind an operator on two values
+abbrev pub with_operands : BinOp → Value → Value → List (BinOp × Meaning) → Meaning
+with_operands op a b os f s = on_value (operate op a b f s) (λ v s. e.operands os v f s)
+
+-- the operators behind a value, from the next one on
+abbrev pub next_operand : BinOp → Meaning → List (BinOp × Meaning) → Value → Meaning
+next_operand op m os a f s = stepped s (λ s. on_value (m f s) (λ b s. with_operands op a b os f s))
+
+-- what a task does with the end of the part that it waits for
+
+abbrev pub after_expr : ExprTask → Frame → List Value → Outcome Value → Held
+after_expr (expr.Operands os) f vs o = gave f vs (on_value o (λ a s. e.operands (does.ops os.now) a f s))
+after_expr (expr.Operand op os) f vs o =
+    gave f (below vs) (on_value o (λ b s. with_operands op (top vs) b (does.ops os.now) f s))
+after_expr expr.Not f vs o = gave f vs (on_value o (λ v s. on_truth v f s (gives (e.truth false)) (gives (e.truth true))))
+after_expr (expr.Cond a b) f vs o = gave f vs (on_value o (λ v s. on_truth v f s (does.expr a.now f) (does.expr b.now f)))
+after_expr (expr.Unary op) f vs o = gave f vs (on_value o (λ a s. operate_unary op a f s))
+after_expr (expr.Power x) f vs o = gave f vs (on_value o (λ a s. on_value (does.expr x.now f s) (λ b s. operate Pow a b f s)))
+after_expr expr.Exponent f vs o = gave f (below vs) (on_value o (λ b s. operate Pow (top vs) b f s))
+
+abbrev pub after_stmt : StmtTask → Frame → List Value → Outcome Value → Held
+after_stmt stmt.Evaluate f vs o = did f vs (on_value o (λ v s. done s))
+after_stmt (stmt.Assign ps) f vs o = did f vs (on_value o (λ v s. d.store_all (does.places ps.now) v f s))
+after_stmt (stmt.Branch b bs x) f vs o =
+    did f vs (on_value o (λ v s. on_truth v f s (does.block b.now f) (d.choose (does.branches bs.now) (does.block x.now) f)))
+after_stmt (stmt.Test b) f vs o = did f vs (on_value o (λ v s. tested_turn v (does.block b.now) f s))
+after_stmt (stmt.Assert m) f vs o = did f vs (on_value o (λ v s. asserted v (does.maybe m.now) f s))
+after_stmt stmt.Fail f vs o = did f vs (on_value o (λ v s. failed_with v f s))
+
+-- the turns that a loop may still make
+abbrev pub loop : ℕ → Meaning → Doing → Doing
+loop n m body f s = turns n (d.tested m f) (λ v s. body f s) (tt {0}) s
+
+abbrev pub after_flow : FlowTask → Frame → List Value → Outcome Flow → Held
+after_flow (flow.Block xs) f vs o = did f vs (on_next o (does.block xs.now f))
+after_flow (flow.While n x b) f vs o = did f vs (on_turn o (loop n (does.expr x.now) (does.block b.now) f))
+after_flow (flow.Store ps) f vs o = did f (below vs) (on_next o (d.store_all (does.places ps.now) (top vs) f))
+after_flow (flow.Delete ps) f vs o = did f vs (on_next o (does.deletes ps.now f))
+
+abbrev pub after : Task → Held → Held
+after (task.Expr t) (gave f vs o) = after_expr t f vs o
+after (task.Expr t) (did f vs o) = did f vs o
+after (task.Stmt t) (gave f vs o) = after_stmt t f vs o
+after (task.Stmt t) (did f vs o) = did f vs o
+after (task.Flow t) (gave f vs o) = gave f vs o
+after (task.Flow t) (did f vs o) = after_flow t f vs o
+
+-- what all tasks do, the last one first
+abbrev pub rest : List Task → Held → Held
+rest [] h = h
+rest (t ∷ ts) h = rest ts (after t h)
+
+-- what is done next, to its end
+abbrev pub begun : Frame → Control → List Value → Option OpEnd → State → Held
+begun f (control.Expression x) vs end s = gave f vs (does.expr x.now f s)
+begun f (control.Statement x) vs end s = did f vs (does.stmt x.now f s)
+begun f (control.Block xs) vs end s = did f vs (does.block xs.now f s)
+begun f control.Value vs end s = gave f (below vs) (gives (top vs) s)
+begun f control.NoValue vs end s = gave f vs (ends (end_of end) s)
+begun f control.Next vs end s = did f vs (gives next s)
+begun f control.Broke vs end s = did f vs (gives broke s)
+begun f control.Continued vs end s = did f vs (gives continued s)
+begun f control.CutOff vs end s = did f vs (ends (end_of end) s)

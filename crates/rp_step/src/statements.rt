@@ -1,0 +1,245 @@
+//! Statements: what begins them, and what goes on from the value or the end of a part.
+#![tactic(auto, using(rp_store::proofs::Shapes::goes_on))]
+
+ghost use Rattle.std.specs.Prelude.{OnOk, suc};
+ghost use Rattle.rp_meaning.specs.Statements as d;
+ghost use Rattle.rp_proxy.specs.declared.world.World.{World as TheWorld};
+ghost use Rattle.rp_store.specs.Kept.{IsFit};
+ghost use Rattle.rp_step.specs.Does as does;
+ghost use Rattle.rp_step.specs.Law.{Executes, ResumesStmt};
+ghost use Rattle.rp_step.specs.Ready.{IsReady};
+ghost use Rattle.rp_step.specs.Rest.{loop, tested_turn, turn};
+
+use crate::deciding::truth;
+use crate::halt::Halt;
+use crate::machine::Machine;
+use crate::stepping::take_step;
+use rp_base::{OpEnd, Value};
+use rp_frame::{Control, FlowTask, StmtTask, Task};
+use rp_proxy::World;
+use rp_tree::{Branch, Expr, Place, Stmt, StmtForm, stmts_of};
+
+impl<'u> Machine<'u> {
+    /// Begins a statement, with its step. Expression statements, assignments, `if`, `while`, `break`, `continue`,
+    /// `pass`, `global`, `del` and `assert` run.
+    ///
+    /// # Errors
+    /// `Memory` where a growth was refused, `NotBuilt` where the form is none that runs, as all that follow.
+    #[inline(never)]
+    pub fn statement(&mut self, world: &mut World, x: &'u Stmt) -> Result<(), Halt>
+        requires ready { IsReady self.old.units.now self.old.frame self.old.values world.old }
+        ensures law { OnOk result (Executes (does.stmt x.now) self.old world.old self.new world.new) }
+        ensures ready { IsReady self.new.units.now self.new.frame self.new.values world.new }
+    {
+        if let Err(end) = take_step(world) {
+            return self.cut_off(end);
+        }
+        self.stmt_form(world, &x.form)
+    }
+
+    #[inline(always)]
+    fn stmt_form(&mut self, world: &mut World, form: &'u StmtForm) -> Result<(), Halt>
+        requires ready { IsReady self.old.units.now self.old.frame self.old.values world.old }
+        ensures law { OnOk result (Executes (does.stmt_form form.now) self.old world.old self.new world.new) }
+        ensures ready { IsReady self.new.units.now self.new.frame self.new.values world.new }
+    {
+        match form {
+            StmtForm::Expr(value) => self.wait(
+                Task::Stmt(StmtTask::Evaluate),
+                Control::Expression(value),
+            ),
+            StmtForm::Assign(places, value) => self.assign(world, places, value),
+            StmtForm::Pass => self.go(Control::Next),
+            StmtForm::Global(_) => self.go(Control::Next),
+            StmtForm::Break => self.go(Control::Broke),
+            StmtForm::Continue => self.go(Control::Continued),
+            StmtForm::If(branches, other) => self.choose(branches, stmts_of(other)),
+            StmtForm::While(test, body) => self.begin_loop(world, test, body),
+            StmtForm::Del(places) => self.delete_all(world, places),
+            StmtForm::Assert(test, message) => {
+                self.wait(
+                    Task::Stmt(StmtTask::Assert(message)),
+                    Control::Expression(test),
+                )
+            }
+            _ => Err(Halt::NotBuilt),
+        }
+    }
+
+    /// An assignment.
+    #[inline(never)]
+    fn assign(
+        &mut self,
+        world: &mut World,
+        places: &'u [Place],
+        value: &'u Expr,
+    ) -> Result<(), Halt>
+        requires ready { IsReady self.old.units.now self.old.frame self.old.values world.old }
+        ensures law { OnOk result (Executes (d.assign (does.expr value.now) (d.store_all (does.places places.now)))
+            self.old world.old self.new world.new) }
+        ensures ready { IsReady self.new.units.now self.new.frame self.new.values world.new }
+    {
+        match self.leaf(world, value) {
+            Ok(Some(v)) => self.store_all(world, places, v),
+            Ok(None) => self.wait(
+                Task::Stmt(StmtTask::Assign(places)),
+                Control::Expression(value),
+            ),
+            Err(end) => self.cut_off(end),
+        }
+    }
+
+    /// Goes on with the branches of a choice.
+    #[inline(always)]
+    fn choose(&mut self, branches: &'u [Branch], other: &'u [Stmt]) -> Result<(), Halt>
+        ensures law { OnOk result ((w : TheWorld)
+            → Executes (d.choose (does.branches branches.now) (does.block other.now)) self.old w self.new w) }
+        ensures ready { (w : TheWorld) → IsReady self.old.units.now self.old.frame self.old.values w
+            → IsReady self.new.units.now self.new.frame self.new.values w }
+    {
+        match branches {
+            [] => self.go(Control::Block(other)),
+            [branch, rest @ ..] => self.wait(
+                Task::Stmt(StmtTask::Branch(&branch.body, rest, other)),
+                Control::Expression(&branch.test),
+            ),
+        }
+    }
+
+    /// Begins a loop, which makes no more turns than there are steps, and one.
+    #[inline(never)]
+    fn begin_loop(
+        &mut self,
+        world: &mut World,
+        test: &'u Expr,
+        body: &'u [Stmt],
+    ) -> Result<(), Halt>
+        requires ready { IsReady self.old.units.now self.old.frame self.old.values world.old }
+        ensures law { OnOk result (Executes (d.while (does.expr test.now) (does.block body.now))
+            self.old world.old self.new world.new) }
+        ensures ready { IsReady self.new.units.now self.new.frame self.new.values world.new }
+    {
+        self.next_turn(world, world.running.meter.left, test, body)
+    }
+
+    /// A turn of a loop that may still make so many.
+    #[inline(always)]
+    pub(crate) fn loop_turn(
+        &mut self,
+        world: &mut World,
+        turns: u64,
+        test: &'u Expr,
+        body: &'u [Stmt],
+    ) -> Result<(), Halt>
+        requires ready { IsReady self.old.units.now self.old.frame self.old.values world.old }
+        ensures law { OnOk result (Executes (loop turns (does.expr test.now) (does.block body.now))
+            self.old world.old self.new world.new) }
+        ensures ready { IsReady self.new.units.now self.new.frame self.new.values world.new }
+    {
+        if turns == 0 {
+            return self.cut_off(OpEnd::StopSteps);
+        }
+        self.next_turn(world, turns - 1, test, body)
+    }
+
+    /// A turn of a loop that may make so many behind it.
+    #[inline(always)]
+    fn next_turn(
+        &mut self,
+        world: &mut World,
+        behind: u64,
+        test: &'u Expr,
+        body: &'u [Stmt],
+    ) -> Result<(), Halt>
+        requires ready { IsReady self.old.units.now self.old.frame self.old.values world.old }
+        ensures law { OnOk result (Executes (loop (suc behind) (does.expr test.now) (does.block body.now))
+            self.old world.old self.new world.new) }
+        ensures ready { IsReady self.new.units.now self.new.frame self.new.values world.new }
+    {
+        self.tasks
+            .push(Task::Flow(FlowTask::While(behind, test, body)))?;
+        self.turn(world, test, body)
+    }
+
+    /// A turn, with its step; a test that is false leaves the loop.
+    #[inline(always)]
+    fn turn(&mut self, world: &mut World, test: &'u Expr, body: &'u [Stmt]) -> Result<(), Halt>
+        requires ready { IsReady self.old.units.now self.old.frame self.old.values world.old }
+        ensures law { OnOk result (Executes (turn (does.expr test.now) (does.block body.now))
+            self.old world.old self.new world.new) }
+        ensures ready { IsReady self.new.units.now self.new.frame self.new.values world.new }
+    {
+        if let Err(end) = take_step(world) {
+            return self.cut_off(end);
+        }
+        match self.leaf(world, test) {
+            Ok(Some(value)) => self.tested(world, value, body),
+            Ok(None) => self.wait(Task::Stmt(StmtTask::Test(body)), Control::Expression(test)),
+            Err(end) => self.cut_off(end),
+        }
+    }
+
+    /// Goes on by the test of a loop.
+    #[inline(always)]
+    fn tested(&mut self, world: &mut World, value: Value, body: &'u [Stmt]) -> Result<(), Halt>
+        requires ready { IsReady self.old.units.now self.old.frame self.old.values world.old }
+        requires value { IsFit world.old.store.heap self.old.frame.side value }
+        ensures law { OnOk result (Executes (tested_turn value (does.block body.now))
+            self.old world.old self.new world.new) }
+        ensures ready { IsReady self.new.units.now self.new.frame self.new.values world.new }
+    {
+        match truth(self.alloc, world, &value) {
+            Ok(true) => self.go(Control::Block(body)),
+            Ok(false) => self.go(Control::Broke),
+            Err(end) => self.cut_off(end),
+        }
+    }
+
+    /// Goes on by the test of a branch.
+    #[inline(always)]
+    fn branched(
+        &mut self,
+        world: &mut World,
+        value: Value,
+        body: &'u [Stmt],
+        branches: &'u [Branch],
+        other: &'u [Stmt],
+    ) -> Result<(), Halt>
+        requires ready { IsReady self.old.units.now self.old.frame self.old.values world.old }
+        requires value { IsFit world.old.store.heap self.old.frame.side value }
+        ensures law { OnOk result (ResumesStmt (StmtTask.Branch body.entry branches.entry other.entry) value
+            self.old world.old self.new world.new) }
+        ensures ready { IsReady self.new.units.now self.new.frame self.new.values world.new }
+    {
+        match truth(self.alloc, world, &value) {
+            Ok(true) => self.go(Control::Block(body)),
+            Ok(false) => self.choose(branches, other),
+            Err(end) => self.cut_off(end),
+        }
+    }
+
+    /// What a statement does with the value that it waited for.
+    #[inline(always)]
+    pub fn after_stmt(
+        &mut self,
+        world: &mut World,
+        task: StmtTask<'u>,
+        value: Value,
+    ) -> Result<(), Halt>
+        requires ready { IsReady self.old.units.now self.old.frame self.old.values world.old }
+        requires value { IsFit world.old.store.heap self.old.frame.side value }
+        ensures law { OnOk result (ResumesStmt task.entry value self.old world.old self.new world.new) }
+        ensures ready { IsReady self.new.units.now self.new.frame self.new.values world.new }
+    {
+        match task {
+            StmtTask::Evaluate => self.go(Control::Next),
+            StmtTask::Assign(places) => self.store_all(world, places, value),
+            StmtTask::Branch(body, branches, other) => self.branched(
+                world, value, body, branches, other,
+            ),
+            StmtTask::Test(body) => self.tested(world, value, body),
+            StmtTask::Assert(message) => self.asserted(world, value, message),
+            StmtTask::Fail => self.fail_with(world, value),
+        }
+    }
+}

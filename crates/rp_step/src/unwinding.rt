@@ -1,0 +1,279 @@
+//! Tasks that take up how a part ended.
+#![tactic(auto, using(rp_store::proofs::Shapes::goes_on, crate::proofs::AtHand::at_hand))]
+
+ghost use Rattle.std.specs.Prelude.{◌≡◌, List, [], None, drop, OnOk};
+ghost use Rattle.rp_meaning.specs.Frame.{Frame, Run};
+ghost use Rattle.rp_meaning.specs.State.{State, Outcome, Flow, next, broke, continued};
+ghost use Rattle.rp_meaning.specs.Statements.{leave};
+ghost use Rattle.rp_ops.specs.Outcome.{ends, gives};
+ghost use Rattle.rp_base.specs.declared.value.Value.{Value as TheValue};
+ghost use Rattle.rp_frame.specs.Top.{top, below};
+ghost use Rattle.rp_proxy.specs.declared.world.World.{World as TheWorld};
+ghost use Rattle.rp_step.specs.Comes.{Comes, IsEnd, end_of};
+ghost use Rattle.rp_step.specs.Law.{Takes, TakesUp, frame_in, rest_of};
+ghost use Rattle.rp_step.specs.Left.{at_hand, flow_with, flows};
+ghost use Rattle.rp_step.specs.Moment.{state_of};
+ghost use Rattle.rp_step.specs.Ready.{IsReady};
+ghost use Rattle.rp_step.specs.Rest.{after, after_flow, begun, did, gave, rest};
+
+use crate::halt::Halt;
+use crate::machine::Machine;
+use rp_base::OpEnd;
+use rp_frame::{Control, ExprTask, FlowTask, Task};
+use rp_proxy::World;
+
+/// How a block was left (Python Language Reference, Simple statements).
+#[derive(Clone, Copy, Debug, PartialEq, Eq)]
+pub enum Left {
+    /// Behind its last statement.
+    Next,
+    /// By `break`.
+    Broke,
+    /// By `continue`.
+    Continued,
+}
+
+impl<'u> Machine<'u> {
+    /// A task takes up how the part ended for which it waited.
+    #[inline(always)]
+    pub(crate) fn take_up(&mut self, world: &mut World, task: Task<'u>) -> Result<(), Halt>
+        requires ready { IsReady self.old.units.now self.old.frame self.old.values world.old }
+        ensures law { OnOk result (Takes task.entry self.old world.old self.new world.new) }
+        ensures ready { IsReady self.new.units.now self.new.frame self.new.values world.new }
+    {
+        match self.control {
+            Control::Value => self.with_value(world, task),
+            Control::Next => self.with_next(world, task),
+            Control::Broke => self.with_break(task),
+            Control::Continued => self.with_continue(world, task),
+            Control::NoValue => self.without_value(task),
+            Control::CutOff => self.with_cut(task),
+            _ => self.put_back(task),
+        }
+    }
+
+    /// A task waits on.
+    #[inline(never)]
+    fn put_back(&mut self, task: Task<'u>) -> Result<(), Halt>
+        ensures law { OnOk result ((w : TheWorld) → Takes task.entry self.old w self.new w) }
+        ensures ready { (w : TheWorld) → IsReady self.old.units.now self.old.frame self.old.values w
+            → IsReady self.new.units.now self.new.frame self.new.values w }
+    {
+        self.tasks.push(task)?;
+        Ok(())
+    }
+
+    /// A task gets the value for which it waited.
+    #[inline(always)]
+    fn with_value(&mut self, world: &mut World, task: Task<'u>) -> Result<(), Halt>
+        requires ready { IsReady self.old.units.now self.old.frame self.old.values world.old }
+        ensures law { OnOk result ((base : Run) → rest_of base self.new (state_of world.new) ≡ rest self.old.tasks
+            (after task.entry (gave (frame_in base self.old) (below self.old.values)
+            (gives (top self.old.values) (state_of world.old))))) }
+        ensures ready { IsReady self.new.units.now self.new.frame self.new.values world.new }
+    {
+        match task {
+            Task::Expr(task) => {
+                let value = self.values.pop();
+                self.after_expr(world, task, value)
+            }
+            Task::Stmt(task) => {
+                let value = self.values.pop();
+                self.after_stmt(world, task, value)
+            }
+            Task::Flow(_) => self.go(Control::Value),
+        }
+    }
+
+    /// A task gets no value: it drops those that it waited with.
+    #[inline(never)]
+    fn without_value(&mut self, task: Task<'u>) -> Result<(), Halt>
+        ensures law { OnOk result ((base : Run) (s : State) → rest_of base self.new s ≡ rest self.old.tasks
+            (after task.entry (gave (frame_in base self.old) self.old.values (ends (end_of self.old.end) s)))) }
+        ensures ready { (w : TheWorld) → IsReady self.old.units.now self.old.frame self.old.values w
+            → IsReady self.new.units.now self.new.frame self.new.values w }
+    {
+        match task {
+            Task::Expr(task) => {
+                self.forget(held_with(task));
+                self.go(Control::NoValue)
+            }
+            Task::Stmt(_) => self.go(Control::CutOff),
+            Task::Flow(_) => self.go(Control::NoValue),
+        }
+    }
+
+    /// Drops so many of the values at hand.
+    fn forget(&mut self, count: usize)
+        ensures { self.new ≡ record self.old { values = drop count self.old.values } }
+    {
+        for _ in 0..count {
+            let _value = self.values.pop();
+        }
+    }
+
+    /// A task goes on from a statement that was done.
+    #[inline(always)]
+    fn with_next(&mut self, world: &mut World, task: Task<'u>) -> Result<(), Halt>
+        requires ready { IsReady self.old.units.now self.old.frame self.old.values world.old }
+        ensures law { OnOk result (TakesUp task.entry (leave next) self.old world.old self.new world.new) }
+        ensures ready { IsReady self.new.units.now self.new.frame self.new.values world.new }
+    {
+        match task {
+            Task::Flow(task) => self.flow_next(world, task),
+            Task::Expr(_) => self.go(Control::Next),
+            Task::Stmt(_) => self.go(Control::Next),
+        }
+    }
+
+    /// The statements, turns or places that are left.
+    #[inline(always)]
+    fn flow_next(&mut self, world: &mut World, task: FlowTask<'u>) -> Result<(), Halt>
+        requires ready { IsReady self.old.units.now self.old.frame self.old.values world.old }
+        ensures law { OnOk result ((base : Run) → rest_of base self.new (state_of world.new) ≡ rest self.old.tasks
+            (after_flow task.entry (frame_in base self.old) self.old.values (gives next (state_of world.old)))) }
+        ensures ready { IsReady self.new.units.now self.new.frame self.new.values world.new }
+    {
+        match task {
+            FlowTask::Block(rest) => self.block(rest),
+            FlowTask::While(turns, test, body) => self.loop_turn(world, turns, test, body),
+            FlowTask::Store(places) => self.store_more(world, places),
+            FlowTask::Delete(places) => self.delete_all(world, places),
+        }
+    }
+
+    /// A task takes up `continue`.
+    #[inline(never)]
+    fn with_continue(&mut self, world: &mut World, task: Task<'u>) -> Result<(), Halt>
+        requires ready { IsReady self.old.units.now self.old.frame self.old.values world.old }
+        ensures law { OnOk result (TakesUp task.entry (leave continued) self.old world.old self.new world.new) }
+        ensures ready { IsReady self.new.units.now self.new.frame self.new.values world.new }
+    {
+        match task {
+            Task::Flow(task) => self.flow_continue(world, task),
+            Task::Expr(_) => self.go(Control::Continued),
+            Task::Stmt(_) => self.go(Control::Continued),
+        }
+    }
+
+    /// A loop makes its next turn; all else is left.
+    #[inline(always)]
+    fn flow_continue(&mut self, world: &mut World, task: FlowTask<'u>) -> Result<(), Halt>
+        requires ready { IsReady self.old.units.now self.old.frame self.old.values world.old }
+        ensures law { OnOk result ((base : Run) → rest_of base self.new (state_of world.new) ≡ rest self.old.tasks
+            (after_flow task.entry (frame_in base self.old) self.old.values (gives continued (state_of world.old)))) }
+        ensures ready { IsReady self.new.units.now self.new.frame self.new.values world.new }
+    {
+        match task {
+            FlowTask::While(turns, test, body) => self.loop_turn(world, turns, test, body),
+            FlowTask::Store(_) => self.go_without(Control::Continued),
+            FlowTask::Block(_) => self.go(Control::Continued),
+            FlowTask::Delete(_) => self.go(Control::Continued),
+        }
+    }
+
+    /// A task takes up `break`.
+    #[inline(never)]
+    fn with_break(&mut self, task: Task<'u>) -> Result<(), Halt>
+        ensures law { OnOk result ((w : TheWorld) → TakesUp task.entry (leave broke) self.old w self.new w) }
+        ensures ready { (w : TheWorld) → IsReady self.old.units.now self.old.frame self.old.values w
+            → IsReady self.new.units.now self.new.frame self.new.values w }
+    {
+        match task {
+            Task::Flow(task) => self.flow_break(task),
+            Task::Expr(_) => self.go(Control::Broke),
+            Task::Stmt(_) => self.go(Control::Broke),
+        }
+    }
+
+    /// A loop is done; all else is left.
+    #[inline(always)]
+    fn flow_break(&mut self, task: FlowTask<'u>) -> Result<(), Halt>
+        ensures law { OnOk result ((base : Run) (s : State) → rest_of base self.new s ≡ rest self.old.tasks
+            (after_flow task.entry (frame_in base self.old) self.old.values (gives broke s))) }
+        ensures ready { (w : TheWorld) → IsReady self.old.units.now self.old.frame self.old.values w
+            → IsReady self.new.units.now self.new.frame self.new.values w }
+    {
+        match task {
+            FlowTask::While(_, _, _) => self.go(Control::Next),
+            FlowTask::Store(_) => self.go_without(Control::Broke),
+            FlowTask::Block(_) => self.go(Control::Broke),
+            FlowTask::Delete(_) => self.go(Control::Broke),
+        }
+    }
+
+    /// Goes on with the last value at hand dropped.
+    fn go_without(&mut self, control: Control<'u>) -> Result<(), Halt>
+        ensures law { (base : Run) (s : State) → rest_of base self.new s ≡ rest self.old.tasks
+            (begun (frame_in base self.old) control.entry (below self.old.values) self.old.end s) }
+        ensures ready { (w : TheWorld) → IsReady self.old.units.now self.old.frame self.old.values w
+            → IsReady self.new.units.now self.new.frame self.new.values w }
+    {
+        let _value = self.values.pop();
+        self.go(control)
+    }
+
+    /// A task takes up that a statement was cut off: it drops the value that it waited with.
+    #[inline(never)]
+    fn with_cut(&mut self, task: Task<'u>) -> Result<(), Halt>
+        ensures law { OnOk result ((base : Run) (s : State) → rest_of base self.new s ≡ rest self.old.tasks
+            (after task.entry (did (frame_in base self.old) self.old.values (ends (end_of self.old.end) s)))) }
+        ensures ready { (w : TheWorld) → IsReady self.old.units.now self.old.frame self.old.values w
+            → IsReady self.new.units.now self.new.frame self.new.values w }
+    {
+        self.forget(flow_with(task));
+        self.go(Control::CutOff)
+    }
+
+    /// How a block was left, where no task waits for that.
+    ///
+    /// # Errors
+    /// Why it was cut off.
+    pub(crate) fn left(&mut self) -> Result<Left, OpEnd>
+        ensures law { (base : Run) (s : State) (f : Frame) (vs : List TheValue) (o : Outcome Flow)
+            → self.old.tasks ≡ []
+            → rest_of base self.old s ≡ did f vs o → Comes (flows result) s o }
+        ensures ready { (w : TheWorld) → IsReady self.old.units.now self.old.frame self.old.values w
+            → IsReady self.new.units.now self.new.frame self.new.values w }
+    {
+        match self.control {
+            Control::Next => Ok(Left::Next),
+            Control::Broke => Ok(Left::Broke),
+            Control::Continued => Ok(Left::Continued),
+            Control::CutOff => Err(self.why()),
+            _ => Err(OpEnd::Memory),
+        }
+    }
+
+    /// Why a statement was cut off.
+    fn why(&mut self) -> OpEnd
+        ensures end { (s : State) (o : Outcome Flow) → o ≡ ends (end_of self.old.end) s → IsEnd result s o }
+        ensures same { self.new ≡ record self.old { end = None } }
+    {
+        match self.end.take() {
+            Some(end) => end,
+            None => OpEnd::StopCells,
+        }
+    }
+}
+
+/// How many values at hand an expression waits with.
+fn held_with(task: ExprTask) -> usize
+    ensures { result ≡ at_hand task.entry }
+{
+    match task {
+        ExprTask::Operand(_, _) => 1,
+        ExprTask::Exponent => 1,
+        _ => 0,
+    }
+}
+
+/// How many a task waits with for the end of a statement.
+fn flow_with(task: Task) -> usize
+    ensures { result ≡ flow_with task.entry }
+{
+    match task {
+        Task::Flow(FlowTask::Store(_)) => 1,
+        _ => 0,
+    }
+}
