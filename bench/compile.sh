@@ -99,6 +99,7 @@ SLOW = {
     "4 MB of x.y;": filled("x.y;"),
     "4 MB of _x;": filled("_x;"),
     "4 MB of x = 1": filled("x = 1\n"),
+    "4 MB of f-literals": filled("f'{x}'\n"),
     "150,000 parameters and global names": listed("def f(", "a", ",", "):\n global ", 150_000) + listed("", "g", ",", "\n", 150_000),
     "250,000 statements global": listed("def f(", "a", ",", "):\n", 100_000) + " global g\n" * 250_000,
     "150,000 named arguments": listed("f(", "a", "=0,", "=0)\n", 150_000),
@@ -118,6 +119,10 @@ def hostile(folder):
     for number, (title, text) in enumerate(SLOW.items()):
         status, seconds, megabytes = asked("check", written(folder, f"slow{number}", text))
         print(f"{title}: check {seconds:.2f} s, {megabytes:.0f} MB (status {status})")
+    names = written(folder, "names", listed("", "a", " = 1\n", " = 1\n", 100_000))
+    few = written(folder, "few", listed("", "a", " = 1\n", " = 1\n", 10_000))
+    spent = [asked("show", file)[1] for file in (few, names)]
+    print(f"100,000 names: show {spent[1]:.2f} s, {spent[1] / spent[0]:.1f} times as long as 10,000")
     for number, (title, text) in enumerate(DEEP.items()):
         file = written(folder, f"deep{number}", text)
         said = [process([RPY, command, file], small_stack) for command in ("check", "show")]

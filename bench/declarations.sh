@@ -1,6 +1,7 @@
 #!/usr/bin/env bash
 # The time of `rpy may` on a file of 1,000 classes, 10,000 objects and 1,000 principals in 100 groups, and on one of a
-# quarter of each, beside Python's module tomllib, which only reads the same file: the ratio, and the growth. Then the
+# quarter of each, beside Python's module tomllib, which only reads the same file: the ratio, and the growth. Then the time
+# of a class of 1,000, of 10,000 and of 100,000 classes with one row each, beside tomllib's: the growth of both. Then the
 # nanoseconds of one `decide` of a permission whose answer is kept, and of one `row` of a class with 100 names.
 # Processor time, the least of some runs, less the time of a process with nothing to do.
 . "$(dirname "${BASH_SOURCE[0]}")/loops.sh"
@@ -77,6 +78,13 @@ with tempfile.TemporaryDirectory() as folder:
         walls.append(rpy)
         print(f"{len(text)} bytes: rpy may {rpy * 1000:.1f} ms, tomllib {python * 1000:.1f} ms, ratio {python / rpy:.1f}")
     print(f"four times the file: {walls[1] / walls[0]:.2f} times the time")
+    for classes in (1_000, 10_000, 100_000):
+        text = "version = 1\n" + "".join(f'[class.C{i}]\nget.a = "zope.Public"\n' for i in range(classes)) + "[principal.u]\n"
+        path = os.path.join(folder, f"classes{classes}.toml")
+        with open(path, "w") as out:
+            out.write(text)
+        rpy, python = process([RPY, "may", path, "u", "zope.Public"], 0), reading(text)
+        print(f"{classes} classes: rpy {rpy / classes * 1e6:.2f} microseconds a class, tomllib {python / classes * 1e6:.2f}")
     for what in ("decide", "row"):
         turns = 20_000_000
         used = process([BENCH, what, str(turns)], 0) - process([BENCH, what, "0"], 0)

@@ -1,4 +1,4 @@
 mod AttributeExamples
 mod Found
-mod MethodNames
+pub mod MethodNames
 mod Places

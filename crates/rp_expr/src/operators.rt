@@ -64,7 +64,7 @@ fn operations(
     ensures { Gives (λ x. (v.ops_of (map v.view_op x.0.items), x.1.now)) result
         (r.operations (suc level) (r.chain (r.readers depth) level) tokens.now) }
 {
-    let mut found = Vec::new(alloc);
+    let mut found = Vec::with_capacity(alloc, 1)?;
     let mut rest = tokens;
     'items: while let Some(op) = operator(level, rest) {
         let (operand, after) = chain(alloc, level, skip(rest), depth)?;
@@ -192,7 +192,7 @@ fn tests(alloc: Global, tokens: &[Token], depth: usize) -> Read<'_, Vec<(Test, E
     ensures { Gives (λ x. (v.tests_of (map v.view_test x.0.items), x.1.now)) result
         (r.tests (r.readers depth) tokens.now) }
 {
-    let mut found = Vec::new(alloc);
+    let mut found = Vec::with_capacity(alloc, 1)?;
     let mut rest = tokens;
     'items: while at_test(rest) {
         let (item, after) = test(alloc, rest, depth)?;

@@ -117,7 +117,7 @@ fn args(alloc: Global, tokens: &[Token], depth: usize) -> Read<'_, Vec<Arg>>
     ensures { Gives (λ x. (v.args_of (map v.view_arg x.0.items), x.1.now)) result
         (r.args (r.readers depth) tokens.now) }
 {
-    let mut found = Vec::new(alloc);
+    let mut found = Vec::with_capacity(alloc, 1)?;
     let mut named = false;
     let mut rest = tokens;
     'items: while starts_arg(rest) {
@@ -166,7 +166,7 @@ fn trailers(alloc: Global, tokens: &[Token], depth: usize) -> Read<'_, Vec<Trail
     ensures { Gives (λ x. (v.trailers_of (map v.view_trailer x.0.items), x.1.now)) result
         (r.trailers (r.readers depth) tokens.now) }
 {
-    let mut found = Vec::new(alloc);
+    let mut found = Vec::with_capacity(alloc, 1)?;
     let mut rest = tokens;
     'items: while starts_trailer(rest) {
         let (item, after) = trailer(alloc, rest, depth)?;

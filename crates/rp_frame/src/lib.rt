@@ -3,12 +3,16 @@
 
 mod activation;
 mod control;
+mod display;
+mod spot;
 mod task;
 mod tasks;
 mod values;
 
 pub use activation::Activation;
 pub use control::Control;
+pub use display::Display;
+pub use spot::{Each, Spot};
 pub use task::{ExprTask, FlowTask, StmtTask, Task};
 pub use tasks::Tasks;
 pub use values::Values;

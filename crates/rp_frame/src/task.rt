@@ -1,7 +1,9 @@
 //! What waits for the end of a part.
 
-use rp_base::{BinOp, UnOp};
-use rp_tree::{Branch, Expr, Place, Stmt};
+use crate::display::Display;
+use crate::spot::{Each, Spot};
+use rp_base::{BinOp, Name, UnOp};
+use rp_tree::{Arg, Branch, Expr, Place, Stmt, Test, Trailer};
 
 /// What an expression does with the value of a part, or that of a statement.
 #[derive(Clone, Copy)]
@@ -18,6 +20,21 @@ pub enum ExprTask<'u> {
     Power(&'u Expr),
     /// With the exponent; the base is at hand.
     Exponent,
+    /// With the first operand of these tests.
+    Tests(&'u [(Test, Expr)]),
+    /// With the right operand of a test; the left one is at hand, and these are behind.
+    Test(Test, &'u [(Test, Expr)]),
+    /// With an operand of `and`, where all are to be true, or else of `or`; these are behind.
+    Joined(bool, &'u [Expr]),
+    /// With the value before these trailers.
+    Trailers(&'u [Trailer]),
+    /// With the key of an item; the container is at hand, and these trailers are behind.
+    Key(&'u [Trailer]),
+    /// With an element of a display; so many before it are at hand, and these are behind.
+    Items(Display, u32, &'u [Expr]),
+    /// With an argument of a call; the callee and, upon it, so many arguments before it are at hand, and these arguments
+    /// and trailers are behind.
+    Argument(u32, &'u [Arg], &'u [Trailer]),
 }
 
 /// What a statement does with the value of an expression.
@@ -34,6 +51,22 @@ pub enum StmtTask<'u> {
     Assert(&'u Option<Expr>),
     /// With the message of `assert`, whose test was false.
     Fail,
+    /// With the object whose attribute is stored to; the value is at hand.
+    StoreAttr(Name),
+    /// With the container of the item that is stored to: its key; the value is at hand.
+    StoreItem(&'u Expr),
+    /// With the key of the item that is stored to; the container is at hand, and below it the value.
+    StoreKey,
+    /// With the object whose attribute is deleted.
+    DeleteAttr(Name),
+    /// With the container of the item that is deleted: its key.
+    DeleteItem(&'u Expr),
+    /// With the key of the item that is deleted; the container is at hand.
+    DeleteKey,
+    /// With the right side of an augmented assignment to a name, whose value is at hand.
+    AugmentName(Name, BinOp),
+    /// With what a `for` statement goes over.
+    For(Each<'u>),
 }
 
 /// What waits for the end of a statement or a block.
@@ -47,6 +80,8 @@ pub enum FlowTask<'u> {
     Store(&'u [Place]),
     /// The places behind one that was deleted.
     Delete(&'u [Place]),
+    /// A `for` loop: the turns that it may still make, and where it then stands in the value at hand.
+    For(u64, Spot, Each<'u>),
 }
 
 /// What waits for the end of a part.

@@ -17,8 +17,11 @@ impl<'u> Model for Tasks<'u> {
     ghost use Rattle.std.specs.Prelude.{List, reverse};
     ghost use Rattle.std.specs.Coded.{codes};
     ghost use Rattle.rp_frame.specs.declared.task.Task.{Task};
+    ghost use Rattle.rp_tree.specs.contracts.expr.Arg as arg;
     ghost use Rattle.rp_tree.specs.contracts.expr.Expr as expr;
     ghost use Rattle.rp_tree.specs.contracts.expr.Place as place;
+    ghost use Rattle.rp_tree.specs.contracts.expr.Trailer as trailer;
+    ghost use Rattle.rp_tree.specs.contracts.expr.Target as target;
     ghost use Rattle.rp_tree.specs.contracts.stmt.Branch as branch;
     ghost use Rattle.rp_tree.specs.contracts.stmt.Stmt as stmt;
 
@@ -26,10 +29,13 @@ impl<'u> Model for Tasks<'u> {
 
     ghost coded = { Prim.hlevel (
       codes,
+      arg.the_row.coded,
       expr.the_row.coded,
       place.the_row.coded,
+      target.the_row.coded,
       branch.the_row.coded,
       stmt.the_row.coded,
+      trailer.the_row.coded,
     ) };
 
     ghost view = { λ x. reverse x.tasks.items };

@@ -1,6 +1,6 @@
 //! The values at hand.
 
-ghost use Rattle.std.specs.Prelude.{◌≡◌, ◌∷◌, [], OnErr, OnOk};
+ghost use Rattle.std.specs.Prelude.{◌≡◌, ◌∷◌, [], drop, reverse, take, IfOk, OnErr, OnOk};
 ghost use Rattle.rp_frame.specs.Top.{top, below};
 
 use rp_base::{Memory, Rock, Value};
@@ -55,5 +55,40 @@ impl Values {
             Some(value) => value,
             None => Value::Rock(Rock::Nil),
         }
+    }
+
+    /// The last values, so many, or all where there are fewer, in the order in which they were put.
+    #[inline(always)]
+    pub fn last(&self, n: usize) -> &[Value]
+        ensures { result.now ≡ reverse (take n self.now) }
+    {
+        let at = self.values.len().saturating_sub(n);
+        &self.values[at..]
+    }
+
+    /// The value under the last ones, so many; the other value, which is None, where there are no more.
+    #[inline(always)]
+    pub fn under<'a>(&'a self, n: usize, nil: &'a Value) -> &'a Value
+        requires { nil.now ≡ Value.Rock Rock.Nil }
+        ensures { result.now ≡ top (drop n self.now) }
+    {
+        let count = self.values.len();
+        if n < count {
+            return &self.values[count - n - 1];
+        }
+        nil
+    }
+
+    /// Takes the last values off, so many, or all where there are fewer; they come in the order in which they were put.
+    ///
+    /// # Errors
+    /// `Memory` where a growth was refused; then they are as before.
+    pub fn take(&mut self, n: usize) -> Result<Vec<Value>, Memory>
+        ensures taken { IfOk result (λ values. values.items ≡ reverse (take n self.old)) }
+        ensures left { OnOk result (self.new ≡ drop n self.old) }
+        ensures same { OnErr result (self.new ≡ self.old) }
+    {
+        let at = self.values.len().saturating_sub(n);
+        Ok(self.values.split_off(at)?)
     }
 }

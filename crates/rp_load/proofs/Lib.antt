@@ -1,4 +1,4 @@
-mod Apart
-mod Bound
-mod Loaded
-mod Sound
+pub mod Apart
+pub mod Bound
+pub mod Loaded
+pub mod Sound

@@ -76,7 +76,7 @@ fn line(alloc: Global, words: &str, which: &str) -> Result<String, Memory>
 }
 
 /// The least exposed name in byte order that is that of no declared class or object.
-fn least_unbound(decl: &Decl, names: &Names, globals: &Globals) -> Option<Name>
+pub fn least_unbound(decl: &Decl, names: &Names, globals: &Globals) -> Option<Name>
     requires held { IsHeldBy names.now decl.now }
     requires globals { TellsPlaces decl.now globals.now }
     ensures least { option_map (name_text names.now) result

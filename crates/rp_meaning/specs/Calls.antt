@@ -128,12 +128,15 @@ object_call at owner (object.instance of fields) a frame s =
     on_special (special (heap_of s) (value.Ref at) CALL) (λ m. frame.calls m.function (behind m.of a)) not_called s
 object_call at owner c a frame s = not_called s
 
+-- what stands at a place of the store is called; what is missing is not
+abbrev pub found_call : Oid → Option Owned → Arguments → Meaning
+found_call at None a frame s = not_called s
+found_call at (Some o) a frame s = object_call at o.owner o.content a frame s
+
 -- a call through a reference is decided, and what it gives is got through that
 abbrev pub reference_call : Value → Oid → Arguments → Meaning
-reference_call v at a frame s = asked_for frame CALL v s (λ s. on_value (found (slice_get (heap_of s) at.0) s) (λ r s. got v r frame s)) where
-  found : Option Owned → State → Outcome Value
-  found None s = not_called s
-  found (Some o) s = object_call at o.owner o.content a frame s
+reference_call v at a frame s =
+    asked_for frame CALL v s (λ s. on_value (found_call at (slice_get (heap_of s) at.0) a frame s) (λ r s. got v r frame s))
 
 -- `f(..)` of a value, once its arguments are evaluated
 abbrev pub call : Value → Arguments → Meaning

@@ -18,4 +18,5 @@ pub mod Runs
 pub mod SetItems
 pub mod SetLaws
 pub mod Trims
+pub mod Untouched
 pub mod Words

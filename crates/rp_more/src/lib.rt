@@ -36,14 +36,14 @@ use std::alloc::Global;
 ///
 /// # Errors
 /// `Format` with the line of the first f-literal whose text is wrong, or `Memory` where a growth was refused.
-pub fn expand(alloc: Global, tokens: &[Token], names: &mut Names) -> Result<Vec<Token>, MoreFault>
-    requires { All (IsHeld names.old) tokens.now }
-    ensures expanded { Gives names.new (expanded (map (item_view names.old) tokens.now)) result }
+pub fn expand(alloc: Global, tokens: Vec<Token>, names: &mut Names) -> Result<Vec<Token>, MoreFault>
+    requires { All (IsHeld names.old) tokens.items }
+    ensures expanded { Gives names.new (expanded (map (item_view names.old) tokens.items)) result }
     ensures names { IsGrown names.old names.new }
     ensures held { IfOk result (λ found. All (IsHeld names.new) found.items) }
-    ensures ends { EndsOnce tokens.now → IfOk result (λ found. EndsOnce found.items) }
+    ensures ends { EndsOnce tokens.items → IfOk result (λ found. EndsOnce found.items) }
     // 200 brackets by the text's own, 200 by those of a place in an f-literal, and the four of its call.
-    ensures shallow { IsWithin 200 0 tokens.now → IfOk result (λ found. IsWithin 450 0 found.items) }
+    ensures shallow { IsWithin 200 0 tokens.items → IfOk result (λ found. IsWithin 450 0 found.items) }
 {
     let written = literals::written_out(alloc, tokens, names)?;
     Ok(sets::written_out(alloc, written)?)

@@ -2,7 +2,7 @@
 
 ghost use Rattle.std.specs.Prelude.{◌≡◌, ◌<◌, ◌++◌, OnOk, ◌∷◌, [], ◌==◌, ◌&&◌, ◌-◌, ℕ, List, IfOk, Ok, chars};
 ghost use Rattle.std.specs.Prelude.{codes, length, map, false, if◌then◌else◌};
-ghost use Rattle.std.specs.List.{All};
+ghost use Rattle.std.specs.List.{All, list_any};
 ghost use Rattle.std.specs.Option.{option_map};
 ghost use Rattle.rp_token.specs.Form.{mark};
 ghost use Rattle.rp_token.specs.Lexer.{IsGrown};
@@ -93,11 +93,28 @@ impl Literals {
     }
 }
 
-/// The tokens with each f-literal as its call.
+/// The tokens with each f-literal as its call. Where no name is `f` they are handed on.
 ///
 /// # Errors
 /// `Format` with the line of the first f-literal whose text is wrong, or `Memory`.
 pub(crate) fn written_out(
+    alloc: Global,
+    tokens: Vec<Token>,
+    names: &mut Names,
+) -> Result<Vec<Token>, MoreFault>
+    requires { All (IsHeld names.old) tokens.items }
+    ensures literals { (more : List (List ℕ)) → Gives (names.new ++ more) (literals false false
+        (items_of (names.new ++ more) tokens.items)) result }
+    ensures grown { IsGrown names.old names.new }
+{
+    if !has_prefix(tokens.as_slice(), names) {
+        return Ok(tokens);
+    }
+    each_written_out(alloc, tokens.as_slice(), names)
+}
+
+/// The tokens, one by one, with each f-literal as its call.
+fn each_written_out(
     alloc: Global,
     tokens: &[Token],
     names: &mut Names,
@@ -114,6 +131,21 @@ pub(crate) fn written_out(
         rest = behind;
     }
     Ok(literals.written)
+}
+
+/// Whether one of the tokens is the name `f`, spelled by one byte.
+fn has_prefix(tokens: &[Token], names: &Names) -> bool
+    requires { All (IsHeld names.now) tokens.now }
+    ensures { (more : List (List ℕ)) → result ≡ list_any is_prefix (items_of (names.now ++ more) tokens.now) }
+{
+    let mut rest = tokens;
+    'tokens: while let [token, behind @ ..] = rest {
+        if is_prefix(token, names) {
+            return true;
+        }
+        rest = behind;
+    }
+    false
 }
 
 /// Whether the token is the name `f`, spelled by one byte.

@@ -1,6 +1,7 @@
 //! Sets that are tested by `in` or walked: each is written as a dict whose values are None.
 
 ghost use Rattle.std.specs.Prelude.{◌≡◌, ◌++◌, ◌∷◌, [], ◌||◌, ℕ, IfOk, List, OnOk, false};
+ghost use Rattle.std.specs.List.{list_any};
 ghost use Rattle.rp_token.specs.Form.{newline};
 ghost use Rattle.rp_more.specs.KindSteps.{is_comma, is_in, is_left_brace};
 ghost use Rattle.rp_more.specs.LiteralSteps.{items_of};
@@ -112,11 +113,22 @@ impl Sets {
     }
 }
 
-/// The tokens with each set as a dict.
+/// The tokens with each set as a dict. Where there is no brace they are handed on.
 ///
 /// # Errors
 /// `Memory` where a growth was refused.
 pub(crate) fn written_out(alloc: Global, tokens: Vec<Token>) -> Result<Vec<Token>, Memory>
+    ensures { (names : List (List ℕ)) → IfOk result (λ found. items_of names found.items ≡ sets [] newline
+        (items_of names tokens.items)) }
+{
+    if !has_brace(tokens.as_slice()) {
+        return Ok(tokens);
+    }
+    each_written_out(alloc, tokens)
+}
+
+/// The tokens, one by one, with each set as a dict.
+fn each_written_out(alloc: Global, tokens: Vec<Token>) -> Result<Vec<Token>, Memory>
     ensures { (names : List (List ℕ)) → IfOk result (λ found. items_of names found.items ≡ sets [] newline
         (items_of names tokens.items)) }
 {
@@ -131,4 +143,11 @@ pub(crate) fn written_out(alloc: Global, tokens: Vec<Token>) -> Result<Vec<Token
         sets.take(token)?;
     }
     Ok(sets.written)
+}
+
+/// Whether one of the tokens is `{`.
+fn has_brace(tokens: &[Token]) -> bool
+    ensures { result ≡ list_any (λ t. is_left_brace t.kind) tokens.now }
+{
+    tokens.iter().any(|token| is_left_brace(&token.kind))
 }

@@ -5,7 +5,7 @@ ghost use Rattle.rp_native.specs.Counts.{function_takes, is_called_here, is_func
 use rp_base::NativeId;
 
 /// Whether it is a function, and no method.
-pub(crate) fn is_function(id: NativeId) -> bool
+pub fn is_function(id: NativeId) -> bool
     ensures { result ≡ is_function id }
 {
     match id {

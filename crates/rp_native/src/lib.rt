@@ -18,7 +18,7 @@ mod tables;
 mod zips;
 
 pub use calls::call_native;
-pub use counts::{function_takes, is_called_here};
+pub use counts::{function_takes, is_called_here, is_function};
 // A crate can name these in a contract only if they are exported.
 #[doc(hidden)]
 pub use extremes::Extreme;

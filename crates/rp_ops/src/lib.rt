@@ -23,7 +23,7 @@ pub use cells::{charge, charge_copies, check_room};
 // A crate can name a cursor in a contract only if the types of its fields are exported.
 #[doc(hidden)]
 pub use cursor::Standing;
-pub use cursor::{Cursor, walk_of};
+pub use cursor::{Cursor, next_element, next_letter, walk_of};
 pub use ends::{raised, step, steps};
 pub use made::{new_character, new_object, new_text};
 pub use operand::{Elements, Operand, elements_at, operand_of};
@@ -31,5 +31,5 @@ pub use refusal::Refusal;
 pub use sequences::{Sequence, add as add_sequence, handed};
 pub use truth_value::truth;
 pub use unary_operators::unary;
-pub use walk::elements;
+pub use walk::{elements, key_at};
 pub use words::word_of;

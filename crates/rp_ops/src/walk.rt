@@ -217,7 +217,11 @@ fn next_written(rest: &mut Walk<'_, Key, (Rock, Value)>) -> Result<Option<Value>
     }
 }
 
-pub(crate) fn key_at(entries: &Dict<Key, (Rock, Value)>, i: usize) -> Result<Value, Memory>
+/// The key that stands at this place of a dict, as a value.
+///
+/// # Errors
+/// `Memory` where a growth was refused.
+pub fn key_at(entries: &Dict<Key, (Rock, Value)>, i: usize) -> Result<Value, Memory>
     requires { i < length entries.now }
     ensures { IfOk result (λ v. Some v ≡ option_map key_rock (slice_get entries.now i)) }
 {

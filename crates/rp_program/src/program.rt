@@ -64,8 +64,7 @@ pub fn read_text(alloc: Global, text: &str, names: &mut Names) -> Result<Tree, P
     ensures names { IsGrown names.old names.new }
 {
     let given = tokens(alloc, text, names)?;
-    let expanded = expand(alloc, given.as_slice(), names)?;
-    drop(given);
+    let expanded = expand(alloc, given, names)?;
     hold_each_once(names);
     Ok(parse(alloc, expanded.as_slice())?)
 }

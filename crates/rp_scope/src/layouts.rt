@@ -1,12 +1,12 @@
 //! The local names of the code blocks of a program, and where each block finds a name.
 
-ghost use Rattle.std.specs.Prelude.{◌≡◌, ◌∷◌, [], ◌++◌, ◌+◌, ◌^◌, ◌<◌, length, map, option_copied, IfOk, OnOk};
+ghost use Rattle.std.specs.Prelude.{◌≡◌, ◌∷◌, [], ◌++◌, ◌+◌, ◌^◌, ◌<◌, length, map, option_copied, position, IfOk, OnOk};
 ghost use Rattle.rp_tree.specs.ExpressionViews as e;
 ghost use Rattle.rp_tree.specs.StatementViews as v;
 ghost use Rattle.rp_tree.specs.StatementViews.{view_tree};
 ghost use Rattle.rp_scope.specs.Bindings.{function_block, lambda_block, comprehension_block};
 ghost use Rattle.rp_scope.specs.Numbers.{HasNumbers, block_count};
-ghost use Rattle.rp_scope.specs.Scopes.{AreScopesOf, scopes, scope_in, locals_of, found_from, block_at};
+ghost use Rattle.rp_scope.specs.Scopes.{AreScopesOf, scopes, scope_in, locals_of, found_from, block_at, same_name};
 
 use crate::block_layouts::lay_out_stmts;
 use crate::layout::{Layout, comprehension_layout, function_layout, lambda_layout, program_layout};
@@ -118,6 +118,14 @@ impl Layouts {
         ensures { result.now ≡ locals_of self.now block }
     {
         self.layouts[block].locals.as_slice()
+    }
+
+    /// The place of a name among the local names of the program; none where it is not among them.
+    pub fn global(&self, name: Name) -> Option<usize>
+        requires { 0 < length self.now }
+        ensures { result ≡ position (same_name name) (locals_of self.now 0) }
+    {
+        self.layouts[0].locals.get_index_of(&name)
     }
 
     /// Where a code block finds a name: among its own local names, among those of a block around it, or among the

@@ -8,15 +8,15 @@ use Rattle.rp_meaning.specs.State.{State, Outcome, stepped}
 use Rattle.rp_meaning.proofs.Laws.{then_then}
 use Rattle.rp_ops.specs.Outcome.{gives}
 use Rattle.rp_proxy.specs.declared.world.World.{World}
-use Rattle.rp_step.specs.Comes.{Comes, IsEnd}
+use Rattle.rp_access.specs.Comes.{Comes, IsEnd}
 use Rattle.rp_step.specs.ExpressionSteps.{put_to, step_to}
 use Rattle.rp_step.specs.Law.{Evaluates, frame_in, rest_of}
-use Rattle.rp_step.specs.Moment.{state_of}
-use Rattle.rp_step.specs.Parts.{step_end}
+use Rattle.rp_access.specs.Moment.{state_of}
+use Rattle.rp_access.specs.Parts.{step_end}
 use Rattle.rp_step.specs.Rest.{gave, rest}
 use Rattle.rp_step.specs.declared.halt.Halt.{Halt}
 use Rattle.rp_step.specs.declared.machine.Machine.{Machine}
-use Rattle.rp_step.proofs.Going.{IsEnd-same, IsEnd-then, gives-then}
+use Rattle.rp_access.proofs.Going.{IsEnd-same, IsEnd-then, gives-then}
 use Rattle.rp_step.proofs.Moves.{as_ok, end_ok, goes_ok, on_ok}
 
 -- the part, and going on from its value; the step is taken in the part

@@ -7,9 +7,9 @@ use Rattle.rp_frame.specs.declared.task.Task.{Task}
 use Rattle.rp_meaning.specs.Frame.{Doing, Run}
 use Rattle.rp_meaning.specs.State.{State, Outcome, Flow}
 use Rattle.rp_proxy.specs.declared.world.World.{World}
-use Rattle.rp_step.specs.Comes.{IsEnd}
+use Rattle.rp_access.specs.Comes.{IsEnd}
 use Rattle.rp_step.specs.Law.{Executes, frame_in, rest_of}
-use Rattle.rp_step.specs.Moment.{state_of}
+use Rattle.rp_access.specs.Moment.{state_of}
 use Rattle.rp_step.specs.Rest.{Held, after, did, rest}
 use Rattle.rp_step.specs.declared.halt.Halt.{Halt}
 use Rattle.rp_step.specs.declared.machine.Machine.{Machine}

@@ -13,9 +13,9 @@ use Rattle.rp_meaning.proofs.Laws.{then_then}
 use Rattle.rp_ops.specs.Operand.{truth_of}
 use Rattle.rp_ops.specs.Outcome.{gives, on_value}
 use Rattle.rp_proxy.specs.Decide.{Decision}
-use Rattle.rp_step.specs.Parts.{step_end}
+use Rattle.rp_access.specs.Parts.{step_end}
 use Rattle.rp_step.specs.Rest.{loop, tested_turn, turn}
-use Rattle.rp_step.proofs.Going.{on_same}
+use Rattle.rp_access.proofs.Going.{on_same}
 
 -- the loop goes on from a part of a turn
 pub turn_then : {A : Type 0} (o : Outcome A) (go : A → State → Outcome Flow) (again : State → Outcome Flow)

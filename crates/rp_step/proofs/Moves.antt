@@ -6,9 +6,9 @@ use Rattle.rp_base.specs.declared.value.Value.{Value}
 use Rattle.rp_meaning.specs.Frame.{Meaning, Doing, Run}
 use Rattle.rp_meaning.specs.State.{State, Outcome, Flow}
 use Rattle.rp_proxy.specs.declared.world.World.{World}
-use Rattle.rp_step.specs.Comes.{IsEnd}
+use Rattle.rp_access.specs.Comes.{IsEnd}
 use Rattle.rp_step.specs.Law.{Evaluates, Executes, frame_in, rest_of}
-use Rattle.rp_step.specs.Moment.{state_of}
+use Rattle.rp_access.specs.Moment.{state_of}
 use Rattle.rp_step.specs.Rest.{rest, gave, did}
 use Rattle.rp_step.specs.declared.halt.Halt.{Halt}
 use Rattle.rp_step.specs.declared.machine.Machine.{Machine}

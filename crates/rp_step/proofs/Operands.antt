@@ -1,45 +1,27 @@
 -- Operators behind their decisions, from what is known of each part.
-use Rattle.std.proofs.Common.{◌≡◌, List, sym, ap, ◌∙◌}
+use Rattle.std.proofs.Common.{◌≡◌, List, ◌∙◌}
 use Rattle.rp_base.specs.declared.operator.BinOp.{BinOp}
 use Rattle.rp_base.specs.declared.operator.UnOp.{UnOp}
-use Rattle.rp_base.specs.declared.value.Name.{Name}
 use Rattle.rp_base.specs.declared.value.OpEnd.{OpEnd}
-use Rattle.rp_base.specs.declared.value.Side.{Side}
 use Rattle.rp_base.specs.declared.value.Value.{Value}
 use Rattle.rp_frame.specs.declared.activation.Activation.{Activation}
 use Rattle.rp_meaning.specs.Expressions as forms
 use Rattle.rp_meaning.specs.Frame.{Meaning, Run}
-use Rattle.rp_meaning.specs.Operators.{left_name, operate_unary, right_name, unary_name}
-use Rattle.rp_meaning.specs.State.{State, Outcome, heap_of, plainly}
+use Rattle.rp_meaning.specs.Operators.{operate_unary, unary_name}
+use Rattle.rp_meaning.specs.State.{State, heap_of}
 use Rattle.rp_ops.specs.Binary as binary
-use Rattle.rp_ops.specs.Outcome.{gives, on_found, on_value}
-use Rattle.rp_proxy.specs.Taken.{taken}
+use Rattle.rp_ops.specs.Outcome.{gives, on_found}
 use Rattle.rp_proxy.specs.declared.world.World.{World}
-use Rattle.rp_step.specs.Comes.{IsEnd}
-use Rattle.rp_step.specs.ExpressionSteps.{unary_asked}
+use Rattle.rp_access.specs.Comes.{IsEnd}
+use Rattle.rp_access.specs.Parts.{operated, unary_asked}
 use Rattle.rp_step.specs.Law.{frame_in}
-use Rattle.rp_step.specs.Moment.{frame_of, run_of, state_of}
-use Rattle.rp_step.specs.Parts.{asking, operated}
+use Rattle.rp_step.specs.Moment.{frame_of, run_of}
+use Rattle.rp_access.specs.Moment.{state_of}
 use Rattle.rp_step.specs.Rest.{with_operands}
 use Rattle.rp_step.specs.declared.machine.Machine.{Machine}
 use Rattle.rp_step.specs.declared.units.Units.{Units}
-use Rattle.rp_step.proofs.Going.{IsEnd-same, IsEnd-then, asked_then, gives-then, operate_is}
-
-module _ (side : Side) (op : BinOp) (a b : Value) where
-  last : Value → State → Outcome Value
-  last v s = gives (taken (heap_of s) side v) s
-
-  decided : (s t r : State) (x y : Name) → x ≡ left_name op → y ≡ right_name op → asking x a s ≡ gives (tt {0}) t → asking y b t ≡ gives (tt {0}) r
-      → operated side op a b s ≡ on_value (plainly (binary.binary side op a b) r) last
-  unfolding last
-  decided s t r x y left right first second =
-      ap (λ o. on_value o (λ _ s. on_value (asking (right_name op) b s) (λ _ s. on_value (plainly (binary.binary side op a b) s) last))) (ap (λ n. asking n a s) (sym left) ∙ first)
-      ∙ ap (λ o. on_value o (λ _ s. on_value (plainly (binary.binary side op a b) s) last)) (ap (λ n. asking n b t) (sym right) ∙ second)
-
-  pub operated_ends : (s t r u : State) (x y : Name) (e : OpEnd) → x ≡ left_name op → y ≡ right_name op → asking x a s ≡ gives (tt {0}) t → asking y b t ≡ gives (tt {0}) r
-      → IsEnd e u (plainly (binary.binary side op a b) r) → IsEnd e u (operated side op a b s)
-  operated_ends s t r u x y e left right first second is =
-      IsEnd-same e u (operated side op a b s) _ (decided s t r x y left right first second) (IsEnd-then e u _ last is)
+use Rattle.rp_access.proofs.Going.{IsEnd-same, IsEnd-then, gives-then}
+use Rattle.rp_step.proofs.Going.{asked_then, operate_is}
 
 module _ (m : Machine) (w u : World) (os : List (BinOp × Meaning)) where
   -- the operators behind an operator that gave a value, or that has none

@@ -16,8 +16,8 @@ use Rattle.rp_meaning.specs.State.{State, Outcome, Flow}
 use Rattle.rp_ops.specs.Outcome.{End, ends}
 use Rattle.rp_proxy.specs.declared.world.World.{World}
 use Rattle.rp_step.specs.Law.{Leaves, Takes, frame_in, rest_of}
-use Rattle.rp_step.specs.Left.{at_hand, flow_with}
-use Rattle.rp_step.specs.Moment.{state_of}
+use Rattle.rp_step.specs.Left.{at_hand, flow_with, stmt_with}
+use Rattle.rp_access.specs.Moment.{state_of}
 use Rattle.rp_step.specs.Ready.{IsReady}
 use Rattle.rp_step.specs.Rest.{Held, after, begun, did, gave, rest}
 use Rattle.rp_step.specs.declared.machine.Machine.{Machine}
@@ -26,6 +26,10 @@ use Rattle.rp_step.proofs.AtHand.{below_ready, drop_ready}
 below_drop : (vs : List Value) → below vs ≡ drop 1 vs
 below_drop [] = refl
 below_drop (v ∷ vs) = refl
+
+below_twice : (vs : List Value) → below (below vs) ≡ drop 2 vs
+below_twice [] = refl
+below_twice (v ∷ vs) = below_drop vs
 
 module _ (f : Frame) (vs : List Value) where
   -- an expression that has no value
@@ -37,14 +41,29 @@ module _ (f : Frame) (vs : List Value) where
   expr_cut (expr.Unary op) e s = refl
   expr_cut (expr.Power x) e s = refl
   expr_cut expr.Exponent e s = ap (λ vs. gave f vs (ends e s)) (below_drop vs)
+  expr_cut (expr.Tests ts) e s = refl
+  expr_cut (expr.Test t ts) e s = ap (λ vs. gave f vs (ends e s)) (below_drop vs)
+  expr_cut (expr.Joined all es) e s = refl
+  expr_cut (expr.Trailers ts) e s = refl
+  expr_cut (expr.Key ts) e s = ap (λ vs. gave f vs (ends e s)) (below_drop vs)
+  expr_cut (expr.Items d n es) e s = refl
+  expr_cut (expr.Argument n as' ts) e s = refl
 
-  pub stmt_cut : (t : StmtTask) (e : End) (s : State) → after (task.Stmt t) (gave f vs (ends e s)) ≡ did f vs (ends e s)
+  pub stmt_cut : (t : StmtTask) (e : End) (s : State) → after (task.Stmt t) (gave f vs (ends e s)) ≡ did f (drop (stmt_with t) vs) (ends e s)
   stmt_cut stmt.Evaluate e s = refl
   stmt_cut (stmt.Assign ps) e s = refl
   stmt_cut (stmt.Branch b bs x) e s = refl
   stmt_cut (stmt.Test b) e s = refl
   stmt_cut (stmt.Assert m) e s = refl
   stmt_cut stmt.Fail e s = refl
+  stmt_cut (stmt.StoreAttr n) e s = ap (λ vs. did f vs (ends e s)) (below_drop vs)
+  stmt_cut (stmt.StoreItem k) e s = ap (λ vs. did f vs (ends e s)) (below_drop vs)
+  stmt_cut stmt.StoreKey e s = ap (λ vs. did f vs (ends e s)) (below_twice vs)
+  stmt_cut (stmt.DeleteAttr n) e s = refl
+  stmt_cut (stmt.DeleteItem k) e s = refl
+  stmt_cut stmt.DeleteKey e s = ap (λ vs. did f vs (ends e s)) (below_drop vs)
+  stmt_cut (stmt.AugmentName n op) e s = ap (λ vs. did f vs (ends e s)) (below_drop vs)
+  stmt_cut (stmt.For x) e s = refl
 
   -- a statement that was cut off
   pub did_cut : (t : Task) (e : End) (s : State) → after t (did f vs (ends e s)) ≡ did f (drop (flow_with t) vs) (ends e s)
@@ -54,6 +73,7 @@ module _ (f : Frame) (vs : List Value) where
   did_cut (task.Flow (flow.While n x b)) e s = refl
   did_cut (task.Flow (flow.Store ps)) e s = ap (λ vs. did f vs (ends e s)) (below_drop vs)
   did_cut (task.Flow (flow.Delete ps)) e s = refl
+  did_cut (task.Flow (flow.For n p x)) e s = ap (λ vs. did f vs (ends e s)) (below_drop vs)
 
 -- a task that was taken off
 pub leaves_by : (m n : Machine) (w v : World) (t : Task) (ts : List Task) → m.tasks ≡ t ∷ ts → Takes t (record m { tasks = ts }) w n v → Leaves m w n v

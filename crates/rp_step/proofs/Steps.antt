@@ -9,13 +9,14 @@ use Rattle.rp_meaning.specs.Statements.{Store}
 use Rattle.rp_meaning.specs.Walks.{on_truth}
 use Rattle.rp_ops.specs.Outcome.{End, gives, on_value}
 use Rattle.rp_proxy.specs.declared.world.World.{World}
-use Rattle.rp_step.specs.Comes.{IsEnd}
+use Rattle.rp_access.specs.Comes.{IsEnd}
 use Rattle.rp_step.specs.Law.{frame_in}
-use Rattle.rp_step.specs.Moment.{state_of}
-use Rattle.rp_step.specs.Parts.{step_end, truth_asked}
+use Rattle.rp_access.specs.Moment.{state_of}
+use Rattle.rp_access.specs.Parts.{step_end, truth_asked}
 use Rattle.rp_step.specs.Rest.{tested_turn, turn}
 use Rattle.rp_step.specs.declared.machine.Machine.{Machine}
-use Rattle.rp_step.proofs.Going.{IsEnd-same, IsEnd-then, gives-then, truth_then}
+use Rattle.rp_access.proofs.Going.{IsEnd-same, IsEnd-then, gives-then}
+use Rattle.rp_step.proofs.Going.{truth_then}
 
 module _ (m : Machine) (w u : World) where
   -- a step is taken

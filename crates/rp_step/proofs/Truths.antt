@@ -8,15 +8,16 @@ use Rattle.rp_meaning.specs.Frame.{Meaning, Run}
 use Rattle.rp_meaning.specs.State.{State, Outcome, choose}
 use Rattle.rp_ops.specs.Outcome.{gives}
 use Rattle.rp_proxy.specs.declared.world.World.{World}
-use Rattle.rp_step.specs.Comes.{IsEnd}
+use Rattle.rp_access.specs.Comes.{IsEnd}
 use Rattle.rp_step.specs.ExpressionSteps.{either, not_of, one_of}
 use Rattle.rp_step.specs.Law.{Evaluates, frame_in, rest_of}
-use Rattle.rp_step.specs.Moment.{state_of}
-use Rattle.rp_step.specs.Parts.{truth_asked}
+use Rattle.rp_access.specs.Moment.{state_of}
+use Rattle.rp_access.specs.Parts.{truth_asked}
 use Rattle.rp_step.specs.Rest.{gave, rest}
 use Rattle.rp_step.specs.declared.halt.Halt.{Halt}
 use Rattle.rp_step.specs.declared.machine.Machine.{Machine}
-use Rattle.rp_step.proofs.Going.{IsEnd-same, IsEnd-then, gives-then, truth_then}
+use Rattle.rp_access.proofs.Going.{IsEnd-same, IsEnd-then, gives-then}
+use Rattle.rp_step.proofs.Going.{truth_then}
 use Rattle.rp_step.proofs.Moves.{as_ok, end_ok, goes_ok}
 
 module _ (m : Machine) (w u : World) (a : Value) (A B : Meaning) where

@@ -6,7 +6,7 @@ use Rattle.rp_base.specs.declared.value.Value.{Value}
 use Rattle.rp_meaning.specs.Frame.{Frame, place_of, slot_of, unbind_name, without_name}
 use Rattle.rp_meaning.specs.Scopes.{held}
 use Rattle.rp_meaning.specs.State.{State, done, heap_of}
-use Rattle.rp_step.specs.Parts.{unbound_at}
+use Rattle.rp_step.specs.Slots.{unbound_at}
 
 module _ (f : Frame) (name : Name) (s : State) where
   of_bound : (o : Option Value) → held (heap_of s) (slot_of f name s) ≡ o → is_some o ≡ true → unbind_name name f s ≡ done (without_name name f s)

@@ -2,14 +2,20 @@
 -- each level of a tree, are all that is known of them there.
 use Rattle.std.specs.Prelude.{List, Option, map, option_map}
 use Rattle.rp_base.specs.declared.operator.BinOp.{BinOp}
+use Rattle.rp_base.specs.declared.value.Value.{Value}
+use Rattle.rp_tree.specs.declared.expr.Arg.{Arg}
 use Rattle.rp_tree.specs.declared.expr.Expr.{Expr}
 use Rattle.rp_tree.specs.declared.expr.ExprForm.{ExprForm}
 use Rattle.rp_tree.specs.declared.expr.Place.{Place}
+use Rattle.rp_tree.specs.declared.expr.Target.{Target}
+use Rattle.rp_tree.specs.declared.expr.Trailer.{Trailer}
+use Rattle.rp_tree.specs.declared.parts.Test.{Test}
 use Rattle.rp_tree.specs.declared.stmt.Branch.{Branch}
 use Rattle.rp_tree.specs.declared.stmt.Stmt.{Stmt}
 use Rattle.rp_tree.specs.declared.stmt.StmtForm.{StmtForm}
-use Rattle.rp_tree.specs.ExpressionViews.{view_expr, view_form, view_place}
+use Rattle.rp_tree.specs.ExpressionViews.{view_arg, view_expr, view_form, view_place, view_target, view_trailer}
 use Rattle.rp_tree.specs.StatementViews.{view_branch, view_stmt, view_stmt_form}
+use Rattle.rp_meaning.specs.Calls.{Argument}
 use Rattle.rp_meaning.specs.Frame.{Meaning, Doing}
 use Rattle.rp_meaning.specs.Meaning as m
 use Rattle.rp_meaning.specs.Statements as d
@@ -24,6 +30,9 @@ form x = m.eval_form (view_form x)
 unfoldable pub place : Place → Store
 place x = m.place (view_place x)
 
+unfoldable pub target : Target → Store
+target x = m.target (view_target x)
+
 unfoldable pub stmt : Stmt → Doing
 stmt x = m.exec (view_stmt x)
 
@@ -32,6 +41,9 @@ stmt_form x = m.exec_form (view_stmt_form x)
 
 unfoldable pub delete : Place → Doing
 delete x = m.delete (view_place x)
+
+unfoldable pub augment : Place → BinOp → Meaning → Doing
+augment x op value = m.augment (view_place x) op value
 
 -- a branch of `if`: its test and its block
 unfoldable pub branch : Branch → Meaning × Doing
@@ -61,3 +73,30 @@ branches bs = map branch bs
 -- a block
 abbrev pub block : List Stmt → Doing
 block xs = d.block (map stmt xs)
+
+-- operands, and the tests of a comparison
+
+abbrev pub exprs : List Expr → List Meaning
+exprs xs = map expr xs
+
+abbrev pub test : Test × Expr → Test × Meaning
+test p = (p.0, expr p.1)
+
+abbrev pub tests : List (Test × Expr) → List (Test × Meaning)
+tests ps = map test ps
+
+-- what trails a primary
+
+unfoldable pub trailer : Trailer → Value → Meaning
+trailer x = m.trailer (view_trailer x)
+
+abbrev pub trailers : List Trailer → List (Value → Meaning)
+trailers ts = map trailer ts
+
+-- the arguments of a call
+
+unfoldable pub arg : Arg → Argument
+arg x = m.arg (view_arg x)
+
+abbrev pub args : List Arg → List Argument
+args xs = map arg xs

@@ -1,16 +1,13 @@
 -- What expressions still do once the value of a part is known, as the code has a function for it; each is a part of a form of rp_meaning.
 use Rattle.std.specs.Prelude.{Bool, true, false}
 use Rattle.rp_base.specs.declared.operator.BinOp.TheVariants.{Pow}
-use Rattle.rp_base.specs.declared.operator.UnOp.{UnOp}
 use Rattle.rp_base.specs.declared.value.Value.{Value}
 use Rattle.rp_meaning.specs.Expressions as e
 use Rattle.rp_meaning.specs.Frame.{Meaning}
-use Rattle.rp_meaning.specs.Operators.{operate, unary_name}
-use Rattle.rp_meaning.specs.State.{State, Outcome, choose, heap_of, stepped}
+use Rattle.rp_meaning.specs.Operators.{operate}
+use Rattle.rp_meaning.specs.State.{choose, stepped}
 use Rattle.rp_meaning.specs.Walks.{on_truth}
-use Rattle.rp_ops.specs.Binary as binary
-use Rattle.rp_ops.specs.Outcome.{gives, on_found, on_value}
-use Rattle.rp_step.specs.Parts.{asking}
+use Rattle.rp_ops.specs.Outcome.{gives, on_value}
 
 -- a part, and what its value is put to
 abbrev pub put_to : Meaning → (Value → Meaning) → Meaning
@@ -35,7 +32,3 @@ either a b v frame s = on_truth v frame s (a frame) (b frame)
 -- a base with the exponent behind it
 abbrev pub to_power : Meaning → Value → Meaning
 to_power x a = put_to x (operate Pow a)
-
--- a unary operator behind its decision
-abbrev pub unary_asked : UnOp → Value → State → Outcome Value
-unary_asked op a s = on_value (asking (unary_name op) a s) (λ _ s. on_found (binary.int_value (binary.unary (heap_of s) op a)) s gives)

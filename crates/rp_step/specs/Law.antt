@@ -8,7 +8,8 @@ use Rattle.rp_ops.specs.Outcome.{gives}
 use Rattle.rp_meaning.specs.Frame.{Frame, Meaning, Doing, Run}
 use Rattle.rp_meaning.specs.State.{State}
 use Rattle.rp_proxy.specs.declared.world.World.{World}
-use Rattle.rp_step.specs.Moment.{frame_of, run_of, state_of}
+use Rattle.rp_step.specs.Moment.{frame_of, run_of}
+use Rattle.rp_access.specs.Moment.{state_of}
 use Rattle.rp_step.specs.Rest.{Held, gave, did, rest, begun, after, after_expr, after_stmt}
 use Rattle.rp_step.specs.declared.machine.Machine.{Machine}
 

@@ -1,9 +1,11 @@
 -- How the code tells that a block was left, and how many values a task has at hand.
-use Rattle.std.specs.Prelude.{ℕ, Result, Ok, Err}
+use Rattle.std.specs.Prelude.{ℕ, suc, Result, Ok, Err}
 use Rattle.rp_base.specs.declared.value.OpEnd.{OpEnd}
 use Rattle.rp_frame.specs.declared.task.ExprTask.{ExprTask}
 use Rattle.rp_frame.specs.declared.task.ExprTask.TheVariants as expr
 use Rattle.rp_frame.specs.declared.task.FlowTask.TheVariants as flow
+use Rattle.rp_frame.specs.declared.task.StmtTask.{StmtTask}
+use Rattle.rp_frame.specs.declared.task.StmtTask.TheVariants as stmt
 use Rattle.rp_frame.specs.declared.task.Task.{Task}
 use Rattle.rp_frame.specs.declared.task.Task.TheVariants as task
 use Rattle.rp_meaning.specs.State as meant
@@ -24,9 +26,23 @@ flows (Err e) = Err e
 abbrev pub at_hand : ExprTask → ℕ
 at_hand (expr.Operand op os) = 1
 at_hand expr.Exponent = 1
+at_hand (expr.Test t ts) = 1
+at_hand (expr.Key ts) = 1
+at_hand (expr.Items d n es) = n
+at_hand (expr.Argument n as' ts) = suc n
 at_hand _ = 0
+
+-- those that a statement waits with for the value of an expression
+abbrev pub stmt_with : StmtTask → ℕ
+stmt_with (stmt.StoreAttr n) = 1
+stmt_with (stmt.StoreItem k) = 1
+stmt_with stmt.StoreKey = 2
+stmt_with stmt.DeleteKey = 1
+stmt_with (stmt.AugmentName n op) = 1
+stmt_with _ = 0
 
 -- and what waits for the end of a statement
 abbrev pub flow_with : Task → ℕ
 flow_with (task.Flow (flow.Store ps)) = 1
+flow_with (task.Flow (flow.For n p e)) = 1
 flow_with _ = 0

@@ -1,34 +1,18 @@
--- The state for which a world stands, and what its code sees that stays the same in a run.
+-- What the code of a machine sees that stays the same in a run.
 use Rattle.std.specs.Prelude.{◌-◌, nat_eq, if◌then◌else◌, List, None, slice_get}
 use Rattle.std.specs.Option.{option_map_or}
 use Rattle.rp_base.specs.declared.value.Side.{Side}
-use Rattle.rp_decl.specs.View.{declarations_view}
 use Rattle.rp_frame.specs.declared.activation.Activation.{Activation}
 use Rattle.rp_meaning.specs.Frame.{Frame, Program, Run, program_of}
 use Rattle.rp_meaning.specs.Running.{calls_within}
 use Rattle.rp_meaning.specs.Scopes as scopes
-use Rattle.rp_meaning.specs.State.{State}
-use Rattle.rp_ops.specs.Outcome as plain
-use Rattle.rp_proxy.specs.Decide.{decide}
-use Rattle.rp_proxy.specs.declared.world.World.{World}
 use Rattle.rp_scope.specs.Scopes.{Scope, found_from, locals_of}
 use Rattle.rp_scope.specs.declared.place.Place2.{Place2}
 use Rattle.rp_scope.specs.declared.place.Place2.TheVariants as place
+use Rattle.rp_access.specs.Moment.{decided_run}
 use Rattle.rp_step.specs.declared.units.Program.{Program as CodeProgram}
 use Rattle.rp_step.specs.declared.units.Units.{Units}
 use Rattle.rp_tree.specs.StatementViews.{view_tree}
-use Rattle.rp_trail.specs.View.{trail_view}
-
-abbrev pub state_of : World → State
-state_of w = record {
-  plain = plain.state_of w.store w.running.meter.left;
-  log = trail_view w.names w.decl.permissions w.trail;
-  session = w.running.session;
-  who = w.running.interaction.ids;
-  printed = w.running.printed;
-  names = w.names;
-  declarations = declarations_view w.names w.decl;
-}
 
 abbrev pub place_view : Place2 → scopes.Place
 place_view (place.Local i) = scopes.local i
@@ -45,9 +29,9 @@ program_view u = program_of (view_tree u.tree) (layouts_view u.layouts)
 abbrev pub program_at : Units → Side → CodeProgram
 program_at units side = if nat_eq side.0 0 then units.module else option_map_or (λ u. u) (slice_get units.scripts.items (side.0 - 1)) units.module
 
--- a run of these units, whose operations are decided
+-- a run of these units, whose operations are decided, with the built-in functions and methods
 abbrev pub run_of : Run → Units → Run
-run_of base units = record base { programs = λ side. program_view (program_at units side); decide = decide }
+run_of base units = record (decided_run base) { programs = λ side. program_view (program_at units side) }
 
 abbrev pub frame_of : Run → Activation → Frame
 frame_of run a = record {

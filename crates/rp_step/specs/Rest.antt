@@ -1,5 +1,5 @@
 -- What a machine still has to do.
-use Rattle.std.specs.Prelude.{ℕ, true, false, List, [], ◌∷◌, Option}
+use Rattle.std.specs.Prelude.{ℕ, suc, true, false, List, [], ◌∷◌, ◌++◌, drop, take, reverse, Option}
 use Rattle.rp_base.specs.declared.operator.BinOp.{BinOp}
 use Rattle.rp_base.specs.declared.operator.BinOp.TheVariants.{Pow}
 use Rattle.rp_base.specs.declared.kind.Kind.TheVariants.{AssertionError}
@@ -17,6 +17,7 @@ use Rattle.rp_frame.specs.declared.task.StmtTask.{StmtTask}
 use Rattle.rp_frame.specs.declared.task.StmtTask.TheVariants as stmt
 use Rattle.rp_frame.specs.declared.task.Task.{Task}
 use Rattle.rp_frame.specs.declared.task.Task.TheVariants as task
+use Rattle.rp_meaning.specs.Access as access
 use Rattle.rp_meaning.specs.Expressions as e
 use Rattle.rp_meaning.specs.Frame.{Frame, Meaning, Doing, asked_for}
 use Rattle.rp_meaning.specs.Operators.{operate, operate_unary}
@@ -25,8 +26,16 @@ use Rattle.rp_meaning.specs.Statements as d
 use Rattle.rp_meaning.specs.Walks.{on_truth, on_turn, turns}
 use Rattle.rp_ops.specs.Outcome.{gives, ends, raises, on_value}
 use Rattle.rp_show.specs.Show.{show}
-use Rattle.rp_step.specs.Comes.{end_of}
+use Rattle.rp_step.specs.ArgumentSteps.{with_arguments}
+use Rattle.rp_step.specs.Augments.{name_augmented}
+use Rattle.rp_step.specs.Ends.{end_of}
+use Rattle.rp_step.specs.ComparisonSteps.{with_test}
+use Rattle.rp_step.specs.DisplaySteps.{elements}
 use Rattle.rp_step.specs.Does as does
+use Rattle.rp_step.specs.JoinSteps.{later}
+use Rattle.rp_step.specs.TrailerSteps.{with_item}
+use Rattle.rp_step.specs.Loops.{over, walked}
+use Rattle.rp_access.specs.Spots.{cursor_at}
 
 -- how a part ends, in a frame with values at hand
 pub data Held : Type 0 where
@@ -68,6 +77,15 @@ after_expr (expr.Cond a b) f vs o = gave f vs (on_value o (λ v s. on_truth v f 
 after_expr (expr.Unary op) f vs o = gave f vs (on_value o (λ a s. operate_unary op a f s))
 after_expr (expr.Power x) f vs o = gave f vs (on_value o (λ a s. on_value (does.expr x.now f s) (λ b s. operate Pow a b f s)))
 after_expr expr.Exponent f vs o = gave f (below vs) (on_value o (λ b s. operate Pow (top vs) b f s))
+after_expr (expr.Tests ts) f vs o = gave f vs (on_value o (λ a s. e.tests (does.tests ts.now) a f s))
+after_expr (expr.Test t ts) f vs o = gave f (below vs) (on_value o (λ b s. with_test t (top vs) (does.tests ts.now) b f s))
+after_expr (expr.Joined all es) f vs o = gave f vs (on_value o (λ v s. later all (does.exprs es.now) v f s))
+after_expr (expr.Trailers ts) f vs o = gave f vs (on_value o (λ v s. e.trailers (does.trailers ts.now) v f s))
+after_expr (expr.Key ts) f vs o = gave f (below vs) (on_value o (λ i s. with_item (top vs) (does.trailers ts.now) i f s))
+after_expr (expr.Items d n es) f vs o =
+    gave f (drop n vs) (on_value o (λ v s. elements d (does.exprs es.now) (reverse (take n vs) ++ v ∷ []) f s))
+after_expr (expr.Argument n as' ts) f vs o = gave f (drop (suc n) vs)
+    (on_value o (λ v s. with_arguments (does.args as'.now) (does.trailers ts.now) (top (drop n vs)) (reverse (take n vs) ++ v ∷ []) f s))
 
 abbrev pub after_stmt : StmtTask → Frame → List Value → Outcome Value → Held
 after_stmt stmt.Evaluate f vs o = did f vs (on_value o (λ v s. done s))
@@ -77,6 +95,15 @@ after_stmt (stmt.Branch b bs x) f vs o =
 after_stmt (stmt.Test b) f vs o = did f vs (on_value o (λ v s. tested_turn v (does.block b.now) f s))
 after_stmt (stmt.Assert m) f vs o = did f vs (on_value o (λ v s. asserted v (does.maybe m.now) f s))
 after_stmt stmt.Fail f vs o = did f vs (on_value o (λ v s. failed_with v f s))
+after_stmt (stmt.StoreAttr n) f vs o = did f (below vs) (on_value o (λ a s. access.set_attribute a n (top vs) f s))
+after_stmt (stmt.StoreItem k) f vs o =
+    did f (below vs) (on_value o (λ a s. on_value (does.expr k.now f s) (λ i s. access.set_item a i (top vs) f s)))
+after_stmt stmt.StoreKey f vs o = did f (below (below vs)) (on_value o (λ i s. access.set_item (top vs) i (top (below vs)) f s))
+after_stmt (stmt.DeleteAttr n) f vs o = did f vs (on_value o (λ a s. access.del_attribute a n f s))
+after_stmt (stmt.DeleteItem k) f vs o = did f vs (on_value o (λ a s. on_value (does.expr k.now f s) (λ i s. access.del_item a i f s)))
+after_stmt stmt.DeleteKey f vs o = did f (below vs) (on_value o (λ i s. access.del_item (top vs) i f s))
+after_stmt (stmt.AugmentName n op) f vs o = did f (below vs) (on_value o (λ b s. name_augmented n op (top vs) b f s))
+after_stmt (stmt.For e) f vs o = did f vs (on_value o (λ v s. over (does.target e.target.now) (does.block e.body.now) v f s))
 
 -- the turns that a loop may still make
 abbrev pub loop : ℕ → Meaning → Doing → Doing
@@ -87,6 +114,7 @@ after_flow (flow.Block xs) f vs o = did f vs (on_next o (does.block xs.now f))
 after_flow (flow.While n x b) f vs o = did f vs (on_turn o (loop n (does.expr x.now) (does.block b.now) f))
 after_flow (flow.Store ps) f vs o = did f (below vs) (on_next o (d.store_all (does.places ps.now) (top vs) f))
 after_flow (flow.Delete ps) f vs o = did f vs (on_next o (does.deletes ps.now f))
+after_flow (flow.For n p e) f vs o = did f (below vs) (on_turn o (walked n (does.target e.target.now) (does.block e.body.now) (cursor_at (top vs) p) f))
 
 abbrev pub after : Task → Held → Held
 after (task.Expr t) (gave f vs o) = after_expr t f vs o

@@ -2,31 +2,23 @@
 #![tactic(auto, using(rp_store::proofs::Shapes::goes_on))]
 
 ghost use Rattle.std.specs.Prelude.{OnOk};
-ghost use Rattle.rp_meaning.specs.State.{plainly};
 ghost use Rattle.rp_meaning.specs.Statements as d;
-ghost use Rattle.rp_show.specs.Show.{show};
-ghost use Rattle.rp_proxy.specs.Faithful.{IsFaithful};
 ghost use Rattle.rp_proxy.specs.declared.world.World.{World as TheWorld};
-ghost use Rattle.rp_store.specs.Kept.{IsFit, IsSound};
+ghost use Rattle.rp_store.specs.Kept.{IsFit};
 ghost use Rattle.rp_store.specs.Shape.{KeepsShape};
-ghost use Rattle.rp_step.specs.Comes.{Comes};
 ghost use Rattle.rp_step.specs.Does as does;
 ghost use Rattle.rp_step.specs.Law.{Executes};
-ghost use Rattle.rp_step.specs.Moment.{state_of};
-ghost use Rattle.rp_step.specs.Parts.{shown};
 ghost use Rattle.rp_step.specs.Ready.{IsReady};
 ghost use Rattle.rp_step.specs.Rest.{asserted, failed_with};
 
-use crate::deciding::{ask, truth};
 use crate::halt::Halt;
 use crate::machine::Machine;
-use rp_base::word::STR;
-use rp_base::{Kind, OpEnd, Raised, Text, Value};
+use rp_access::{text_of, truth};
+use rp_base::{Kind, OpEnd, Raised, Value};
 use rp_frame::{Control, StmtTask, Task};
 use rp_ops::raised;
 use rp_proxy::World;
 use rp_tree::Expr;
-use std::alloc::Global;
 
 impl<'u> Machine<'u> {
     /// Goes on by the test.
@@ -42,6 +34,7 @@ impl<'u> Machine<'u> {
         ensures law { OnOk result (Executes (asserted value (does.maybe message.now))
             self.old world.old self.new world.new) }
         ensures ready { IsReady self.new.units.now self.new.frame self.new.values world.new }
+        ensures shape { KeepsShape world.old.store.heap world.new.store.heap }
     {
         match truth(self.alloc, world, &value) {
             Ok(true) => self.go(Control::Next),
@@ -71,6 +64,7 @@ impl<'u> Machine<'u> {
         requires value { IsFit world.old.store.heap self.old.frame.side message }
         ensures law { OnOk result (Executes (failed_with message) self.old world.old self.new world.new) }
         ensures ready { IsReady self.new.units.now self.new.frame self.new.values world.new }
+        ensures shape { KeepsShape world.old.store.heap world.new.store.heap }
     {
         match text_of(self.alloc, world, &message) {
             Ok(text) => self.cut_off(OpEnd::Raised(Raised {
@@ -80,37 +74,4 @@ impl<'u> Machine<'u> {
             Err(end) => self.cut_off(end),
         }
     }
-}
-
-/// The text of a value, once that is decided.
-///
-/// # Errors
-/// As `cross` and `show`.
-fn text_of(alloc: Global, world: &mut World, value: &Value) -> Result<Text, OpEnd>
-    requires faithful { IsFaithful world.old }
-    requires sound { IsSound world.old.store.heap value.now }
-    ensures law { Comes result (state_of world.new) (shown value.now (state_of world.old)) }
-    ensures faithful { IsFaithful world.new }
-    ensures shape { KeepsShape world.old.store.heap world.new.store.heap }
-{
-    ask(alloc, world, value, STR)?;
-    show(alloc, world, value)
-}
-
-/// The plain text of a value.
-#[inline(always)]
-fn show(alloc: Global, world: &mut World, value: &Value) -> Result<Text, OpEnd>
-    requires faithful { IsFaithful world.old }
-    ensures law { Comes result (state_of world.new)
-        (plainly (show world.old.names value.now) (state_of world.old)) }
-    ensures faithful { IsFaithful world.new }
-    ensures shape { KeepsShape world.old.store.heap world.new.store.heap }
-{
-    rp_show::show(
-        alloc,
-        &mut world.store,
-        &mut world.running.meter,
-        &world.names,
-        value,
-    )
 }

@@ -5,6 +5,7 @@ ghost use Rattle.std.specs.Prelude.{OnOk};
 ghost use Rattle.rp_meaning.specs.Expressions as e;
 ghost use Rattle.rp_proxy.specs.declared.world.World.{World as TheWorld};
 ghost use Rattle.rp_store.specs.Kept.{IsFit};
+ghost use Rattle.rp_store.specs.Shape.{KeepsShape};
 ghost use Rattle.rp_step.specs.Does as does;
 ghost use Rattle.rp_step.specs.Law.{Evaluates, Resumes};
 ghost use Rattle.rp_step.specs.Ready.{IsReady};
@@ -12,7 +13,7 @@ ghost use Rattle.rp_step.specs.Rest.{next_operand, with_operands};
 
 use crate::halt::Halt;
 use crate::machine::Machine;
-use crate::operating::operate;
+use rp_access::operate;
 use rp_base::{BinOp, Value};
 use rp_frame::{Control, ExprTask, Task};
 use rp_proxy::World;
@@ -34,6 +35,7 @@ impl<'u> Machine<'u> {
         ensures law { OnOk result (Evaluates (e.chain (does.expr first.now) (does.ops rest.now))
             self.old world.old self.new world.new) }
         ensures ready { IsReady self.new.units.now self.new.frame self.new.values world.new }
+        ensures shape { KeepsShape world.old.store.heap world.new.store.heap }
     {
         match self.leaf(world, first) {
             Ok(Some(a)) => self.operands(world, a, rest),
@@ -57,6 +59,7 @@ impl<'u> Machine<'u> {
         requires a { IsFit world.old.store.heap self.old.frame.side a }
         ensures law { OnOk result (Evaluates (e.operands (does.ops rest.now) a) self.old world.old self.new world.new) }
         ensures ready { IsReady self.new.units.now self.new.frame self.new.values world.new }
+        ensures shape { KeepsShape world.old.store.heap world.new.store.heap }
     {
         match rest {
             [] => self.back(a),
@@ -79,6 +82,7 @@ impl<'u> Machine<'u> {
         ensures law { OnOk result (Evaluates (next_operand op (does.expr x.now) (does.ops rest.now) a)
             self.old world.old self.new world.new) }
         ensures ready { IsReady self.new.units.now self.new.frame self.new.values world.new }
+        ensures shape { KeepsShape world.old.store.heap world.new.store.heap }
     {
         match self.next_leaf(world, x) {
             Ok(Some(b)) => self.operated(world, op, a, b, rest),
@@ -107,6 +111,7 @@ impl<'u> Machine<'u> {
         ensures law { OnOk result (Evaluates (with_operands op a b (does.ops rest.now))
             self.old world.old self.new world.new) }
         ensures ready { IsReady self.new.units.now self.new.frame self.new.values world.new }
+        ensures shape { KeepsShape world.old.store.heap world.new.store.heap }
     {
         match operate(self.alloc, world, self.frame.side, op, &a, &b) {
             Ok(value) => self.more_operands(value, rest),
@@ -142,6 +147,7 @@ impl<'u> Machine<'u> {
         requires b { IsFit world.old.store.heap self.old.frame.side b }
         ensures law { OnOk result (Resumes (ExprTask.Operand op rest.entry) b self.old world.old self.new world.new) }
         ensures ready { IsReady self.new.units.now self.new.frame self.new.values world.new }
+        ensures shape { KeepsShape world.old.store.heap world.new.store.heap }
     {
         let a = self.at_hand();
         self.operated(world, op, a, b, rest)

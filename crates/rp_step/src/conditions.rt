@@ -6,14 +6,15 @@ ghost use Rattle.std.specs.Prelude.{OnOk};
 ghost use Rattle.rp_meaning.specs.Expressions as e;
 ghost use Rattle.rp_proxy.specs.declared.world.World.{World as TheWorld};
 ghost use Rattle.rp_store.specs.Kept.{IsFit};
+ghost use Rattle.rp_store.specs.Shape.{KeepsShape};
 ghost use Rattle.rp_step.specs.Does as does;
 ghost use Rattle.rp_step.specs.ExpressionSteps.{either, not_of, one_of};
 ghost use Rattle.rp_step.specs.Law.{Evaluates};
 ghost use Rattle.rp_step.specs.Ready.{IsReady};
 
-use crate::deciding::truth;
 use crate::halt::Halt;
 use crate::machine::Machine;
+use rp_access::truth;
 use rp_base::{Rock, Value};
 use rp_frame::{Control, ExprTask, Task};
 use rp_proxy::World;
@@ -29,6 +30,7 @@ impl<'u> Machine<'u> {
         requires ready { IsReady self.old.units.now self.old.frame self.old.values world.old }
         ensures law { OnOk result (Evaluates (e.negated (does.expr x.now)) self.old world.old self.new world.new) }
         ensures ready { IsReady self.new.units.now self.new.frame self.new.values world.new }
+        ensures shape { KeepsShape world.old.store.heap world.new.store.heap }
     {
         match self.next_leaf(world, x) {
             Ok(Some(value)) => self.not_of(world, value),
@@ -44,6 +46,7 @@ impl<'u> Machine<'u> {
         requires value { IsFit world.old.store.heap self.old.frame.side value }
         ensures law { OnOk result (Evaluates (not_of value) self.old world.old self.new world.new) }
         ensures ready { IsReady self.new.units.now self.new.frame self.new.values world.new }
+        ensures shape { KeepsShape world.old.store.heap world.new.store.heap }
     {
         match truth(self.alloc, world, &value) {
             Ok(truth) => self.back(Value::Rock(Rock::Truth(!truth))),
@@ -64,6 +67,7 @@ impl<'u> Machine<'u> {
         ensures law { OnOk result (Evaluates (e.cond (does.expr test.now) (does.expr this.now) (does.expr other.now))
             self.old world.old self.new world.new) }
         ensures ready { IsReady self.new.units.now self.new.frame self.new.values world.new }
+        ensures shape { KeepsShape world.old.store.heap world.new.store.heap }
     {
         match self.next_leaf(world, test) {
             Ok(Some(value)) => self.either(world, value, this, other),
@@ -89,6 +93,7 @@ impl<'u> Machine<'u> {
         ensures law { OnOk result (Evaluates (either (does.expr this.now) (does.expr other.now) value)
             self.old world.old self.new world.new) }
         ensures ready { IsReady self.new.units.now self.new.frame self.new.values world.new }
+        ensures shape { KeepsShape world.old.store.heap world.new.store.heap }
     {
         match truth(self.alloc, world, &value) {
             Ok(truth) => self.one_of(truth, this, other),

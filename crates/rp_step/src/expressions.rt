@@ -7,7 +7,8 @@ ghost use Rattle.rp_meaning.specs.Frame.{Run};
 ghost use Rattle.rp_meaning.specs.State.{Outcome, State};
 ghost use Rattle.rp_proxy.specs.declared.world.World.{World as TheWorld};
 ghost use Rattle.rp_store.specs.Kept.{IsFit};
-ghost use Rattle.rp_step.specs.Comes.{Comes};
+ghost use Rattle.rp_store.specs.Shape.{KeepsShape};
+ghost use Rattle.rp_access.specs.Comes.{Comes};
 ghost use Rattle.rp_step.specs.Does as does;
 ghost use Rattle.rp_step.specs.Law.{Evaluates, Resumes, frame_in, rest_of};
 ghost use Rattle.rp_step.specs.Ready.{IsReady};
@@ -21,17 +22,19 @@ use rp_proxy::World;
 use rp_tree::{Expr, ExprForm};
 
 impl<'u> Machine<'u> {
-    /// Begins an expression. Names, literals, chains of operators, powers, unary operators,
-    /// `not` and conditional expressions run.
+    /// Begins an expression. Names, literals, chains of operators, powers, unary operators, `not`, conditional
+    /// expressions, comparisons, `and`, `or`, reads of attributes and items, displays of lists and tuples, and calls of
+    /// built-in functions and methods run.
     ///
     /// # Errors
     /// `Memory` where a growth was refused, `NotBuilt` where the form is none that runs, as all that follow.
     #[inline(never)]
-    #[tactic(auto, using(crate::proofs::Equations::expr_out))]
+    #[tactic(auto, using(rp_store::proofs::Shapes::goes_on, crate::proofs::Equations::expr_out))]
     pub fn expression(&mut self, world: &mut World, x: &'u Expr) -> Result<(), Halt>
         requires ready { IsReady self.old.units.now self.old.frame self.old.values world.old }
         ensures law { OnOk result (Evaluates (does.expr x.now) self.old world.old self.new world.new) }
         ensures ready { IsReady self.new.units.now self.new.frame self.new.values world.new }
+        ensures shape { KeepsShape world.old.store.heap world.new.store.heap }
     {
         self.form(world, &x.form)
     }
@@ -42,6 +45,7 @@ impl<'u> Machine<'u> {
         requires ready { IsReady self.old.units.now self.old.frame self.old.values world.old }
         ensures law { OnOk result (Evaluates (does.form form.now) self.old world.old self.new world.new) }
         ensures ready { IsReady self.new.units.now self.new.frame self.new.values world.new }
+        ensures shape { KeepsShape world.old.store.heap world.new.store.heap }
     {
         match self.leaf_form(world, form) {
             Ok(Some(value)) => self.back(value),
@@ -56,6 +60,7 @@ impl<'u> Machine<'u> {
         requires ready { IsReady self.old.units.now self.old.frame self.old.values world.old }
         ensures law { OnOk result (Evaluates (does.form form.now) self.old world.old self.new world.new) }
         ensures ready { IsReady self.new.units.now self.new.frame self.new.values world.new }
+        ensures shape { KeepsShape world.old.store.heap world.new.store.heap }
     {
         match form {
             ExprForm::Chain(first, rest) => self.chain(world, first, rest),
@@ -63,7 +68,7 @@ impl<'u> Machine<'u> {
             ExprForm::Not(x) => self.negation(world, x),
             ExprForm::Unary(op, x) => self.unary(world, *op, x),
             ExprForm::Power(base, exponent) => self.power(world, base, exponent),
-            _ => Err(Halt::NotBuilt),
+            _ => self.other_form(world, form),
         }
     }
 
@@ -94,6 +99,7 @@ impl<'u> Machine<'u> {
         requires value { IsFit world.old.store.heap self.old.frame.side value }
         ensures law { OnOk result (Resumes task.entry value self.old world.old self.new world.new) }
         ensures ready { IsReady self.new.units.now self.new.frame self.new.values world.new }
+        ensures shape { KeepsShape world.old.store.heap world.new.store.heap }
     {
         match task {
             ExprTask::Operands(rest) => self.operands(world, value, rest),
@@ -103,6 +109,17 @@ impl<'u> Machine<'u> {
             ExprTask::Unary(op) => self.unary_of(world, op, value),
             ExprTask::Power(exponent) => self.to_power(world, value, exponent),
             ExprTask::Exponent => self.after_exponent(world, value),
+            ExprTask::Tests(rest) => self.tests(world, value, rest),
+            ExprTask::Test(test, rest) => self.after_test(world, test, value, rest),
+            ExprTask::Joined(all, rest) => self.later(world, all, value, rest),
+            ExprTask::Trailers(rest) => self.trailers(world, value, rest),
+            ExprTask::Key(rest) => self.after_key(world, value, rest),
+            ExprTask::Items(kind, count, rest) => {
+                self.after_item(world, kind, count, value, rest)
+            }
+            ExprTask::Argument(count, args, rest) => {
+                self.after_argument(world, count, value, args, rest)
+            }
         }
     }
 }

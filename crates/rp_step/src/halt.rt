@@ -7,8 +7,8 @@ use rp_base::Memory;
 pub enum Halt {
     /// A growth was refused.
     Memory,
-    /// The code comes to a form, a place or a name that this machine does not run yet: it says nothing of what that
-    /// means. `Machine::expression`, `Machine::statement` and the functions of places name those that run.
+    /// The code comes to a form, a call or a special method that this machine does not run yet: it says nothing of what
+    /// that means. `Machine::expression` and `Machine::statement` name the forms that run.
     NotBuilt,
     /// The machine has made 2^64 - 1 steps.
     TooLong,

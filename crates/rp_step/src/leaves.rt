@@ -1,23 +1,25 @@
 //! Leaves: expressions that are evaluated where they are needed.
+#![tactic(auto, using(rp_store::proofs::Shapes::goes_on, crate::proofs::Worlds::shape_stored))]
 
 ghost use Rattle.std.specs.Prelude.{◌≡◌, ◌≢◌, Some, None, Ok, IfOk, IfSome};
 ghost use Rattle.rp_meaning.specs.State.{stepped};
 ghost use Rattle.rp_ops.specs.Outcome.{gives};
-ghost use Rattle.rp_step.specs.Parts.{step_end};
+ghost use Rattle.rp_access.specs.Parts.{step_end};
 ghost use Rattle.rp_meaning.specs.Expressions as e;
 ghost use Rattle.rp_meaning.specs.Frame.{Frame, Run};
 ghost use Rattle.rp_meaning.specs.Meaning.{constant};
 ghost use Rattle.rp_proxy.specs.Faithful.{IsFaithful};
 ghost use Rattle.rp_store.specs.Kept.{IsFit};
-ghost use Rattle.rp_step.specs.Comes.{Comes, ComesIfAny};
+ghost use Rattle.rp_store.specs.Shape.{KeepsShape};
+ghost use Rattle.rp_access.specs.Comes.{Comes, ComesIfAny};
 ghost use Rattle.rp_step.specs.Does as does;
 ghost use Rattle.rp_step.specs.Law.{frame_in};
-ghost use Rattle.rp_step.specs.Moment.{state_of};
+ghost use Rattle.rp_access.specs.Moment.{state_of};
 ghost use Rattle.rp_step.specs.Ready.{IsReady};
 
 use crate::machine::Machine;
-use crate::stepping::take_step;
-use rp_base::{Name, OpEnd, Rock, Text, Value};
+use rp_access::take_step;
+use rp_base::{Name, OpEnd, Rock, Value};
 use rp_proxy::World;
 use rp_tree::{Const, Expr, ExprForm};
 
@@ -27,7 +29,7 @@ impl<'u> Machine<'u> {
     /// # Errors
     /// `StopSteps` where no step is left, and as `read`.
     #[inline(always)]
-    #[tactic(auto, using(crate::proofs::Equations::expr_out))]
+    #[tactic(auto, using(crate::proofs::Equations::expr_out, crate::proofs::Worlds::shape_stored))]
     pub fn leaf(&self, world: &mut World, x: &Expr) -> Result<Option<Value>, OpEnd>
         requires ready { IsReady self.now.units.now self.now.frame self.now.values world.old }
         ensures law { (base : Run) → ComesIfAny result (state_of world.new)
@@ -36,6 +38,7 @@ impl<'u> Machine<'u> {
         ensures faithful { IsFaithful world.new }
         ensures store { world.new.store ≡ world.old.store }
         ensures ready { IsReady self.now.units.now self.now.frame self.now.values world.new }
+        ensures shape { KeepsShape world.old.store.heap world.new.store.heap }
         ensures fit { IfOk result (λ v. IfSome v (IsFit world.new.store.heap self.now.frame.side)) }
     {
         self.leaf_form(world, &x.form)
@@ -43,7 +46,7 @@ impl<'u> Machine<'u> {
 
     /// The same, of its form.
     #[inline(always)]
-    #[tactic(auto, using(crate::proofs::Equations::leaves))]
+    #[tactic(auto, using(crate::proofs::Equations::leaves, crate::proofs::Worlds::shape_stored))]
     pub fn leaf_form(&self, world: &mut World, form: &ExprForm) -> Result<Option<Value>, OpEnd>
         requires ready { IsReady self.now.units.now self.now.frame self.now.values world.old }
         ensures law { (base : Run) → ComesIfAny result (state_of world.new)
@@ -51,12 +54,16 @@ impl<'u> Machine<'u> {
         ensures none { result ≡ Ok None → world.new ≡ world.old }
         ensures faithful { IsFaithful world.new }
         ensures store { world.new.store ≡ world.old.store }
+        ensures shape { KeepsShape world.old.store.heap world.new.store.heap }
         ensures fit { IfOk result (λ v. IfSome v (IsFit world.new.store.heap self.now.frame.side)) }
     {
         match form {
             ExprForm::Name(name) => self.known_name(world, *name),
-            ExprForm::Int(number) => Ok(Some(int_literal(world, number)?)),
-            ExprForm::Text(text) => Ok(Some(text_literal(world, text)?)),
+            ExprForm::Int(number) => Ok(Some(literal(world, int_value(number))?)),
+            ExprForm::Text(text) => {
+                let text = text.copy()?;
+                Ok(Some(literal(world, Value::Rock(Rock::Text(text)))?))
+            }
             ExprForm::Const(keyword) => Ok(Some(literal(world, value_of(*keyword))?)),
             _ => Ok(None),
         }
@@ -76,6 +83,7 @@ impl<'u> Machine<'u> {
         ensures faithful { IsFaithful world.new }
         ensures store { world.new.store ≡ world.old.store }
         ensures ready { IsReady self.now.units.now self.now.frame self.now.values world.new }
+        ensures shape { KeepsShape world.old.store.heap world.new.store.heap }
         ensures fit { IfOk result (λ v. IfSome v (IsFit world.new.store.heap self.now.frame.side)) }
     {
         take_step(world)?;
@@ -91,6 +99,7 @@ impl<'u> Machine<'u> {
         ensures some { result ≢ Ok None }
         ensures faithful { IsFaithful world.new }
         ensures store { world.new.store ≡ world.old.store }
+        ensures shape { KeepsShape world.old.store.heap world.new.store.heap }
         ensures fit { IfOk result (λ v. IfSome v (IsFit world.new.store.heap self.now.frame.side)) }
     {
         Ok(Some(self.name(world, name)?))
@@ -104,6 +113,7 @@ impl<'u> Machine<'u> {
             (e.name name (frame_in base self.now) (state_of world.old)) }
         ensures faithful { IsFaithful world.new }
         ensures store { world.new.store ≡ world.old.store }
+        ensures shape { KeepsShape world.old.store.heap world.new.store.heap }
         ensures fit { IfOk result (IsFit world.new.store.heap self.now.frame.side) }
     {
         take_step(world)?;
@@ -118,38 +128,11 @@ fn literal(world: &mut World, value: Value) -> Result<Value, OpEnd>
     ensures law { (frame : Frame) → Comes result (state_of world.new) (e.constant value frame (state_of world.old)) }
     ensures faithful { IsFaithful world.new }
     ensures store { world.new.store ≡ world.old.store }
+    ensures shape { KeepsShape world.old.store.heap world.new.store.heap }
     ensures same { IfOk result (λ v. v ≡ value) }
 {
     take_step(world)?;
     Ok(value)
-}
-
-/// A string literal, with its step.
-#[inline(always)]
-fn text_literal(world: &mut World, text: &Text) -> Result<Value, OpEnd>
-    requires faithful { IsFaithful world.old }
-    ensures law { (frame : Frame) → Comes result (state_of world.new)
-        (e.constant (Value.Rock (Rock.Text text.now)) frame (state_of world.old)) }
-    ensures faithful { IsFaithful world.new }
-    ensures store { world.new.store ≡ world.old.store }
-    ensures same { IfOk result (λ v. v ≡ Value.Rock (Rock.Text text.now)) }
-{
-    take_step(world)?;
-    Ok(Value::Rock(Rock::Text(text.copy()?)))
-}
-
-/// An integer literal, with its step.
-#[inline(always)]
-fn int_literal(world: &mut World, number: &i64) -> Result<Value, OpEnd>
-    requires faithful { IsFaithful world.old }
-    ensures law { (frame : Frame) → Comes result (state_of world.new)
-        (e.constant (Value.Rock (Rock.Int number.now)) frame (state_of world.old)) }
-    ensures faithful { IsFaithful world.new }
-    ensures store { world.new.store ≡ world.old.store }
-    ensures same { IfOk result (λ v. v ≡ Value.Rock (Rock.Int number.now)) }
-{
-    take_step(world)?;
-    Ok(Value::Rock(Rock::Int(*number)))
 }
 
 /// None, True or False.
@@ -161,4 +144,12 @@ fn value_of(keyword: Const) -> Value
         Const::Nil => Value::Rock(Rock::Nil),
         Const::Truth(truth) => Value::Rock(Rock::Truth(truth)),
     }
+}
+
+/// The value of an integer literal.
+#[inline(always)]
+fn int_value(number: &i64) -> Value
+    ensures { result ≡ Value.Rock (Rock.Int number.now) }
+{
+    Value::Rock(Rock::Int(*number))
 }

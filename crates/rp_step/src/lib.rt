@@ -1,23 +1,29 @@
 //! The machine that runs code, over an explicit stack.
 #![tactic(auto)]
 
+mod arguments;
 mod asserting;
+mod augmentation;
 mod chains;
+mod comparisons;
 mod conditions;
-mod deciding;
-mod elsewhere;
+mod deleting;
+mod displays;
 mod expressions;
+mod forms;
 mod halt;
 mod hand;
+mod joining;
 mod leaves;
+mod looping;
 mod machine;
 mod names;
 mod numbers;
-mod operating;
 mod places;
 mod run;
 mod statements;
-mod stepping;
+mod storing;
+mod trailers;
 mod units;
 mod unwinding;
 

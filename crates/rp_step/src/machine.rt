@@ -7,7 +7,7 @@ ghost use Rattle.rp_meaning.specs.State.{State, Outcome, Flow};
 ghost use Rattle.rp_ops.specs.Outcome.{gives};
 ghost use Rattle.rp_proxy.specs.declared.world.World.{World};
 ghost use Rattle.rp_store.specs.Kept.{IsFit};
-ghost use Rattle.rp_step.specs.Comes.{IsEnd};
+ghost use Rattle.rp_access.specs.Comes.{IsEnd};
 ghost use Rattle.rp_step.specs.Law.{frame_in, rest_of};
 ghost use Rattle.rp_step.specs.Ready.{IsReady};
 ghost use Rattle.rp_step.specs.Rest.{after, begun, did, gave, rest};

@@ -1,6 +1,6 @@
 //! Names, which are read from and bound in the slots of scopes.
 
-ghost use Rattle.std.specs.Prelude.{◌≡◌, ◌<◌, ◌≤◌, length, position, option_copied, option_map};
+ghost use Rattle.std.specs.Prelude.{◌≡◌, ◌<◌, ◌≤◌, length, option_copied, option_map};
 ghost use Rattle.std.specs.Prelude.{IfOk, IfSome, IsTrue};
 ghost use Rattle.std.specs.Prelude.{Some, None, false, is_some};
 ghost use Rattle.rp_base.specs.Names.{word_of};
@@ -10,25 +10,24 @@ ghost use Rattle.rp_base.specs.declared.value.Value.{Value as TheValue};
 ghost use Rattle.rp_meaning.specs.State.{Flow, next};
 ghost use Rattle.rp_ops.specs.Outcome.{raises};
 ghost use Rattle.rp_proxy.specs.Faithful.{IsFaithful};
-ghost use Rattle.rp_scope.specs.Scopes.{found_from, locals_of};
-ghost use Rattle.rp_store.specs.Key.{same_name};
+ghost use Rattle.rp_scope.specs.Scopes.{found_from};
 ghost use Rattle.rp_store.specs.Heap.{slots_at};
 ghost use Rattle.rp_store.specs.Kept.{IsFit, IsScopeOf};
 ghost use Rattle.rp_store.specs.Shape.{KeepsShape};
 ghost use Rattle.rp_base.specs.declared.value.Side.{Side};
-ghost use Rattle.rp_step.specs.Comes.{Comes, ComesTo, IsEnd};
+ghost use Rattle.rp_access.specs.Comes.{Comes, ComesTo, IsEnd};
 ghost use Rattle.rp_step.specs.Law.{frame_in};
-ghost use Rattle.rp_step.specs.Moment.{place_view, state_of, program_at};
-ghost use Rattle.rp_step.specs.Parts.{unbound_at};
+ghost use Rattle.rp_step.specs.Moment.{place_view, program_at};
+ghost use Rattle.rp_access.specs.Moment.{state_of};
+ghost use Rattle.rp_step.specs.Slots.{slot_found, slot_view, unbound_at};
 ghost use Rattle.rp_step.specs.Ready.{IsReady};
-ghost use Rattle.rp_step.specs.Slots.{slot_found, slot_view};
 
-use crate::elsewhere::{elsewhere, word};
 use crate::machine::Machine;
+use rp_access::elsewhere;
 use rp_base::{Kind, Name, Oid, OpEnd, Side, Value};
-use rp_ops::raised;
+use rp_ops::{raised, word_of};
 use rp_proxy::World;
-use rp_scope::{Layouts, Place2};
+use rp_scope::Place2;
 use rp_store::{Object, Store};
 use std::alloc::Global;
 
@@ -128,20 +127,12 @@ impl<'u> Machine<'u> {
                 index,
             }),
             Place2::Global => {
-                let index = global(&self.units.program(self.frame.side).layouts, name)?;
+                let index = self.units.program(self.frame.side).layouts.global(name)?;
                 let scope = outwards(store, store.len(), at, self.frame.side);
                 Some(Slot { scope, index })
             }
         }
     }
-}
-
-/// Where a name stands among the names that the program binds.
-fn global(layouts: &Layouts, name: Name) -> Option<usize>
-    requires { 0 < length layouts.now }
-    ensures { result ≡ position (same_name name) (locals_of layouts.now 0) }
-{
-    layouts.locals(0).iter().position(|local| name == *local)
 }
 
 /// The scope so many blocks outwards.
@@ -213,7 +204,7 @@ fn unbound(alloc: Global, world: &World, kind: Kind, name: Name) -> OpEnd
     ensures flow { IsEnd {A = Flow} result (state_of world.now)
         (raises kind (word_of world.now.names name) (state_of world.now)) }
 {
-    raised(alloc, kind, word(&world.names, name))
+    raised(alloc, kind, word_of(&world.names, name))
 }
 
 /// Fills a slot, or empties it.

@@ -5,6 +5,7 @@ ghost use Rattle.std.specs.Prelude.{OnOk};
 ghost use Rattle.rp_meaning.specs.Expressions as e;
 ghost use Rattle.rp_meaning.specs.Operators.{operate, operate_unary};
 ghost use Rattle.rp_store.specs.Kept.{IsFit};
+ghost use Rattle.rp_store.specs.Shape.{KeepsShape};
 ghost use Rattle.rp_step.specs.Does as does;
 ghost use Rattle.rp_step.specs.ExpressionSteps.{to_power};
 ghost use Rattle.rp_step.specs.Law.{Evaluates, Resumes};
@@ -12,7 +13,7 @@ ghost use Rattle.rp_step.specs.Ready.{IsReady};
 
 use crate::halt::Halt;
 use crate::machine::Machine;
-use crate::operating::{operate, operate_unary};
+use rp_access::{operate, operate_unary};
 use rp_base::{BinOp, UnOp, Value};
 use rp_frame::{Control, ExprTask, Task};
 use rp_proxy::World;
@@ -28,6 +29,7 @@ impl<'u> Machine<'u> {
         requires ready { IsReady self.old.units.now self.old.frame self.old.values world.old }
         ensures law { OnOk result (Evaluates (e.unary op (does.expr x.now)) self.old world.old self.new world.new) }
         ensures ready { IsReady self.new.units.now self.new.frame self.new.values world.new }
+        ensures shape { KeepsShape world.old.store.heap world.new.store.heap }
     {
         match self.next_leaf(world, x) {
             Ok(Some(a)) => self.unary_of(world, op, a),
@@ -43,6 +45,7 @@ impl<'u> Machine<'u> {
         requires a { IsFit world.old.store.heap self.old.frame.side a }
         ensures law { OnOk result (Evaluates (operate_unary op a) self.old world.old self.new world.new) }
         ensures ready { IsReady self.new.units.now self.new.frame self.new.values world.new }
+        ensures shape { KeepsShape world.old.store.heap world.new.store.heap }
     {
         self.give(operate_unary(self.alloc, world, op, &a))
     }
@@ -59,6 +62,7 @@ impl<'u> Machine<'u> {
         ensures law { OnOk result (Evaluates (e.power (does.expr base.now) (does.expr exponent.now))
             self.old world.old self.new world.new) }
         ensures ready { IsReady self.new.units.now self.new.frame self.new.values world.new }
+        ensures shape { KeepsShape world.old.store.heap world.new.store.heap }
     {
         match self.next_leaf(world, base) {
             Ok(Some(a)) => self.to_power(world, a, exponent),
@@ -78,6 +82,7 @@ impl<'u> Machine<'u> {
         ensures law { OnOk result (Evaluates (to_power (does.expr exponent.now) a)
             self.old world.old self.new world.new) }
         ensures ready { IsReady self.new.units.now self.new.frame self.new.values world.new }
+        ensures shape { KeepsShape world.old.store.heap world.new.store.heap }
     {
         match self.leaf(world, exponent) {
             Ok(Some(b)) => self.power_of(world, a, b),
@@ -98,6 +103,7 @@ impl<'u> Machine<'u> {
         requires b { IsFit world.old.store.heap self.old.frame.side b }
         ensures law { OnOk result (Evaluates (operate BinOp.Pow a b) self.old world.old self.new world.new) }
         ensures ready { IsReady self.new.units.now self.new.frame self.new.values world.new }
+        ensures shape { KeepsShape world.old.store.heap world.new.store.heap }
     {
         self.give(operate(self.alloc, world, self.frame.side, BinOp::Pow, &a, &b))
     }
@@ -109,6 +115,7 @@ impl<'u> Machine<'u> {
         requires b { IsFit world.old.store.heap self.old.frame.side b }
         ensures law { OnOk result (Resumes ExprTask.Exponent b self.old world.old self.new world.new) }
         ensures ready { IsReady self.new.units.now self.new.frame self.new.values world.new }
+        ensures shape { KeepsShape world.old.store.heap world.new.store.heap }
     {
         let a = self.at_hand();
         self.power_of(world, a, b)

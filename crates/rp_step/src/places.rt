@@ -6,9 +6,10 @@ ghost use Rattle.rp_frame.specs.Top.{top, below};
 ghost use Rattle.rp_meaning.specs.Frame.{Run, unbind_name};
 ghost use Rattle.rp_meaning.specs.Statements as d;
 ghost use Rattle.rp_store.specs.Kept.{IsFit};
+ghost use Rattle.rp_store.specs.Shape.{KeepsShape};
 ghost use Rattle.rp_step.specs.Does as does;
 ghost use Rattle.rp_step.specs.Law.{Executes, frame_in, rest_of};
-ghost use Rattle.rp_step.specs.Moment.{state_of};
+ghost use Rattle.rp_access.specs.Moment.{state_of};
 ghost use Rattle.rp_step.specs.Ready.{IsReady};
 ghost use Rattle.rp_step.specs.Rest.{did, rest};
 
@@ -33,6 +34,7 @@ impl<'u> Machine<'u> {
         ensures law { OnOk result (Executes (d.store_all (does.places places.now) value)
             self.old world.old self.new world.new) }
         ensures ready { IsReady self.new.units.now self.new.frame self.new.values world.new }
+        ensures shape { KeepsShape world.old.store.heap world.new.store.heap }
     {
         match places {
             [] => self.go(Control::Next),
@@ -55,6 +57,7 @@ impl<'u> Machine<'u> {
         ensures law { OnOk result (Executes (d.store_all (does.place place.now ∷ does.places rest.now) value)
             self.old world.old self.new world.new) }
         ensures ready { IsReady self.new.units.now self.new.frame self.new.values world.new }
+        ensures shape { KeepsShape world.old.store.heap world.new.store.heap }
     {
         let first = value.copy()?;
         self.values.push(value)?;
@@ -70,25 +73,33 @@ impl<'u> Machine<'u> {
             (did (frame_in base self.old) (below self.old.values) (d.store_all (does.places places.now)
             (top self.old.values) (frame_in base self.old) (state_of world.old)))) }
         ensures ready { IsReady self.new.units.now self.new.frame self.new.values world.new }
+        ensures shape { KeepsShape world.old.store.heap world.new.store.heap }
     {
         let value = self.values.pop();
         self.store_all(world, places, value)
     }
 
-    /// Stores a value to a place. Names run.
+    /// Stores a value to a place.
     #[inline(always)]
-    fn store(&mut self, world: &mut World, place: &'u Place, value: Value) -> Result<(), Halt>
+    pub(crate) fn store(
+        &mut self,
+        world: &mut World,
+        place: &'u Place,
+        value: Value,
+    ) -> Result<(), Halt>
         requires ready { IsReady self.old.units.now self.old.frame self.old.values world.old }
         requires value { IsFit world.old.store.heap self.old.frame.side value }
         ensures law { OnOk result (Executes (does.place place.now value) self.old world.old self.new world.new) }
         ensures ready { IsReady self.new.units.now self.new.frame self.new.values world.new }
+        ensures shape { KeepsShape world.old.store.heap world.new.store.heap }
     {
         match place {
             Place::Name(name) => {
                 self.bind(world, name.name, value);
                 self.go(Control::Next)
             }
-            _ => Err(Halt::NotBuilt),
+            Place::Attr(object, name, _) => self.store_attribute(world, object, name.name, value),
+            Place::Item(object, key, _) => self.store_item(world, object, key, value),
         }
     }
 
@@ -98,6 +109,7 @@ impl<'u> Machine<'u> {
         requires ready { IsReady self.old.units.now self.old.frame self.old.values world.old }
         ensures law { OnOk result (Executes (does.deletes places.now) self.old world.old self.new world.new) }
         ensures ready { IsReady self.new.units.now self.new.frame self.new.values world.new }
+        ensures shape { KeepsShape world.old.store.heap world.new.store.heap }
     {
         match places {
             [] => self.go(Control::Next),
@@ -117,21 +129,24 @@ impl<'u> Machine<'u> {
         ensures law { OnOk result (Executes (d.block (does.delete place.now ∷ map does.delete rest.now))
             self.old world.old self.new world.new) }
         ensures ready { IsReady self.new.units.now self.new.frame self.new.values world.new }
+        ensures shape { KeepsShape world.old.store.heap world.new.store.heap }
     {
         self.tasks.push(Task::Flow(FlowTask::Delete(rest)))?;
         self.delete(world, place)
     }
 
-    /// Deletes a place. Names run.
+    /// Deletes a place.
     #[inline(always)]
     fn delete(&mut self, world: &mut World, place: &'u Place) -> Result<(), Halt>
         requires ready { IsReady self.old.units.now self.old.frame self.old.values world.old }
         ensures law { OnOk result (Executes (does.delete place.now) self.old world.old self.new world.new) }
         ensures ready { IsReady self.new.units.now self.new.frame self.new.values world.new }
+        ensures shape { KeepsShape world.old.store.heap world.new.store.heap }
     {
         match place {
             Place::Name(name) => self.delete_name(world, name.name),
-            _ => Err(Halt::NotBuilt),
+            Place::Attr(object, name, _) => self.delete_attribute(world, object, name.name),
+            Place::Item(object, key, _) => self.delete_item(world, object, key),
         }
     }
 
@@ -141,6 +156,7 @@ impl<'u> Machine<'u> {
         requires ready { IsReady self.old.units.now self.old.frame self.old.values world.old }
         ensures law { OnOk result (Executes (unbind_name name) self.old world.old self.new world.new) }
         ensures ready { IsReady self.new.units.now self.new.frame self.new.values world.new }
+        ensures shape { KeepsShape world.old.store.heap world.new.store.heap }
     {
         match self.unbind(world, name) {
             Ok(()) => self.go(Control::Next),

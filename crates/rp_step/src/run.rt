@@ -4,11 +4,12 @@
 ghost use Rattle.std.specs.Prelude.{◌≡◌, [], IfOk, OnOk, Ok};
 ghost use Rattle.rp_meaning.specs.Frame.{Run};
 ghost use Rattle.rp_proxy.specs.declared.world.World.{World as TheWorld};
-ghost use Rattle.rp_step.specs.Comes.{Comes};
+ghost use Rattle.rp_access.specs.Comes.{Comes};
+ghost use Rattle.rp_store.specs.Shape.{KeepsShape};
 ghost use Rattle.rp_step.specs.Does as does;
 ghost use Rattle.rp_step.specs.Law.{Executes, Leaves, frame_in};
 ghost use Rattle.rp_step.specs.Left.{flows};
-ghost use Rattle.rp_step.specs.Moment.{state_of};
+ghost use Rattle.rp_access.specs.Moment.{state_of};
 ghost use Rattle.rp_step.specs.Ready.{IsReady};
 
 use crate::halt::Halt;
@@ -53,6 +54,7 @@ impl<'u> Machine<'u> {
         requires ready { IsReady self.old.units.now self.old.frame self.old.values world.old }
         ensures law { OnOk result (Leaves self.old world.old self.new world.new) }
         ensures ready { IsReady self.new.units.now self.new.frame self.new.values world.new }
+        ensures shape { KeepsShape world.old.store.heap world.new.store.heap }
         ensures ended { result ≡ Ok Progress.Ended → self.new.tasks ≡ [] }
     {
         match self.control {
@@ -78,6 +80,7 @@ impl<'u> Machine<'u> {
         requires ready { IsReady self.old.units.now self.old.frame self.old.values world.old }
         ensures law { OnOk result (Leaves self.old world.old self.new world.new) }
         ensures ready { IsReady self.new.units.now self.new.frame self.new.values world.new }
+        ensures shape { KeepsShape world.old.store.heap world.new.store.heap }
         ensures ended { result ≡ Ok Progress.Ended → self.new.tasks ≡ [] }
     {
         match self.tasks.pop() {
@@ -97,6 +100,7 @@ impl<'u> Machine<'u> {
         requires ready { IsReady self.old.units.now self.old.frame self.old.values world.old }
         ensures law { OnOk result (Leaves self.old world.old self.new world.new) }
         ensures ready { IsReady self.new.units.now self.new.frame self.new.values world.new }
+        ensures shape { KeepsShape world.old.store.heap world.new.store.heap }
         ensures ended { OnOk result (self.new.tasks ≡ []) }
     {
         for _ in 0..STEPS {
@@ -124,6 +128,7 @@ impl<'u> Machine<'u> {
         ensures law { IfOk result (λ end. (base : Run) → Comes (flows end) (state_of world.new)
             (does.block block.now (frame_in base self.old) (state_of world.old))) }
         ensures ready { IsReady self.new.units.now self.new.frame self.new.values world.new }
+        ensures shape { KeepsShape world.old.store.heap world.new.store.heap }
     {
         self.control = Control::Block(block);
         self.run(world)?;

@@ -5,31 +5,34 @@ ghost use Rattle.std.specs.Prelude.{OnOk, suc};
 ghost use Rattle.rp_meaning.specs.Statements as d;
 ghost use Rattle.rp_proxy.specs.declared.world.World.{World as TheWorld};
 ghost use Rattle.rp_store.specs.Kept.{IsFit};
+ghost use Rattle.rp_store.specs.Shape.{KeepsShape};
 ghost use Rattle.rp_step.specs.Does as does;
 ghost use Rattle.rp_step.specs.Law.{Executes, ResumesStmt};
 ghost use Rattle.rp_step.specs.Ready.{IsReady};
 ghost use Rattle.rp_step.specs.Rest.{loop, tested_turn, turn};
 
-use crate::deciding::truth;
 use crate::halt::Halt;
 use crate::machine::Machine;
-use crate::stepping::take_step;
+use rp_access::{take_step, truth};
 use rp_base::{OpEnd, Value};
-use rp_frame::{Control, FlowTask, StmtTask, Task};
+use rp_frame::{Control, Each, FlowTask, StmtTask, Task};
 use rp_proxy::World;
 use rp_tree::{Branch, Expr, Place, Stmt, StmtForm, stmts_of};
 
 impl<'u> Machine<'u> {
-    /// Begins a statement, with its step. Expression statements, assignments, `if`, `while`, `break`, `continue`,
-    /// `pass`, `global`, `del` and `assert` run.
+    /// Begins a statement, with its step. Expression statements, assignments, augmented assignments to names, `if`,
+    /// `while`, `for` with one place as its target over what can be walked, `break`, `continue`, `pass`,
+    /// `global`, `del` and `assert` run.
     ///
     /// # Errors
     /// `Memory` where a growth was refused, `NotBuilt` where the form is none that runs, as all that follow.
     #[inline(never)]
+    #[tactic(auto, using(rp_store::proofs::Shapes::goes_on, crate::proofs::Worlds::shape_stored))]
     pub fn statement(&mut self, world: &mut World, x: &'u Stmt) -> Result<(), Halt>
         requires ready { IsReady self.old.units.now self.old.frame self.old.values world.old }
         ensures law { OnOk result (Executes (does.stmt x.now) self.old world.old self.new world.new) }
         ensures ready { IsReady self.new.units.now self.new.frame self.new.values world.new }
+        ensures shape { KeepsShape world.old.store.heap world.new.store.heap }
     {
         if let Err(end) = take_step(world) {
             return self.cut_off(end);
@@ -42,6 +45,7 @@ impl<'u> Machine<'u> {
         requires ready { IsReady self.old.units.now self.old.frame self.old.values world.old }
         ensures law { OnOk result (Executes (does.stmt_form form.now) self.old world.old self.new world.new) }
         ensures ready { IsReady self.new.units.now self.new.frame self.new.values world.new }
+        ensures shape { KeepsShape world.old.store.heap world.new.store.heap }
     {
         match form {
             StmtForm::Expr(value) => self.wait(
@@ -62,6 +66,20 @@ impl<'u> Machine<'u> {
                     Control::Expression(test),
                 )
             }
+            StmtForm::Aug {
+                place,
+                op,
+                value,
+                ..
+            } => self.augmented(world, place, *op, value),
+            StmtForm::For(walk, body) => self.for_each(
+                world,
+                &walk.of,
+                Each {
+                    target: &walk.target,
+                    body,
+                },
+            ),
             _ => Err(Halt::NotBuilt),
         }
     }
@@ -78,6 +96,7 @@ impl<'u> Machine<'u> {
         ensures law { OnOk result (Executes (d.assign (does.expr value.now) (d.store_all (does.places places.now)))
             self.old world.old self.new world.new) }
         ensures ready { IsReady self.new.units.now self.new.frame self.new.values world.new }
+        ensures shape { KeepsShape world.old.store.heap world.new.store.heap }
     {
         match self.leaf(world, value) {
             Ok(Some(v)) => self.store_all(world, places, v),
@@ -118,6 +137,7 @@ impl<'u> Machine<'u> {
         ensures law { OnOk result (Executes (d.while (does.expr test.now) (does.block body.now))
             self.old world.old self.new world.new) }
         ensures ready { IsReady self.new.units.now self.new.frame self.new.values world.new }
+        ensures shape { KeepsShape world.old.store.heap world.new.store.heap }
     {
         self.next_turn(world, world.running.meter.left, test, body)
     }
@@ -135,6 +155,7 @@ impl<'u> Machine<'u> {
         ensures law { OnOk result (Executes (loop turns (does.expr test.now) (does.block body.now))
             self.old world.old self.new world.new) }
         ensures ready { IsReady self.new.units.now self.new.frame self.new.values world.new }
+        ensures shape { KeepsShape world.old.store.heap world.new.store.heap }
     {
         if turns == 0 {
             return self.cut_off(OpEnd::StopSteps);
@@ -155,6 +176,7 @@ impl<'u> Machine<'u> {
         ensures law { OnOk result (Executes (loop (suc behind) (does.expr test.now) (does.block body.now))
             self.old world.old self.new world.new) }
         ensures ready { IsReady self.new.units.now self.new.frame self.new.values world.new }
+        ensures shape { KeepsShape world.old.store.heap world.new.store.heap }
     {
         self.tasks
             .push(Task::Flow(FlowTask::While(behind, test, body)))?;
@@ -163,11 +185,13 @@ impl<'u> Machine<'u> {
 
     /// A turn, with its step; a test that is false leaves the loop.
     #[inline(always)]
+    #[tactic(auto, using(rp_store::proofs::Shapes::goes_on, crate::proofs::Worlds::shape_stored))]
     fn turn(&mut self, world: &mut World, test: &'u Expr, body: &'u [Stmt]) -> Result<(), Halt>
         requires ready { IsReady self.old.units.now self.old.frame self.old.values world.old }
         ensures law { OnOk result (Executes (turn (does.expr test.now) (does.block body.now))
             self.old world.old self.new world.new) }
         ensures ready { IsReady self.new.units.now self.new.frame self.new.values world.new }
+        ensures shape { KeepsShape world.old.store.heap world.new.store.heap }
     {
         if let Err(end) = take_step(world) {
             return self.cut_off(end);
@@ -187,6 +211,7 @@ impl<'u> Machine<'u> {
         ensures law { OnOk result (Executes (tested_turn value (does.block body.now))
             self.old world.old self.new world.new) }
         ensures ready { IsReady self.new.units.now self.new.frame self.new.values world.new }
+        ensures shape { KeepsShape world.old.store.heap world.new.store.heap }
     {
         match truth(self.alloc, world, &value) {
             Ok(true) => self.go(Control::Block(body)),
@@ -210,6 +235,7 @@ impl<'u> Machine<'u> {
         ensures law { OnOk result (ResumesStmt (StmtTask.Branch body.entry branches.entry other.entry) value
             self.old world.old self.new world.new) }
         ensures ready { IsReady self.new.units.now self.new.frame self.new.values world.new }
+        ensures shape { KeepsShape world.old.store.heap world.new.store.heap }
     {
         match truth(self.alloc, world, &value) {
             Ok(true) => self.go(Control::Block(body)),
@@ -230,6 +256,7 @@ impl<'u> Machine<'u> {
         requires value { IsFit world.old.store.heap self.old.frame.side value }
         ensures law { OnOk result (ResumesStmt task.entry value self.old world.old self.new world.new) }
         ensures ready { IsReady self.new.units.now self.new.frame self.new.values world.new }
+        ensures shape { KeepsShape world.old.store.heap world.new.store.heap }
     {
         match task {
             StmtTask::Evaluate => self.go(Control::Next),
@@ -240,6 +267,14 @@ impl<'u> Machine<'u> {
             StmtTask::Test(body) => self.tested(world, value, body),
             StmtTask::Assert(message) => self.asserted(world, value, message),
             StmtTask::Fail => self.fail_with(world, value),
+            StmtTask::StoreAttr(name) => self.after_object(world, name, value),
+            StmtTask::StoreItem(key) => self.after_container(world, key, value),
+            StmtTask::StoreKey => self.after_store_key(world, value),
+            StmtTask::DeleteAttr(name) => self.del_attribute(world, value, name),
+            StmtTask::DeleteItem(key) => self.delete_key(world, value, key),
+            StmtTask::DeleteKey => self.after_deleted_key(world, value),
+            StmtTask::AugmentName(name, op) => self.after_augment(world, name, op, value),
+            StmtTask::For(each) => self.walk_over(world, value, each),
         }
     }
 }

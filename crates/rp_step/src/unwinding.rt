@@ -9,17 +9,19 @@ ghost use Rattle.rp_ops.specs.Outcome.{ends, gives};
 ghost use Rattle.rp_base.specs.declared.value.Value.{Value as TheValue};
 ghost use Rattle.rp_frame.specs.Top.{top, below};
 ghost use Rattle.rp_proxy.specs.declared.world.World.{World as TheWorld};
-ghost use Rattle.rp_step.specs.Comes.{Comes, IsEnd, end_of};
+ghost use Rattle.rp_access.specs.Comes.{Comes, IsEnd};
+ghost use Rattle.rp_store.specs.Shape.{KeepsShape};
+ghost use Rattle.rp_step.specs.Ends.{end_of};
 ghost use Rattle.rp_step.specs.Law.{Takes, TakesUp, frame_in, rest_of};
-ghost use Rattle.rp_step.specs.Left.{at_hand, flow_with, flows};
-ghost use Rattle.rp_step.specs.Moment.{state_of};
+ghost use Rattle.rp_step.specs.Left.{at_hand, flow_with, flows, stmt_with};
+ghost use Rattle.rp_access.specs.Moment.{state_of};
 ghost use Rattle.rp_step.specs.Ready.{IsReady};
 ghost use Rattle.rp_step.specs.Rest.{after, after_flow, begun, did, gave, rest};
 
 use crate::halt::Halt;
 use crate::machine::Machine;
 use rp_base::OpEnd;
-use rp_frame::{Control, ExprTask, FlowTask, Task};
+use rp_frame::{Control, ExprTask, FlowTask, StmtTask, Task};
 use rp_proxy::World;
 
 /// How a block was left (Python Language Reference, Simple statements).
@@ -40,6 +42,7 @@ impl<'u> Machine<'u> {
         requires ready { IsReady self.old.units.now self.old.frame self.old.values world.old }
         ensures law { OnOk result (Takes task.entry self.old world.old self.new world.new) }
         ensures ready { IsReady self.new.units.now self.new.frame self.new.values world.new }
+        ensures shape { KeepsShape world.old.store.heap world.new.store.heap }
     {
         match self.control {
             Control::Value => self.with_value(world, task),
@@ -71,6 +74,7 @@ impl<'u> Machine<'u> {
             (after task.entry (gave (frame_in base self.old) (below self.old.values)
             (gives (top self.old.values) (state_of world.old))))) }
         ensures ready { IsReady self.new.units.now self.new.frame self.new.values world.new }
+        ensures shape { KeepsShape world.old.store.heap world.new.store.heap }
     {
         match task {
             Task::Expr(task) => {
@@ -98,13 +102,16 @@ impl<'u> Machine<'u> {
                 self.forget(held_with(task));
                 self.go(Control::NoValue)
             }
-            Task::Stmt(_) => self.go(Control::CutOff),
+            Task::Stmt(task) => {
+                self.forget(stmt_with(task));
+                self.go(Control::CutOff)
+            }
             Task::Flow(_) => self.go(Control::NoValue),
         }
     }
 
     /// Drops so many of the values at hand.
-    fn forget(&mut self, count: usize)
+    pub(crate) fn forget(&mut self, count: usize)
         ensures { self.new ≡ record self.old { values = drop count self.old.values } }
     {
         for _ in 0..count {
@@ -118,6 +125,7 @@ impl<'u> Machine<'u> {
         requires ready { IsReady self.old.units.now self.old.frame self.old.values world.old }
         ensures law { OnOk result (TakesUp task.entry (leave next) self.old world.old self.new world.new) }
         ensures ready { IsReady self.new.units.now self.new.frame self.new.values world.new }
+        ensures shape { KeepsShape world.old.store.heap world.new.store.heap }
     {
         match task {
             Task::Flow(task) => self.flow_next(world, task),
@@ -133,12 +141,14 @@ impl<'u> Machine<'u> {
         ensures law { OnOk result ((base : Run) → rest_of base self.new (state_of world.new) ≡ rest self.old.tasks
             (after_flow task.entry (frame_in base self.old) self.old.values (gives next (state_of world.old)))) }
         ensures ready { IsReady self.new.units.now self.new.frame self.new.values world.new }
+        ensures shape { KeepsShape world.old.store.heap world.new.store.heap }
     {
         match task {
             FlowTask::Block(rest) => self.block(rest),
             FlowTask::While(turns, test, body) => self.loop_turn(world, turns, test, body),
             FlowTask::Store(places) => self.store_more(world, places),
             FlowTask::Delete(places) => self.delete_all(world, places),
+            FlowTask::For(turns, spot, each) => self.walk_on(world, turns, spot, each),
         }
     }
 
@@ -148,6 +158,7 @@ impl<'u> Machine<'u> {
         requires ready { IsReady self.old.units.now self.old.frame self.old.values world.old }
         ensures law { OnOk result (TakesUp task.entry (leave continued) self.old world.old self.new world.new) }
         ensures ready { IsReady self.new.units.now self.new.frame self.new.values world.new }
+        ensures shape { KeepsShape world.old.store.heap world.new.store.heap }
     {
         match task {
             Task::Flow(task) => self.flow_continue(world, task),
@@ -163,12 +174,14 @@ impl<'u> Machine<'u> {
         ensures law { OnOk result ((base : Run) → rest_of base self.new (state_of world.new) ≡ rest self.old.tasks
             (after_flow task.entry (frame_in base self.old) self.old.values (gives continued (state_of world.old)))) }
         ensures ready { IsReady self.new.units.now self.new.frame self.new.values world.new }
+        ensures shape { KeepsShape world.old.store.heap world.new.store.heap }
     {
         match task {
             FlowTask::While(turns, test, body) => self.loop_turn(world, turns, test, body),
             FlowTask::Store(_) => self.go_without(Control::Continued),
             FlowTask::Block(_) => self.go(Control::Continued),
             FlowTask::Delete(_) => self.go(Control::Continued),
+            FlowTask::For(turns, spot, each) => self.walk_on(world, turns, spot, each),
         }
     }
 
@@ -199,6 +212,7 @@ impl<'u> Machine<'u> {
             FlowTask::Store(_) => self.go_without(Control::Broke),
             FlowTask::Block(_) => self.go(Control::Broke),
             FlowTask::Delete(_) => self.go(Control::Broke),
+            FlowTask::For(_, _, _) => self.go_without(Control::Next),
         }
     }
 
@@ -264,6 +278,24 @@ fn held_with(task: ExprTask) -> usize
     match task {
         ExprTask::Operand(_, _) => 1,
         ExprTask::Exponent => 1,
+        ExprTask::Test(_, _) => 1,
+        ExprTask::Key(_) => 1,
+        ExprTask::Items(_, count, _) => count as usize,
+        ExprTask::Argument(count, _, _) => count as usize + 1,
+        _ => 0,
+    }
+}
+
+/// How many values at hand a statement waits with for the value of an expression.
+fn stmt_with(task: StmtTask) -> usize
+    ensures { result ≡ stmt_with task.entry }
+{
+    match task {
+        StmtTask::StoreAttr(_) => 1,
+        StmtTask::StoreItem(_) => 1,
+        StmtTask::StoreKey => 2,
+        StmtTask::DeleteKey => 1,
+        StmtTask::AugmentName(_, _) => 1,
         _ => 0,
     }
 }
@@ -274,6 +306,7 @@ fn flow_with(task: Task) -> usize
 {
     match task {
         Task::Flow(FlowTask::Store(_)) => 1,
+        Task::Flow(FlowTask::For(_, _, _)) => 1,
         _ => 0,
     }
 }

@@ -1,6 +1,6 @@
 pub mod CallerLemmas
 pub mod Counters
 mod HeapLemmas
-mod Keys
-mod Readings
+pub mod Keys
+pub mod Readings
 pub mod Shapes

@@ -1,7 +1,8 @@
 //! The command `check`: what it says of scripts, by the rules of tokens, of the grammar and of the policy of names.
 
-use crate::program_answers::Said;
-use rp_tests_cases::all_answer;
+use crate::program_answers::{Said, is_said};
+use rp_tests_cases::{FOLDER_FILE, all_answer};
+use std::alloc::Global;
 use std::test::Fail;
 
 const ACCEPTED: &str = r#"check s.py =>  => ok~0
@@ -24,6 +25,10 @@ check s.py => x = 1~y = 2 ? 3 => line 2: bad character~4
 check s.py => x = (1,~[2,~ => line 2: not closed~4
 check s.py => x = 'a~y = 1 => line 1: not closed~4
 check s.py => x = 1~y = 012 => line 2: bad number~4
+check s.py => x = 1.5 => line 1: bad number~4
+check s.py => x = 9223372036854775808 => line 1: bad number~4
+check s.py => def f():~    x = = 1~y = 1 => line 2: syntax~4
+check s.py => if True:~    x = 1~  y = 2 => line 3: dedent to no open column~4
 check s.py => x = '\q' => line 1: bad escape~4
 check s.py => x = 1~y = 2 +~z = 3 => line 2: syntax~4
 check s.py => x = 1; break => line 1: syntax~4
@@ -32,7 +37,25 @@ check s.py => _x = ( => line 1: not closed~4
 check s.py => _x = = 1 => line 1: syntax~4
 check s.py => _x = 1~y = ? => line 2: bad character~4"#;
 
-const OFFENCES: &str = r#"check s.py => _x = 1 => line 1: name "_x" is forbidden~4
+const OFFENCES: &str = r#"check s.py => del _x~for _i in r: pass~_y += 1 \
+    => line 1: name "_x" is forbidden~line 2: name "_i" is forbidden~line 3: name "_y" is forbidden~4
+check s.py => x = lambda _a: 1~def f(*_b, **_k): pass \
+    => line 1: name "_a" is forbidden~line 2: name "_b" is forbidden~line 2: name "_k" is forbidden~4
+check s.py => o.tb_frame; o.tb_next; o.f_builtins; o.f_code; o.f_globals; o.f_locals; o.f_trace \
+    => line 1: attribute "tb_frame" is forbidden~line 1: attribute "tb_next" is forbidden~\
+    line 1: attribute "f_builtins" is forbidden~line 1: attribute "f_code" is forbidden~\
+    line 1: attribute "f_globals" is forbidden~line 1: attribute "f_locals" is forbidden~\
+    line 1: attribute "f_trace" is forbidden~4
+check s.py => o.co_code; o.gi_code; o.gi_yieldfrom; o.cr_await; o.cr_frame; o.cr_code; o.cr_origin \
+    => line 1: attribute "co_code" is forbidden~line 1: attribute "gi_code" is forbidden~\
+    line 1: attribute "gi_yieldfrom" is forbidden~line 1: attribute "cr_await" is forbidden~\
+    line 1: attribute "cr_frame" is forbidden~line 1: attribute "cr_code" is forbidden~\
+    line 1: attribute "cr_origin" is forbidden~4
+check s.py => _ｘ = ａ__roles__~o.ｆ_back = 1 => line 1: name "_x" is forbidden~\
+    line 1: name "a__roles__" is forbidden~line 2: attribute "f_back" is forbidden~4
+check s.py => x = root._secret~y = 1~exec(y) \
+    => line 1: attribute "_secret" is forbidden~line 3: call of "exec" is forbidden~4
+check s.py => _x = 1 => line 1: name "_x" is forbidden~4
 check s.py => x = __a + b__roles__ => line 1: name "__a" is forbidden~line 1: name "b__roles__" is forbidden~4
 check s.py => x = o._a~y = o.a__roles__ => line 1: attribute "_a" is forbidden~\
     line 2: attribute "a__roles__" is forbidden~4
@@ -70,4 +93,46 @@ fn tells_the_first_fault_of_a_script(rt: HostRuntime) -> Result<(), Fail> {
 #[test]
 fn tells_all_offences_of_a_script(rt: HostRuntime) -> Result<(), Fail> {
     all_answer(rt.alloc(), &Said::To, OFFENCES)
+}
+
+/// A text so many times, then another, and a third as many times.
+fn nested(
+    alloc: Global,
+    before: &str,
+    inside: &str,
+    behind: &str,
+    times: usize,
+) -> Result<String, Fail> {
+    let before = before.repeat(alloc, times)?;
+    let behind = behind.repeat(alloc, times)?;
+    Ok(format!(in alloc; "{before}{inside}{behind}")?)
+}
+
+/// Asks whether this is said to `check` of a script.
+fn is_checked(alloc: Global, script: &str, wanted: &str) -> Result<(), Fail> {
+    is_said(alloc, "check s.py", FOLDER_FILE, script.as_bytes(), wanted)
+}
+
+#[test]
+fn brackets_and_operators_stand_within_one_another_to_their_limits(
+    rt: HostRuntime,
+) -> Result<(), Fail> {
+    let alloc = rt.alloc();
+    let script = nested(alloc, "(", "1", ")", 200)?;
+    is_checked(alloc, script.as_str(), "ok\n0")?;
+    let script = nested(alloc, "(", "", "", 201)?;
+    is_checked(alloc, script.as_str(), "line 1: brackets too deep\n4")?;
+    let script = nested(alloc, "not ", "x", "", 198)?;
+    is_checked(alloc, script.as_str(), "ok\n0")?;
+    let script = nested(alloc, "not ", "x", "", 199)?;
+    is_checked(alloc, script.as_str(), "line 1: syntax\n4")
+}
+
+#[test]
+fn a_tab_indents_nothing(rt: HostRuntime) -> Result<(), Fail> {
+    is_checked(
+        rt.alloc(),
+        "x = 1\n\ty = 2",
+        "line 2: tab in indentation\n4",
+    )
 }

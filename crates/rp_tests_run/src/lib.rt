@@ -4,6 +4,8 @@
 #[cfg(test)]
 mod check_tests;
 #[cfg(test)]
+mod front_tests;
+#[cfg(test)]
 mod outside_tests;
 #[cfg(test)]
 mod program_answers;

@@ -112,7 +112,7 @@ clauses::clauses-returns-in_err-item t c =
 
 pub trailers::trailers-items-init : goal.trailers::trailers-items-init
 unfolding r.trailers
-trailers::trailers-items-init t c = begin_none v.view_trailer tree.trailer _ _ c.new-found.ensures.items
+trailers::trailers-items-init t c = begin_none v.view_trailer tree.trailer _ _ c.in_ok-found.ensures.items
 
 pub trailers::trailers-items-preserved : goal.trailers::trailers-items-preserved
 trailers::trailers-items-preserved t c =
@@ -138,12 +138,12 @@ pub trailers::trailers-returns-in_err-item : goal.trailers::trailers-returns-in_
 trailers::trailers-returns-in_err-item t c =
     let rest = c.items.rest.now in
     let begun : (r.at f.starts_trailer) rest ≡ true = sym c.starts_trailer.ensures ∙ c.items-test.true in
-    let p = err_from_is_err_and c.from_residual.result c.from_residual.ensures.1 in
+    let p = err_from_is_err_and c.from_residual-in_err-item.result c.from_residual-in_err-item.ensures.1 in
     rw (p.1, p.2) (many_fails tree.no_trailers tree.trailer (r.at f.starts_trailer) (r.trailer (r.readers c.args.depth)) (trailers_short c.args.depth) c.in_err-item.field-0.0 _ (map v.view_trailer c.items.found.items) rest c.items.invariant begun c.in_err-item.ensures)
 
 pub operators::tests-items-init : goal.operators::tests-items-init
 unfolding r.tests
-operators::tests-items-init t c = begin_none v.view_test r.with_test _ _ c.new-found.ensures.items
+operators::tests-items-init t c = begin_none v.view_test r.with_test _ _ c.in_ok-found.ensures.items
 
 pub operators::tests-items-preserved : goal.operators::tests-items-preserved
 operators::tests-items-preserved t c =
@@ -169,7 +169,7 @@ pub operators::tests-returns-in_err-item : goal.operators::tests-returns-in_err-
 operators::tests-returns-in_err-item t c =
     let rest = c.items.rest.now in
     let begun : r.at_test rest ≡ true = sym c.at_test.ensures ∙ c.items-test.true in
-    let p = err_from_is_err_and c.from_residual.result c.from_residual.ensures.1 in
+    let p = err_from_is_err_and c.from_residual-in_err-item.result c.from_residual-in_err-item.ensures.1 in
     rw (p.1, p.2) (many_fails tree.no_tests r.with_test r.at_test (r.comparison (r.readers c.args.depth)) (tests_short c.args.depth) c.in_err-item.field-0.0 _ (map v.view_test c.items.found.items) rest c.items.invariant begun c.in_err-item.ensures)
 
 pub operators::ands-items-init : goal.operators::ands-items-init
@@ -237,7 +237,7 @@ operators::ors-returns-in_err-item t c =
 -- ---- operations
 
 pub operators::operations-items-init : goal.operators::operations-items-init
-operators::operations-items-init t c = begin_none v.view_op r.with_op _ _ c.new-found.ensures.items
+operators::operations-items-init t c = begin_none v.view_op r.with_op _ _ c.in_ok-found.ensures.items
 
 pub operators::operations-items-preserved : goal.operators::operations-items-preserved
 operators::operations-items-preserved t c =
@@ -264,7 +264,7 @@ operators::operations-returns-in_err-operand t c =
     let rest = c.items.rest.now in
     let found : r.operator_of (suc c.args.level) (first rest) ≡ Some c.in-Some.op = sym c.operator.ensures ∙ c.in-Some.is in
     let bad = operation_fails c.in_err-operand.field-0.0 (suc c.args.level) (r.chain (r.readers c.args.depth) c.args.level) rest c.in-Some.op found (subst (λ (us : Tokens). Fails c.in_err-operand.field-0.0 ((r.chain (r.readers c.args.depth) c.args.level) us)) c.skip.ensures c.in_err-operand.ensures) in
-    let p = err_from_is_err_and c.from_residual.result c.from_residual.ensures.1 in
+    let p = err_from_is_err_and c.from_residual-in_err-operand.result c.from_residual-in_err-operand.ensures.1 in
     rw (p.1, p.2) (many_fails tree.no_ops r.with_op (r.at (λ j. r.is_some (r.operator_of (suc c.args.level) j))) (r.operation (suc c.args.level) (r.chain (r.readers c.args.depth) c.args.level)) (operations_short c.args.depth c.args.level) c.in_err-operand.field-0.0 _ (map v.view_op c.items.found.items) rest c.items.invariant (operation_begins _ c.in-Some.op found) bad)
 
 -- ---- loops over lists
@@ -388,7 +388,7 @@ clauses::parts-returns-in_err-item t c =
 
 pub trailers::args-items-init : goal.trailers::args-items-init
 unfolding r.args
-trailers::args-items-init t c = begin_none v.view_arg tree.arg _ _ c.new-found.ensures.items
+trailers::args-items-init t c = begin_none v.view_arg tree.arg _ _ c.in_ok-found.ensures.items
 
 pub trailers::args-items-preserved : goal.trailers::args-items-preserved
 trailers::args-items-preserved t c =
@@ -422,7 +422,7 @@ pub trailers::args-returns-in_err-item : goal.trailers::args-returns-in_err-item
 trailers::args-returns-in_err-item t c =
     let rest = c.items.rest.now in
     let begun : f.starts_arg (first rest) ≡ true = sym c.starts_arg.ensures ∙ c.items-test.true in
-    let p = err_from_is_err_and c.from_residual.result c.from_residual.ensures.1 in
+    let p = err_from_is_err_and c.from_residual-in_err-item.result c.from_residual-in_err-item.ensures.1 in
     rw (p.1, p.2) (listed_fails tree.no_args tree.no_args tree.arg f.starts_arg (r.arg (r.readers c.args.depth)) (args_short c.args.depth) c.in_err-item.field-0.0 _ (map v.view_arg c.items.found.items) c.items.named rest c.items.invariant begun c.in_err-item.ensures)
 
 pub parameters::plains-items-init : goal.parameters::plains-items-init

@@ -1,6 +1,6 @@
 use Rattle.std.proofs.Common.{refl}
 use Rattle.rp_step.proofs.Slots.{filled_faithful, filled_past}
-use Rattle.rp_step.specs.Moment.{state_of}
+use Rattle.rp_access.specs.Moment.{state_of}
 use Rattle.rp_step.proofs.names.fill.Goals as goal
 
 pub returns-then-has_slot-clause-faithful : goal.returns-then-has_slot-clause-faithful

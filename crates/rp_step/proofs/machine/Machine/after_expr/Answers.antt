@@ -20,3 +20,24 @@ returns-in-Power-clause-law c = rw (c.in-Power.is) c.to_power.ensures.law
 
 pub returns-in-Exponent-clause-law : goal.returns-in-Exponent-clause-law
 returns-in-Exponent-clause-law c = rw (c.in-Exponent.is) c.after_exponent.ensures.law
+
+pub returns-in-Tests-clause-law : goal.returns-in-Tests-clause-law
+returns-in-Tests-clause-law c = rw (c.in-Tests.is) c.tests.ensures.law
+
+pub returns-in-Test-clause-law : goal.returns-in-Test-clause-law
+returns-in-Test-clause-law c = rw (c.in-Test.is) c.after_test.ensures.law
+
+pub returns-in-Joined-clause-law : goal.returns-in-Joined-clause-law
+returns-in-Joined-clause-law c = rw (c.in-Joined.is) c.later.ensures.law
+
+pub returns-in-Trailers-clause-law : goal.returns-in-Trailers-clause-law
+returns-in-Trailers-clause-law c = rw (c.in-Trailers.is) c.trailers.ensures.law
+
+pub returns-in-Key-clause-law : goal.returns-in-Key-clause-law
+returns-in-Key-clause-law c = rw (c.in-Key.is) c.after_key.ensures.law
+
+pub returns-in-Items-clause-law : goal.returns-in-Items-clause-law
+returns-in-Items-clause-law c = rw (c.in-Items.is) c.after_item.ensures.law
+
+pub returns-in-Argument-clause-law : goal.returns-in-Argument-clause-law
+returns-in-Argument-clause-law c = rw (c.in-Argument.is) c.after_argument.ensures.law

@@ -5,7 +5,7 @@ use Rattle.rp_ops.specs.Outcome.{gives}
 use Rattle.rp_step.proofs.Doings.{held_as, held_by}
 use Rattle.rp_step.specs.Does as does
 use Rattle.rp_step.specs.Law.{frame_in}
-use Rattle.rp_step.specs.Moment.{state_of}
+use Rattle.rp_access.specs.Moment.{state_of}
 use Rattle.rp_step.specs.Rest.{after_stmt, asserted, did, failed_with, tested_turn}
 use Rattle.rp_frame.specs.declared.task.StmtTask.TheVariants as stmt
 use Rattle.rp_step.proofs.machine.Machine.after_stmt.Goals as goal
@@ -57,3 +57,67 @@ returns-in-Fail-clause-law c =
     held_as m c.fail_with.new.self c.fail_with.new.world c.fail_with.result (λ base. after_stmt c.args.task (frame_in base m) m.values (gives c.args.value (state_of w)))
     (λ base. did (frame_in base m) m.values (failed_with c.args.value (frame_in base m) (state_of w)))
     (λ base. ap (λ t. after_stmt t (frame_in base m) m.values (gives c.args.value (state_of w))) c.in-Fail.is) c.fail_with.ensures.law
+
+pub returns-in-StoreAttr-clause-law : goal.returns-in-StoreAttr-clause-law
+returns-in-StoreAttr-clause-law c =
+    let m = c.args.self.now in
+    let w = c.args.world.now in
+    held_as m c.after_object.new.self c.after_object.new.world c.after_object.result (λ base. after_stmt c.args.task (frame_in base m) m.values (gives c.args.value (state_of w)))
+    (λ base. after_stmt (stmt.StoreAttr c.in-StoreAttr.name) (frame_in base m) m.values (gives c.args.value (state_of w)))
+    (λ base. ap (λ t. after_stmt t (frame_in base m) m.values (gives c.args.value (state_of w))) c.in-StoreAttr.is) c.after_object.ensures.law
+
+pub returns-in-StoreItem-clause-law : goal.returns-in-StoreItem-clause-law
+returns-in-StoreItem-clause-law c =
+    let m = c.args.self.now in
+    let w = c.args.world.now in
+    held_as m c.after_container.new.self c.after_container.new.world c.after_container.result (λ base. after_stmt c.args.task (frame_in base m) m.values (gives c.args.value (state_of w)))
+    (λ base. after_stmt (stmt.StoreItem c.in-StoreItem.key) (frame_in base m) m.values (gives c.args.value (state_of w)))
+    (λ base. ap (λ t. after_stmt t (frame_in base m) m.values (gives c.args.value (state_of w))) c.in-StoreItem.is) c.after_container.ensures.law
+
+pub returns-in-StoreKey-clause-law : goal.returns-in-StoreKey-clause-law
+returns-in-StoreKey-clause-law c =
+    let m = c.args.self.now in
+    let w = c.args.world.now in
+    held_as m c.after_store_key.new.self c.after_store_key.new.world c.after_store_key.result (λ base. after_stmt c.args.task (frame_in base m) m.values (gives c.args.value (state_of w)))
+    (λ base. after_stmt stmt.StoreKey (frame_in base m) m.values (gives c.args.value (state_of w)))
+    (λ base. ap (λ t. after_stmt t (frame_in base m) m.values (gives c.args.value (state_of w))) c.in-StoreKey.is) c.after_store_key.ensures.law
+
+pub returns-in-DeleteAttr-clause-law : goal.returns-in-DeleteAttr-clause-law
+returns-in-DeleteAttr-clause-law c =
+    let m = c.args.self.now in
+    let w = c.args.world.now in
+    held_as m c.del_attribute.new.self c.del_attribute.new.world c.del_attribute.result (λ base. after_stmt c.args.task (frame_in base m) m.values (gives c.args.value (state_of w)))
+    (λ base. after_stmt (stmt.DeleteAttr c.in-DeleteAttr.name) (frame_in base m) m.values (gives c.args.value (state_of w)))
+    (λ base. ap (λ t. after_stmt t (frame_in base m) m.values (gives c.args.value (state_of w))) c.in-DeleteAttr.is) c.del_attribute.ensures.law
+
+pub returns-in-DeleteItem-clause-law : goal.returns-in-DeleteItem-clause-law
+returns-in-DeleteItem-clause-law c =
+    let m = c.args.self.now in
+    let w = c.args.world.now in
+    held_as m c.delete_key.new.self c.delete_key.new.world c.delete_key.result (λ base. after_stmt c.args.task (frame_in base m) m.values (gives c.args.value (state_of w)))
+    (λ base. after_stmt (stmt.DeleteItem c.in-DeleteItem.key) (frame_in base m) m.values (gives c.args.value (state_of w)))
+    (λ base. ap (λ t. after_stmt t (frame_in base m) m.values (gives c.args.value (state_of w))) c.in-DeleteItem.is) c.delete_key.ensures.law
+
+pub returns-in-DeleteKey-clause-law : goal.returns-in-DeleteKey-clause-law
+returns-in-DeleteKey-clause-law c =
+    let m = c.args.self.now in
+    let w = c.args.world.now in
+    held_as m c.after_deleted_key.new.self c.after_deleted_key.new.world c.after_deleted_key.result (λ base. after_stmt c.args.task (frame_in base m) m.values (gives c.args.value (state_of w)))
+    (λ base. after_stmt stmt.DeleteKey (frame_in base m) m.values (gives c.args.value (state_of w)))
+    (λ base. ap (λ t. after_stmt t (frame_in base m) m.values (gives c.args.value (state_of w))) c.in-DeleteKey.is) c.after_deleted_key.ensures.law
+
+pub returns-in-AugmentName-clause-law : goal.returns-in-AugmentName-clause-law
+returns-in-AugmentName-clause-law c =
+    let m = c.args.self.now in
+    let w = c.args.world.now in
+    held_as m c.after_augment.new.self c.after_augment.new.world c.after_augment.result (λ base. after_stmt c.args.task (frame_in base m) m.values (gives c.args.value (state_of w)))
+    (λ base. after_stmt (stmt.AugmentName c.in-AugmentName.name c.in-AugmentName.op) (frame_in base m) m.values (gives c.args.value (state_of w)))
+    (λ base. ap (λ t. after_stmt t (frame_in base m) m.values (gives c.args.value (state_of w))) c.in-AugmentName.is) c.after_augment.ensures.law
+
+pub returns-in-For-clause-law : goal.returns-in-For-clause-law
+returns-in-For-clause-law c =
+    let m = c.args.self.now in
+    let w = c.args.world.now in
+    held_as m c.walk_over.new.self c.walk_over.new.world c.walk_over.result (λ base. after_stmt c.args.task (frame_in base m) m.values (gives c.args.value (state_of w)))
+    (λ base. after_stmt (stmt.For c.in-For.each) (frame_in base m) m.values (gives c.args.value (state_of w)))
+    (λ base. ap (λ t. after_stmt t (frame_in base m) m.values (gives c.args.value (state_of w))) c.in-For.is) c.walk_over.ensures.law

@@ -6,7 +6,7 @@ use Rattle.rp_step.proofs.Steps.{truth_ends, truth_gives}
 use Rattle.rp_step.proofs.Worlds.{IsReady-goes}
 use Rattle.rp_step.specs.Does as does
 use Rattle.rp_step.specs.Law.{frame_in}
-use Rattle.rp_step.specs.Moment.{state_of}
+use Rattle.rp_access.specs.Moment.{state_of}
 use Rattle.rp_step.specs.Rest.{asserted}
 use Rattle.rp_step.proofs.machine.Machine.asserted.Goals as goal
 

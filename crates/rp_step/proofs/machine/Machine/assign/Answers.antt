@@ -4,7 +4,7 @@ use Rattle.rp_step.proofs.Steps.{assign_ends, assign_gives}
 use Rattle.rp_meaning.specs.Statements as forms
 use Rattle.rp_step.specs.Does as does
 use Rattle.rp_step.specs.Law.{frame_in}
-use Rattle.rp_step.specs.Moment.{state_of}
+use Rattle.rp_access.specs.Moment.{state_of}
 use Rattle.rp_step.proofs.machine.Machine.assign.Goals as goal
 
 pub returns-in-Ok-Some-clause-law : goal.returns-in-Ok-Some-clause-law

@@ -3,7 +3,7 @@ use Rattle.rp_meaning.specs.Statements as forms
 use Rattle.rp_step.proofs.Doings.{does_as}
 use Rattle.rp_step.specs.Does as does
 use Rattle.rp_step.specs.Law.{frame_in}
-use Rattle.rp_step.specs.Moment.{state_of}
+use Rattle.rp_access.specs.Moment.{state_of}
 use Rattle.rp_step.specs.Rest.{loop}
 use Rattle.rp_step.proofs.machine.Machine.begin_loop.Goals as goal
 

@@ -8,11 +8,11 @@ use Rattle.rp_tree.specs.declared.stmt.Stmt.{Stmt}
 use Rattle.rp_tree.specs.declared.stmt.StmtForm.TheViews.{out-Branch}
 use Rattle.rp_step.proofs.Doings.{moves_any}
 use Rattle.rp_step.proofs.Equations.{branch_out}
-use Rattle.rp_step.proofs.Lists.{first_rest, none_left}
+use Rattle.rp_access.proofs.Lists.{first_rest, none_left}
 use Rattle.rp_step.proofs.Moves.{on_ok}
 use Rattle.rp_step.specs.Does as does
 use Rattle.rp_step.specs.Law.{Executes, frame_in, rest_of}
-use Rattle.rp_step.specs.Moment.{state_of}
+use Rattle.rp_access.specs.Moment.{state_of}
 use Rattle.rp_step.specs.Rest.{did, rest}
 use Rattle.rp_step.proofs.machine.Machine.choose.Goals as goal
 

@@ -7,12 +7,12 @@ use Rattle.rp_meaning.specs.Statements as forms
 use Rattle.rp_ops.specs.Outcome.{Raises}
 use Rattle.rp_proxy.specs.declared.world.World.{World}
 use Rattle.rp_tree.specs.declared.expr.Expr.{Expr}
-use Rattle.rp_step.proofs.Assertions.{raises_end}
+use Rattle.rp_access.proofs.Going.{raises_end}
 use Rattle.rp_step.proofs.Moves.{on_ok}
-use Rattle.rp_step.specs.Comes.{IsEnd}
+use Rattle.rp_access.specs.Comes.{IsEnd}
 use Rattle.rp_step.specs.Does as does
 use Rattle.rp_step.specs.Law.{Executes, frame_in, rest_of}
-use Rattle.rp_step.specs.Moment.{state_of}
+use Rattle.rp_access.specs.Moment.{state_of}
 use Rattle.rp_step.specs.Rest.{did, rest}
 use Rattle.rp_step.proofs.machine.Machine.fail.Goals as goal
 

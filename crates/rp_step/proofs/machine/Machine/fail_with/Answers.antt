@@ -4,8 +4,8 @@ use Rattle.rp_base.specs.declared.value.OpEnd.TheVariants as end
 use Rattle.rp_ops.specs.Outcome.{raises}
 use Rattle.rp_step.proofs.Assertions.{failed_shown}
 use Rattle.rp_step.proofs.Doings.{does_end}
-use Rattle.rp_step.proofs.Going.{IsEnd-same, IsEnd-then, gives-then}
-use Rattle.rp_step.specs.Moment.{state_of}
+use Rattle.rp_access.proofs.Going.{IsEnd-same, IsEnd-then, gives-then}
+use Rattle.rp_access.specs.Moment.{state_of}
 use Rattle.rp_step.specs.Rest.{failed_with}
 use Rattle.rp_step.proofs.Worlds.{IsReady-goes}
 use Rattle.rp_step.proofs.machine.Machine.fail_with.Goals as goal

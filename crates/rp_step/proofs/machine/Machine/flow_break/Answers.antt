@@ -34,3 +34,10 @@ returns-in-Delete-clause-law c =
     held_any m c.go-in-Delete.new.self c.go-in-Delete.result (λ base s. after_flow c.args.task (frame_in base m) m.values (gives broke s))
     (λ base s. did (frame_in base m) m.values (gives broke s))
     (λ base s. ap (λ t. after_flow t (frame_in base m) m.values (gives broke s)) c.in-Delete.is) c.go-in-Delete.ensures.law
+
+pub returns-in-For-clause-law : goal.returns-in-For-clause-law
+returns-in-For-clause-law c =
+    let m = c.args.self.now in
+    held_any m c.go_without-in-For.new.self c.go_without-in-For.result (λ base s. after_flow c.args.task (frame_in base m) m.values (gives broke s))
+    (λ base s. did (frame_in base m) (below m.values) (gives next s))
+    (λ base s. ap (λ t. after_flow t (frame_in base m) m.values (gives broke s)) c.in-For.is) c.go_without-in-For.ensures.law

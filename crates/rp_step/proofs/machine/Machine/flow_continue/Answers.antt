@@ -4,8 +4,9 @@ use Rattle.rp_meaning.specs.State.{continued}
 use Rattle.rp_ops.specs.Outcome.{gives}
 use Rattle.rp_step.proofs.Doings.{held_as, held_by}
 use Rattle.rp_step.specs.Does as does
+use Rattle.rp_frame.specs.declared.task.FlowTask.TheVariants as flow
 use Rattle.rp_step.specs.Law.{frame_in}
-use Rattle.rp_step.specs.Moment.{state_of}
+use Rattle.rp_access.specs.Moment.{state_of}
 use Rattle.rp_step.specs.Rest.{after_flow, did, loop}
 use Rattle.rp_step.proofs.machine.Machine.flow_continue.Goals as goal
 
@@ -40,3 +41,11 @@ returns-in-Delete-clause-law c =
     held_by m c.go-in-Delete.new.self w c.go-in-Delete.result (λ base. after_flow c.args.task (frame_in base m) m.values (gives continued (state_of w)))
     (λ base. did (frame_in base m) m.values (gives continued (state_of w)))
     (λ base. ap (λ t. after_flow t (frame_in base m) m.values (gives continued (state_of w))) c.in-Delete.is) (λ base. c.go-in-Delete.ensures.law base (state_of w))
+
+pub returns-in-For-clause-law : goal.returns-in-For-clause-law
+returns-in-For-clause-law c =
+    let m = c.args.self.now in
+    let w = c.args.world.now in
+    held_as m c.walk_on.new.self c.walk_on.new.world c.walk_on.result (λ base. after_flow c.args.task (frame_in base m) m.values (gives continued (state_of w)))
+    (λ base. after_flow (flow.For c.in-For.turns c.in-For.spot c.in-For.each) (frame_in base m) m.values (gives continued (state_of w)))
+    (λ base. ap (λ t. after_flow t (frame_in base m) m.values (gives continued (state_of w))) c.in-For.is) c.walk_on.ensures.law

@@ -7,8 +7,9 @@ use Rattle.rp_proxy.specs.declared.world.World.{World}
 use Rattle.rp_step.proofs.Doings.{held_as}
 use Rattle.rp_step.proofs.Moves.{on_ok}
 use Rattle.rp_step.specs.Does as does
+use Rattle.rp_frame.specs.declared.task.FlowTask.TheVariants as flow
 use Rattle.rp_step.specs.Law.{Executes, frame_in}
-use Rattle.rp_step.specs.Moment.{state_of}
+use Rattle.rp_access.specs.Moment.{state_of}
 use Rattle.rp_step.specs.Rest.{after_flow, did, loop}
 use Rattle.rp_step.proofs.machine.Machine.flow_next.Goals as goal
 
@@ -43,3 +44,11 @@ returns-in-Delete-clause-law c =
     held_as m c.delete_all.new.self c.delete_all.new.world c.delete_all.result (λ base. after_flow c.args.task (frame_in base m) m.values (gives next (state_of w)))
     (λ base. did (frame_in base m) m.values (does.deletes c.in-Delete.places.now (frame_in base m) (state_of w)))
     (λ base. ap (λ t. after_flow t (frame_in base m) m.values (gives next (state_of w))) c.in-Delete.is) c.delete_all.ensures.law
+
+pub returns-in-For-clause-law : goal.returns-in-For-clause-law
+returns-in-For-clause-law c =
+    let m = c.args.self.now in
+    let w = c.args.world.now in
+    held_as m c.walk_on.new.self c.walk_on.new.world c.walk_on.result (λ base. after_flow c.args.task (frame_in base m) m.values (gives next (state_of w)))
+    (λ base. after_flow (flow.For c.in-For.turns c.in-For.spot c.in-For.each) (frame_in base m) m.values (gives next (state_of w)))
+    (λ base. ap (λ t. after_flow t (frame_in base m) m.values (gives next (state_of w))) c.in-For.is) c.walk_on.ensures.law

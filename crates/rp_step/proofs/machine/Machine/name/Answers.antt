@@ -1,7 +1,7 @@
-use Rattle.rp_step.proofs.Going.{Comes-same, gives-then}
+use Rattle.rp_access.proofs.Going.{Comes-same, gives-then}
 use Rattle.rp_step.specs.Law.{frame_in}
 use Rattle.rp_meaning.specs.Frame.{read_name}
-use Rattle.rp_step.specs.Moment.{state_of}
+use Rattle.rp_access.specs.Moment.{state_of}
 use Rattle.rp_step.proofs.machine.Machine.name.Goals as goal
 
 pub returns-clause-law : goal.returns-clause-law

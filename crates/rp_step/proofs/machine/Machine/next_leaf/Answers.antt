@@ -1,12 +1,12 @@
 use Rattle.std.proofs.Common.{◌≡◌, Err, rules, ◌∙◌, ap, sym}
 use Rattle.rp_ops.specs.Outcome.{gives}
-use Rattle.rp_step.proofs.Known.{ComesIfAny-same}
-use Rattle.rp_step.proofs.Going.{gives-then, IsEnd-then}
+use Rattle.rp_access.proofs.Known.{ComesIfAny-same}
+use Rattle.rp_access.proofs.Going.{gives-then, IsEnd-then}
 use Rattle.rp_step.proofs.Worlds.{IsReady-stored}
 use Rattle.rp_step.specs.Does as does
 use Rattle.rp_step.specs.Law.{frame_in}
-use Rattle.rp_step.specs.Moment.{state_of}
-use Rattle.rp_step.specs.Parts.{step_end}
+use Rattle.rp_access.specs.Moment.{state_of}
+use Rattle.rp_access.specs.Parts.{step_end}
 use Rattle.rp_step.proofs.machine.Machine.next_leaf.Goals as goal
 
 pub returns-in_err-take_step-clause-law : goal.returns-in_err-take_step-clause-law

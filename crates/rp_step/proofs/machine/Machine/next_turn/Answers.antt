@@ -3,7 +3,7 @@ use Rattle.rp_step.proofs.Doings.{pushed}
 use Rattle.rp_step.proofs.Loops.{loop_unrolled}
 use Rattle.rp_step.specs.Does as does
 use Rattle.rp_step.specs.Law.{frame_in}
-use Rattle.rp_step.specs.Moment.{state_of}
+use Rattle.rp_access.specs.Moment.{state_of}
 use Rattle.rp_step.specs.Rest.{did, loop, turn}
 use Rattle.rp_step.proofs.machine.Machine.next_turn.Goals as goal
 

@@ -2,11 +2,11 @@ use Rattle.std.proofs.Common.{sym, ap, ◌∙◌}
 use Rattle.rp_meaning.specs.State.{stepped}
 use Rattle.rp_step.proofs.Doings.{does_as, does_end}
 use Rattle.rp_step.proofs.Equations.{stmt_out}
-use Rattle.rp_step.proofs.Going.{IsEnd-same}
+use Rattle.rp_access.proofs.Going.{IsEnd-same}
 use Rattle.rp_step.proofs.Steps.{stepped_ends, stepped_gives}
 use Rattle.rp_step.specs.Does as does
 use Rattle.rp_step.specs.Law.{frame_in}
-use Rattle.rp_step.specs.Moment.{state_of}
+use Rattle.rp_access.specs.Moment.{state_of}
 use Rattle.rp_tree.specs.declared.stmt.StmtForm.{StmtForm}
 use Rattle.rp_tree.specs.declared.stmt.StmtForm.TheViews.{out-Stmt}
 use Rattle.rp_step.proofs.machine.Machine.statement.Goals as goal

@@ -3,6 +3,7 @@ use Rattle.rp_meaning.specs.State.{broke, continued, next}
 use Rattle.rp_meaning.specs.Statements as forms
 use Rattle.rp_step.proofs.Doings.{does_any, does_goes, does_moves}
 use Rattle.rp_step.proofs.Equations.{stmt_assert, stmt_assign, stmt_break, stmt_continue, stmt_del, stmt_expr, stmt_global, stmt_if, stmt_pass, stmt_while}
+use Rattle.rp_step.proofs.PlaceEquations.{stmt_aug, stmt_for}
 use Rattle.rp_step.specs.Does as does
 use Rattle.rp_step.proofs.machine.Machine.stmt_form.Goals as goal
 
@@ -65,3 +66,9 @@ returns-in-Assert-clause-law c =
     does_goes m c.wait-in-Assert.new.self w w c.wait-in-Assert.result (does.stmt_form c.args.form.now)
     (forms.assert (does.expr c.in-Assert.test) (does.maybe c.in-Assert.message))
     (λ base. rw (c.in-Assert.is, stmt_assert c.in-Assert.test c.in-Assert.message) refl) c.wait-in-Assert.ensures.law
+
+pub returns-in-Aug-clause-law : goal.returns-in-Aug-clause-law
+returns-in-Aug-clause-law c = rw (c.in-Aug.is, stmt_aug) c.augmented.ensures.law
+
+pub returns-in-For-clause-law : goal.returns-in-For-clause-law
+returns-in-For-clause-law c = rw (c.in-For.is, stmt_for, sym c.deref-in-For.ensures.value) c.for_each.ensures.law

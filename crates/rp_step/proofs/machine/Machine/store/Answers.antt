@@ -4,6 +4,7 @@ use Rattle.rp_meaning.specs.Statements as forms
 use Rattle.rp_ops.specs.Outcome.{gives}
 use Rattle.rp_step.proofs.Doings.{does_moves}
 use Rattle.rp_step.proofs.Equations.{place_name}
+use Rattle.rp_step.proofs.PlaceEquations.{place_attr, place_item}
 use Rattle.rp_step.proofs.Worlds.{IsReady-goes}
 use Rattle.rp_step.specs.Does as does
 use Rattle.rp_step.proofs.machine.Machine.store.Goals as goal
@@ -16,3 +17,9 @@ returns-in-Name-clause-law c =
 pub returns-in-Name-clause-ready : goal.returns-in-Name-clause-ready
 returns-in-Name-clause-ready c =
     c.go.ensures.ready c.bind.new.world (IsReady-goes _ _ _ c.args.world.now c.bind.new.world c.requires.ready c.bind.ensures.shape c.bind.ensures.faithful)
+
+pub returns-in-Attr-clause-law : goal.returns-in-Attr-clause-law
+returns-in-Attr-clause-law c = rw (c.in-Attr.is, place_attr) c.store_attribute.ensures.law
+
+pub returns-in-Item-clause-law : goal.returns-in-Item-clause-law
+returns-in-Item-clause-law c = rw (c.in-Item.is, place_item) c.store_item.ensures.law

@@ -3,11 +3,11 @@ use Rattle.rp_meaning.specs.State.{next}
 use Rattle.rp_meaning.specs.Statements as forms
 use Rattle.rp_tree.specs.declared.expr.Place.{Place}
 use Rattle.rp_step.proofs.Doings.{does_as, does_moves}
-use Rattle.rp_step.proofs.Lists.{first_rest, none_left, only_first}
+use Rattle.rp_access.proofs.Lists.{first_rest, none_left, only_first}
 use Rattle.rp_step.proofs.Steps.{on_done}
 use Rattle.rp_step.specs.Does as does
 use Rattle.rp_step.specs.Law.{frame_in}
-use Rattle.rp_step.specs.Moment.{state_of}
+use Rattle.rp_access.specs.Moment.{state_of}
 use Rattle.rp_step.proofs.machine.Machine.store_all.Goals as goal
 
 pub returns-in-len1-clause-law : goal.returns-in-len1-clause-law

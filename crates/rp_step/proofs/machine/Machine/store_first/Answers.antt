@@ -5,7 +5,7 @@ use Rattle.rp_meaning.specs.Statements as forms
 use Rattle.rp_step.proofs.Doings.{pushed_with}
 use Rattle.rp_step.specs.Does as does
 use Rattle.rp_step.specs.Law.{frame_in}
-use Rattle.rp_step.specs.Moment.{state_of}
+use Rattle.rp_access.specs.Moment.{state_of}
 use Rattle.rp_step.specs.Rest.{did}
 use Rattle.rp_step.proofs.machine.Machine.store_first.Goals as goal
 

@@ -7,7 +7,7 @@ use Rattle.rp_step.proofs.AtHand.{below_ready}
 use Rattle.rp_step.proofs.Doings.{held_as}
 use Rattle.rp_step.specs.Does as does
 use Rattle.rp_step.specs.Law.{frame_in}
-use Rattle.rp_step.specs.Moment.{state_of}
+use Rattle.rp_access.specs.Moment.{state_of}
 use Rattle.rp_step.specs.Ready.{IsReady}
 use Rattle.rp_step.specs.Rest.{did}
 use Rattle.rp_step.proofs.machine.Machine.store_more.Goals as goal

@@ -7,9 +7,9 @@ use Rattle.rp_ops.specs.Outcome.{ends, gives}
 use Rattle.rp_proxy.specs.declared.world.World.{World}
 use Rattle.rp_step.proofs.Doings.{held_as}
 use Rattle.rp_step.proofs.Moves.{on_ok}
-use Rattle.rp_step.specs.Comes.{end_of}
+use Rattle.rp_step.specs.Ends.{end_of}
 use Rattle.rp_step.specs.Law.{Takes, TakesUp, frame_in, rest_of}
-use Rattle.rp_step.specs.Moment.{state_of}
+use Rattle.rp_access.specs.Moment.{state_of}
 use Rattle.rp_step.specs.Rest.{after, begun, did, gave, rest}
 use Rattle.rp_step.proofs.machine.Machine.take_up.Goals as goal
 

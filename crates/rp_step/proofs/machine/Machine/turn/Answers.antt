@@ -1,11 +1,11 @@
 use Rattle.std.proofs.Common.{Ok, ap, sym, ◌∙◌}
 use Rattle.rp_ops.specs.Outcome.{on_value}
 use Rattle.rp_step.proofs.Doings.{does_as, does_end, does_goes}
-use Rattle.rp_step.proofs.Going.{IsEnd-then}
+use Rattle.rp_access.proofs.Going.{IsEnd-then}
 use Rattle.rp_step.proofs.Steps.{turn_ends, turn_gives, turn_stepped}
 use Rattle.rp_step.specs.Does as does
 use Rattle.rp_step.specs.Law.{frame_in}
-use Rattle.rp_step.specs.Moment.{state_of}
+use Rattle.rp_access.specs.Moment.{state_of}
 use Rattle.rp_step.specs.Rest.{tested_turn, turn}
 use Rattle.rp_step.proofs.machine.Machine.turn.Goals as goal
 

@@ -1,8 +1,8 @@
 use Rattle.rp_step.proofs.Answering.{answer_ok}
 use Rattle.rp_step.proofs.Operands.{unary_is}
 use Rattle.rp_step.proofs.Worlds.{IsReady-goes}
-use Rattle.rp_step.proofs.Going.{Comes-same}
-use Rattle.rp_step.specs.Moment.{state_of}
+use Rattle.rp_access.proofs.Going.{Comes-same}
+use Rattle.rp_access.specs.Moment.{state_of}
 use Rattle.rp_meaning.specs.Operators.{operate_unary}
 use Rattle.rp_step.proofs.machine.Machine.unary_of.Goals as goal
 

@@ -3,12 +3,12 @@ use Rattle.std.specs.Prelude.{is_some}
 use Rattle.rp_meaning.specs.Scopes.{held, with_slot_set}
 use Rattle.rp_meaning.specs.State.{next}
 use Rattle.rp_ops.specs.Outcome.{gives}
-use Rattle.rp_step.proofs.Going.{IsEnd-same}
+use Rattle.rp_access.proofs.Going.{IsEnd-same}
 use Rattle.rp_step.proofs.Unbinding.{bound, unbound}
 use Rattle.rp_step.specs.Law.{frame_in}
-use Rattle.rp_step.specs.Moment.{place_view, program_at, state_of}
-use Rattle.rp_step.specs.Parts.{unbound_at}
-use Rattle.rp_step.specs.Slots.{slot_found}
+use Rattle.rp_step.specs.Moment.{place_view, program_at}
+use Rattle.rp_access.specs.Moment.{state_of}
+use Rattle.rp_step.specs.Slots.{slot_found, unbound_at}
 use Rattle.rp_step.proofs.machine.Machine.unbind.Goals as goal
 
 pub returns-then-is_bound-clause-law : goal.returns-then-is_bound-clause-law

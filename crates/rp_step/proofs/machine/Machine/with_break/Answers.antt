@@ -7,7 +7,7 @@ use Rattle.rp_proxy.specs.declared.world.World.{World}
 use Rattle.rp_step.proofs.Doings.{always}
 use Rattle.rp_step.proofs.Moves.{on_ok}
 use Rattle.rp_step.specs.Law.{TakesUp, frame_in, rest_of}
-use Rattle.rp_step.specs.Moment.{state_of}
+use Rattle.rp_access.specs.Moment.{state_of}
 use Rattle.rp_step.specs.Rest.{after, after_flow, did, rest}
 use Rattle.rp_step.proofs.machine.Machine.with_break.Goals as goal
 

@@ -3,7 +3,7 @@ use Rattle.rp_frame.specs.declared.control.Control.TheVariants as control
 use Rattle.rp_ops.specs.Outcome.{ends}
 use Rattle.rp_step.proofs.Doings.{held_any}
 use Rattle.rp_step.proofs.Passing.{did_cut, forgot, ready_forgot}
-use Rattle.rp_step.specs.Comes.{end_of}
+use Rattle.rp_step.specs.Ends.{end_of}
 use Rattle.rp_step.specs.Law.{frame_in}
 use Rattle.rp_step.specs.Rest.{after, did}
 use Rattle.rp_step.proofs.machine.Machine.with_cut.Goals as goal

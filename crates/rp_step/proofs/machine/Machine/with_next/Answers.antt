@@ -3,7 +3,7 @@ use Rattle.rp_meaning.specs.State.{next}
 use Rattle.rp_ops.specs.Outcome.{gives}
 use Rattle.rp_step.proofs.Doings.{held_as, held_by}
 use Rattle.rp_step.specs.Law.{frame_in}
-use Rattle.rp_step.specs.Moment.{state_of}
+use Rattle.rp_access.specs.Moment.{state_of}
 use Rattle.rp_step.specs.Rest.{after, after_flow, did}
 use Rattle.rp_step.proofs.machine.Machine.with_next.Goals as goal
 

@@ -1,0 +1,20 @@
+mod Asked
+mod Changed
+mod Decided
+mod Exposed
+mod FunctionLaws
+pub mod Going
+mod Growing
+mod Inplaces
+mod KindNames
+pub mod Known
+mod Letters
+pub mod Lists
+mod Naming
+pub mod Namings
+mod NativeCalls
+mod ObjectCalls
+mod Operands
+mod Printing
+mod Walked
+pub mod Worlds

@@ -1,0 +1,28 @@
+use Rattle.std.proofs.Common.{◌≡◌, Err, sym, ap, ◌∙◌, rules}
+use Rattle.rp_base.specs.declared.word.TheConstants.{GET_ITEM}
+use Rattle.rp_proxy.specs.Taken.{taken}
+use Rattle.rp_access.proofs.Decided.{item_ends, item_gives}
+use Rattle.rp_access.proofs.Going.{IsEnd-then}
+use Rattle.rp_access.specs.Moment.{state_of}
+use Rattle.rp_access.specs.Parts.{asking}
+use Rattle.rp_access.proofs.access.get_item.Goals as goal
+
+pub returns-then-has_method-clause-special : goal.returns-then-has_method-clause-special
+returns-then-has_method-clause-special c = (c.in_ok-ask.ensures.law, sym c.has_method.ensures.known ∙ c.if-has_method.true)
+
+pub returns-in_err-ask-clause-law : goal.returns-in_err-ask-clause-law
+returns-in_err-ask-clause-law c =
+    let e : c.from_residual.result ≡ Err c.in_err-ask.field-0.0 = search rules in
+    λ call. rw e (IsEnd-then c.in_err-ask.field-0.0 (state_of c.ask.new.world) (asking GET_ITEM c.args.o.now (state_of c.args.world.now)) _ c.in_err-ask.ensures.law)
+
+pub returns-in_err-value-clause-law : goal.returns-in_err-value-clause-law
+returns-in_err-value-clause-law c =
+    let e : c.from_residual-in_err-value.result ≡ Err c.in_err-value.field-0.0 = search rules in
+    λ call. rw e (item_ends call c.args.side c.args.o.now c.args.key.now (state_of c.args.world.now) (state_of c.ask.new.world)
+    c.in_ok-ask.ensures.law (c.has_method.ensures.none c.if-has_method.false) c.in_err-value.field-0.0 (state_of c.item.new.world) c.in_err-value.ensures.law)
+
+pub returns-clause-law : goal.returns-clause-law
+returns-clause-law c = λ call.
+    item_gives call c.args.side c.args.o.now c.args.key.now (state_of c.args.world.now) (state_of c.ask.new.world)
+    c.in_ok-ask.ensures.law (c.has_method.ensures.none c.if-has_method.false) c.in_ok-value.value c.taken.result (state_of c.item.new.world) c.in_ok-value.ensures.law
+    (c.taken.ensures.value ∙ ap (taken c.item.new.world.store.heap c.args.side) c.through.ensures)

@@ -1,0 +1,12 @@
+pub mod CallSteps
+pub mod Callees
+pub mod Calling
+pub mod Changes
+pub mod Comes
+pub mod Comparisons
+pub mod Moment
+pub mod Natives
+pub mod Parts
+pub mod Reading
+pub mod Rocks
+pub mod Spots

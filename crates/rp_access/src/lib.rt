@@ -1,0 +1,29 @@
+//! Operations on values behind their access decisions (zope.security, checkers and proxies).
+#![tactic(auto)]
+
+mod access;
+mod augmenting;
+mod callees;
+mod calls;
+mod changing;
+mod comparing;
+mod deciding;
+mod functions;
+mod global_names;
+mod methods;
+mod operating;
+mod showing;
+mod stepping;
+mod walking;
+
+pub use access::{get_attribute, get_item};
+pub use augmenting::augment;
+pub use calls::call;
+pub use changing::{Change, del_attribute, del_item, set_attribute, set_item};
+pub use comparing::holds;
+pub use deciding::truth;
+pub use global_names::elsewhere;
+pub use operating::{operate, operate_unary};
+pub use showing::text_of;
+pub use stepping::take_step;
+pub use walking::{next_element, walk};

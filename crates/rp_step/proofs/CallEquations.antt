@@ -1,0 +1,26 @@
+-- What calls of the program's trees do, level by level.
+use Rattle.std.proofs.Common.{◌≡◌, List, [], ◌∷◌, map, Option, Vec, Global, refl, ap, ◌∙◌}
+use Rattle.rp_tree.specs.declared.parts.Guard.{Guard}
+use Rattle.rp_tree.specs.declared.expr.Arg.{Arg}
+use Rattle.rp_tree.specs.declared.expr.Arg.TheVariants as arg
+use Rattle.rp_tree.specs.declared.expr.Expr.{Expr}
+use Rattle.rp_tree.specs.declared.expr.Trailer.TheVariants as trailer
+use Rattle.rp_tree.specs.ExpressionViews.{view_arg, args_of}
+use Rattle.rp_tree.proofs.ExpressionEquations as v
+use Rattle.rp_meaning.specs.Calls.{plain_argument}
+use Rattle.rp_meaning.specs.Expressions as e
+use Rattle.rp_meaning.specs.Meaning as m
+use Rattle.rp_step.specs.Does as does
+
+args_are : (xs : List Arg) → m.args (args_of (map view_arg xs)) ≡ does.args xs
+unfolding does.arg
+args_are [] = refl
+args_are (x ∷ xs) = ap (λ ms. m.arg (view_arg x) ∷ ms) (args_are xs)
+
+pub trailer_call : (xs : Vec Arg Global) (g : Option Guard) → does.trailer (trailer.Call xs g) ≡ e.call (does.args xs.items)
+unfolding does.trailer
+trailer_call xs g = ap m.trailer (v.trailer_call xs g) ∙ ap e.call (args_are xs.items)
+
+pub arg_plain : (x : Expr) → does.arg (arg.Plain x) ≡ plain_argument (does.expr x)
+unfolding does.arg does.expr
+arg_plain x = ap m.arg (v.arg_plain x)

@@ -1,9 +1,0 @@
-use Rattle.std.proofs.Common.{◌∙◌, ap, ℕ, List, chars}
-use Rattle.rp_base.specs.Same.{same_text}
-use Rattle.rp_base.proofs.Words.{same_text-bytes}
-use Rattle.rp_step.proofs.elsewhere.is_word_of.Goals as goal
-
-pub returns : goal.returns
-returns c =
-    c.eq.ensures ∙ same_text-bytes c.args.word.now c.word.result.now c.utf8.word c.word.utf8
-    ∙ ap (λ (text : List ℕ). same_text (chars c.args.word.now) text) c.word.ensures

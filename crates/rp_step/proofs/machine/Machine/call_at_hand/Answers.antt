@@ -1,0 +1,25 @@
+use Rattle.rp_step.proofs.Callings.{call_ends, call_gives}
+use Rattle.rp_step.proofs.Worlds.{IsReady-goes}
+use Rattle.rp_step.specs.Does as does
+use Rattle.rp_step.proofs.machine.Machine.call_at_hand.Goals as goal
+
+pub returns-in-Ok-Some-clause-law : goal.returns-in-Ok-Some-clause-law
+returns-in-Ok-Some-clause-law c =
+    let found = rw c.in-Ok-Some.field-0-is at c.in-Ok-Some.ensures.law in
+    call_gives c.args.self.now c.with_result.new.self c.args.world.now c.called.new.world c.with_result.result c.args.count (does.trailers c.args.rest.now) c.in-Ok-Some.value found c.with_result.ensures.law
+
+pub returns-in-Err-clause-law : goal.returns-in-Err-clause-law
+returns-in-Err-clause-law c =
+    call_ends c.args.self.now c.without_result.new.self c.args.world.now c.called.new.world c.without_result.result c.args.count (does.trailers c.args.rest.now) c.in-Err.end c.in-Err.ensures.law c.without_result.ensures.law
+
+pub returns-in-Ok-Some-clause-ready : goal.returns-in-Ok-Some-clause-ready
+returns-in-Ok-Some-clause-ready c =
+    c.with_result.ensures.ready c.called.new.world (IsReady-goes _ _ _ c.args.world.now c.called.new.world c.requires.ready c.called.ensures.shape c.called.ensures.faithful)
+    (rw c.in-Ok-Some.field-0-is at c.in-Ok-Some.ensures.fit)
+
+pub returns-in-Err-clause-ready : goal.returns-in-Err-clause-ready
+returns-in-Err-clause-ready c =
+    c.without_result.ensures.ready c.called.new.world (IsReady-goes _ _ _ c.args.world.now c.called.new.world c.requires.ready c.called.ensures.shape c.called.ensures.faithful)
+
+pub returns-in-Ok-None-clause-ready : goal.returns-in-Ok-None-clause-ready
+returns-in-Ok-None-clause-ready c = IsReady-goes _ _ _ c.args.world.now c.called.new.world c.requires.ready c.called.ensures.shape c.called.ensures.faithful

@@ -1,0 +1,21 @@
+use Rattle.std.proofs.Common.{sym}
+use Rattle.rp_step.proofs.FormEquations.{form_and, form_compare, form_list, form_or, form_primary, form_tuple}
+use Rattle.rp_step.proofs.machine.Machine.other_form.Goals as goal
+
+pub returns-in-Compare-clause-law : goal.returns-in-Compare-clause-law
+returns-in-Compare-clause-law c = rw (c.in-Compare.is, form_compare, sym c.deref.ensures.value) c.comparison.ensures.law
+
+pub returns-in-Or-clause-law : goal.returns-in-Or-clause-law
+returns-in-Or-clause-law c = rw (c.in-Or.is, form_or, sym c.deref-in-Or.ensures.value) c.joined.ensures.law
+
+pub returns-in-And-clause-law : goal.returns-in-And-clause-law
+returns-in-And-clause-law c = rw (c.in-And.is, form_and, sym c.deref-in-And.ensures.value) c.joined-in-And.ensures.law
+
+pub returns-in-Primary-clause-law : goal.returns-in-Primary-clause-law
+returns-in-Primary-clause-law c = rw (c.in-Primary.is, form_primary, sym c.deref-in-Primary.ensures.value) c.primary.ensures.law
+
+pub returns-in-Tuple-clause-law : goal.returns-in-Tuple-clause-law
+returns-in-Tuple-clause-law c = rw (c.in-Tuple.is, form_tuple, sym c.deref-in-Tuple.ensures.value) c.display.ensures.law
+
+pub returns-in-List-clause-law : goal.returns-in-List-clause-law
+returns-in-List-clause-law c = rw (c.in-List.is, form_list, sym c.deref-in-List.ensures.value) c.display-in-List.ensures.law
