@@ -1,0 +1,27 @@
+use Rattle.std.proofs.Common.{◌≡◌, ◌<◌, ◌+◌, ◌∙◌, ap, sym, length, arith}
+use Rattle.rp_meaning.specs.Frame.{Run}
+use Rattle.rp_meaning.specs.Sessions.{count}
+use Rattle.rp_step.specs.Moment.{program_at, run_of}
+use Rattle.rp_step.specs.declared.units.Program.{Program}
+use Rattle.rp_session.specs.View.{sessions_view}
+use Rattle.rp_session.proofs.Scripts.{count-of}
+use Rattle.rp_session.proofs.Turning.{finished-step, first-of}
+use Rattle.rp_session.proofs.sessions.Sessions.finish.Goals as goal
+
+pub loop-place-preserved : goal.loop-place-preserved
+loop-place-preserved c =
+    let list = c.args.self.now.list in
+    let total = list.ok.0 in
+    let within : c.loop-place.place < length list.items = omega arith in
+    let program = program_at c.args.units.now (record { 0 = c.loop-place.place + 1 }) in
+    let statements : (base : Run) → count ((run_of base c.args.units.now).programs (record { 0 = c.loop-place.place + 1 })).body ≡ c.len-statements.result = λ base.
+    count-of program.tree.body.items ∙ ap (λ (p : Program). length p.tree.body.items) (sym c.program.ensures)
+    ∙ sym c.program.result.now.tree.body.ok.0 ∙ sym c.len-statements.ensures in
+    record {
+      ready = c.in_ok-turns_of.ensures.ready;
+      count = c.in_ok-turns_of.ensures.count ∙ c.loop-place.invariant.count;
+      left = λ base.
+          finished-step (run_of base c.args.units.now) list.items c.loop-place.place c.len-statements.result (first-of list.items (omega arith))
+          (sessions_view c.loop-place.self) (sessions_view c.turns_of.new.self) c.requires.ready.numbered within (statements base)
+          (c.in_ok-turns_of.ensures.turns base) ∙ c.loop-place.invariant.left base;
+    }

@@ -1,0 +1,14 @@
+use Rattle.std.proofs.Common.{◌∙◌}
+use Rattle.rp_step.specs.Moment.{run_of}
+use Rattle.rp_session.specs.View.{sessions_view}
+use Rattle.rp_session.proofs.Turning.{turns-step}
+use Rattle.rp_session.proofs.sessions.Sessions.turns.Goals as goal
+
+pub loop-number-preserved : goal.loop-number-preserved
+loop-number-preserved c = record {
+  ready = c.in_ok-turn.ensures.ready;
+  count = c.in_ok-turn.ensures.count ∙ c.loop-number.invariant.count;
+  left = λ base.
+      turns-step (run_of base c.args.units.now) c.args.listed.now c.loop-number.number-index _ (sessions_view c.loop-number.self) (sessions_view c.turn.new.self)
+      c.loop-number-test.true (c.in_ok-turn.ensures.turn base) ∙ c.loop-number.invariant.left base;
+}

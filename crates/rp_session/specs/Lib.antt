@@ -1,0 +1,4 @@
+pub mod View
+pub mod Ready
+pub mod Turns
+pub mod Begun

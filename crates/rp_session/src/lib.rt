@@ -1,0 +1,11 @@
+//! Sessions that take turns over one store.
+#![tactic(auto)]
+
+mod session;
+mod session_end;
+mod sessions;
+mod statement;
+
+pub use session::Session;
+pub use session_end::SessionEnd;
+pub use sessions::Sessions;

@@ -1,0 +1,13 @@
+//! Tests of the machine: scripts over declared objects, with what they print, how they end, and every decision.
+#![tactic(auto)]
+
+#[cfg(test)]
+mod flow_tests;
+#[cfg(test)]
+mod plain_tests;
+#[cfg(test)]
+mod policy_tests;
+#[cfg(test)]
+mod ran;
+#[cfg(test)]
+mod value_tests;

@@ -1,0 +1,10 @@
+//! Scripts set up to run by the machine, for crates of tests and of loops that are timed: over declarations, for
+//! principals, within limits.
+#![tactic(auto)]
+
+mod programs;
+mod stage;
+mod words;
+
+pub use stage::{Setting, Stage, set};
+pub use words::Words;

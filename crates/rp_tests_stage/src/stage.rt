@@ -1,0 +1,140 @@
+//! A script that is ready to run.
+
+ghost use Rattle.std.specs.Prelude.{◌≡◌, ℕ, List, IfOk, IfSome, length};
+ghost use Rattle.rp_base.specs.Names.{first_words};
+ghost use Rattle.rp_decl.specs.Consistency.{IsConsistent};
+ghost use Rattle.rp_decl.specs.InOrder.{AreInOrder};
+ghost use Rattle.rp_decl.specs.Places.{GrowsTo, IsHeldBy};
+ghost use Rattle.rp_decl.specs.View.{declarations_view};
+ghost use Rattle.rp_interact.specs.Answers.{AnswersAs};
+ghost use Rattle.rp_proxy.specs.Faithful.{IsFaithful};
+ghost use Rattle.rp_session.specs.Ready.{AreLaidOut};
+ghost use Rattle.rp_tests_stage.specs.Staged.{IsStaged};
+
+use crate::programs::units_of;
+use crate::words::Words;
+use rp_base::{Memory, Meter, Names, Printed, Text};
+use rp_decl::{Decl, declarations};
+use rp_interact::Interaction;
+use rp_proxy::{Running, World};
+use rp_session::Sessions;
+use rp_step::Units;
+use rp_tests_cases::seed;
+use rp_world::load;
+use std::alloc::Global;
+
+/// Over which declarations a script runs, for which principals, whose ids stand between blanks, and how many steps it
+/// may take and cells it may use.
+#[derive(Clone, Copy)]
+pub struct Setting<'a> {
+    pub declarations: &'a str,
+    pub who: &'a str,
+    pub steps: u64,
+    pub cells: u64,
+}
+
+/// A script that is ready to run as session 1.
+#[derive(Drop)]
+pub struct Stage {
+    pub units: Units,
+    pub sessions: Sessions,
+    pub words: Words,
+}
+
+/// Sets a script up. None where declarations, script or ids are refused.
+///
+/// # Errors
+/// `Memory` where a growth was refused.
+pub fn set(alloc: Global, setting: Setting<'_>, script: &str) -> Result<Option<Stage>, Memory>
+    ensures { IfOk result (λ o. IfSome o IsStaged) }
+{
+    let mut names = Names::new(alloc, seed())?;
+    let Some(decl) = declared(alloc, setting.declarations, &mut names)? else {
+        return Ok(None);
+    };
+    let Some(units) = units_of(alloc, &decl, script, &mut names)? else {
+        return Ok(None);
+    };
+    staged(alloc, decl, names, units, setting)
+}
+
+/// The declarations, which are read into names.
+fn declared(alloc: Global, text: &str, names: &mut Names) -> Result<Option<Decl>, Memory>
+    ensures held { IfOk result (λ o. IfSome o (IsHeldBy names.new)) }
+    ensures consistent { IfOk result (λ o. IfSome o (λ d. IsConsistent (declarations_view names.new d))) }
+    ensures ordered { IfOk result (λ o. IfSome o (λ d. AreInOrder (declarations_view names.new d))) }
+    ensures grown { GrowsTo names.old names.new }
+{
+    match declarations(alloc, text.as_bytes(), names) {
+        Ok(decl) => Ok(Some(decl)),
+        Err(_) => Ok(None),
+    }
+}
+
+/// What the principals of these ids are granted and denied.
+fn principals(alloc: Global, decl: &Decl, who: &str) -> Result<Option<Interaction>, Memory>
+    ensures grants { IfOk result (λ o. IfSome o (λ i. (names : List (List ℕ)) →
+        AreInOrder (declarations_view names decl.now) → AnswersAs names decl.now i)) }
+{
+    let mut ids = Vec::new(alloc);
+    for id in who.split_whitespace() {
+        ids.push(Text::new(alloc, id)?)?;
+    }
+    Ok(Interaction::new(alloc, decl, ids.as_slice()).ok())
+}
+
+/// The world of declarations without a module, with nobody in it.
+fn world_of(alloc: Global, decl: Decl, names: Names, cells: u64) -> Result<Option<World>, Memory>
+    requires first { GrowsTo first_words names }
+    requires held { IsHeldBy names decl }
+    requires consistent { IsConsistent (declarations_view names decl) }
+    requires ordered { AreInOrder (declarations_view names decl) }
+    ensures faithful { IfOk result (λ o. IfSome o IsFaithful) }
+    ensures decl { IfOk result (λ o. IfSome o (λ w. w.decl ≡ decl)) }
+    ensures names { IfOk result (λ o. IfSome o (λ w. w.names ≡ names)) }
+{
+    if !decl.module().as_str().is_empty() {
+        return Ok(None);
+    }
+    let Some(nobody) = principals(alloc, &decl, "")? else {
+        return Ok(None);
+    };
+    let running = Running {
+        session: 0,
+        interaction: nobody,
+        meter: Meter { left: 0 },
+        printed: Printed::new(alloc),
+    };
+    Ok(load(alloc, decl, names, cells, running).ok())
+}
+
+/// The script of some programs, as session 1 over declarations that were read into the names.
+fn staged(
+    alloc: Global,
+    decl: Decl,
+    names: Names,
+    units: Units,
+    setting: Setting<'_>,
+) -> Result<Option<Stage>, Memory>
+    requires first { GrowsTo first_words names }
+    requires held { IsHeldBy names decl }
+    requires consistent { IsConsistent (declarations_view names decl) }
+    requires ordered { AreInOrder (declarations_view names decl) }
+    requires laid { AreLaidOut units }
+    ensures { IfOk result (λ o. IfSome o IsStaged) }
+{
+    let Some(who) = principals(alloc, &decl, setting.who)? else {
+        return Ok(None);
+    };
+    let words = Words::new(alloc, &names, &decl)?;
+    let Some(world) = world_of(alloc, decl, names, setting.cells)? else {
+        return Ok(None);
+    };
+    let mut sessions = Sessions::new(alloc, world);
+    sessions.begin(&units, who, setting.steps)?;
+    Ok(Some(Stage {
+        units,
+        sessions,
+        words,
+    }))
+}

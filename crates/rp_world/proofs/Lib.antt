@@ -1,0 +1,7 @@
+mod Filled
+mod Grown
+mod Laws
+mod Seen
+mod Slots
+mod Spots
+mod Turns

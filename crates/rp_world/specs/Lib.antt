@@ -1,0 +1,2 @@
+pub mod PlacingSteps
+pub mod Worlds
