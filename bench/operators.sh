@@ -5,6 +5,10 @@
 # entries, one key next to the last and far from it, and showing a list of 1,000 numbers. Before that, the bytes that a store takes
 # for each cell, filled with lists, dicts and instances of some sizes. Processor time, the least of some runs, less that of an idle
 # loop of the same number of turns on each side.
+#
+# What limits those that are slower, in instructions of a turn by callgrind: an item of a list takes 114, 75 of them in `item`, which is
+# not inlined; a character or a new text 540 to 800, of which 250 are its memory; copying a value some 30, so a slice or a walk of ten
+# 340 to 520; a method of an instance 312, since an object is made for it; a key the keyed hash (bench/README.md has all).
 cd "$(dirname "${BASH_SOURCE[0]}")/.." || exit 2
 [ -x crates/rp_bench_ops/out/rp_bench_ops ] || (cd crates/rp_bench_ops && rt run >/dev/null </dev/null)
 exec python3 - <<'PYTHON'
