@@ -1,0 +1,4 @@
+pub mod KindsByForm
+pub mod Places
+pub mod Spelled
+pub mod Written
