@@ -165,7 +165,7 @@ class Walk:
         if not crate.is_dir():
             self.outside.add(module)
             return
-        if parts[3] == "declared":
+        if parts[3] in ("declared", "contracts"):
             self.declared(crate, parts[4:], name)
             return
         path = crate.joinpath(*parts[2:]).with_suffix(".antt")

@@ -179,6 +179,42 @@ table("LOOPS", "`for`", [
     "xs = []\nfor c in 'abc':\n    xs.append(c)\nprint(xs, ''.join(xs))",
 ])
 
+table("RAISES", "`raise`", [
+    "raise ValueError('told') !! told",
+    "raise ValueError !! ",
+    "raise IndexError(5) !! 5",
+    "print('a')\nif 1:\n    raise RuntimeError('here')\nprint('b') !! here",
+    "for i in range(5):\n    if i == 2:\n        raise TypeError(i)\n    print(i) !! 2",
+    "x = ArithmeticError('kept')\nprint(x)\nraise x !! kept",
+    "raise (print(1) or LookupError)(print(2) or 'text') !! text",
+    "raise {'k': [ValueError]}['k'][0] !! ",
+    "raise 5 !! raise",
+    "raise None !! raise",
+    "raise len !! raise",
+])
+
+table("UNPACKING", "Unpacking, in assignments and in `for`", [
+    "a, b = 1, 2\nprint(a, b)\na, b = b, a\nprint(a, b)",
+    "(a, (b, c)) = (1, [2, 3])\nprint(a, b, c)",
+    "[a, b] = 'xy'\nprint(a, b)",
+    "a, = [5]\nprint(a)",
+    "a, b = {'x': 1, 'y': 2}\nprint(a, b)",
+    "i, xs = 1, [0, 0]\ni, xs[i] = 0, 9\nprint(i, xs)",
+    "xs = [0]\nxs[print(2) or 0], y = print(1) or (7, 8)\nprint(xs, y)",
+    "xs = [0]\nys = xs\nxs, xs[0] = [1, 2], 3\nprint(xs, ys)",
+    "for i, c in enumerate('ab'):\n    print(i, c)",
+    "for a, (b, c) in [(1, (2, 3)), (4, 'xy')]:\n    print(a, b, c)",
+    "for k, v in {'a': 1, 'b': 2}.items():\n    print(k, v)",
+    "t = 0\nfor (x, y) in zip([1, 2], [3, 4]):\n    if x == 2:\n        continue\n    t += x * y\nprint(t, x, y)",
+    "xs = [1, 2, 3]\nfor xs[0], xs[1] in [(4, 5), (6, 7)]:\n    print(xs)",
+    "a, b = [1] !! unpack",
+    "a, b = 1, 2, 3 !! unpack",
+    "a, b = 5 !! iterate",
+    "for a, b in [(1, 2), (3,)]:\n    print(a, b) !! unpack",
+    "a, xs[0] = 1, 2 !! xs",
+    "a, b = 1, 1 // 0 !! zero",
+])
+
 table("LISTS", "Lists and tuples", [
     "print([], [1], [1, 'a', None], [[1], (2,)], ())",
     "print((1,), (1, 2), ((1,), []))",
@@ -229,6 +265,22 @@ table("DICTS", "Dicts", [
     ("d = dict()\nd['a'] = 1\nprint(d.keys(), d.values(), d.items())", "['a'] [1] [('a', 1)]~well", "views are lists"),
 ])
 
+table("DISPLAYS", "Dict displays", [
+    "print({}, {'a': 1}, {1: 'x', 'b': [2], None: {}})",
+    "print({1: 'a', True: 'b', 'c': 0, 1: 'd'})",
+    "print({'a': 1, 'b': 2, 'a': 3}, len({1: 1, 1: 2, 2: 3}))",
+    "d = {'b': 1, 'a': 2,}\nd['c'] = 3\nfor k in d:\n    print(k, d[k])",
+    "print({'a': 1} == {'a': 1}, {1: 2, 3: 4} == {3: 4, 1: 2}, 'a' in {'a': 1}, 'b' in {'a': 'b'})",
+    "x = {'x': 1}\ny = {'x': x['x'] + 1, 'z': x}\ny['z']['x'] = 5\nprint(x, y)",
+    "print({print(1): print(2), print(3): print(4)})",
+    "print({[]: 1}) !! key",
+    "print({'a': 1, {}: print('value')}) !! key",
+    "print({'a': 1 // 0}) !! zero",
+    "print({x: 1}) !! x",
+], [
+    ("print({(1, 2): 3})", "TypeError: key", "a tuple is no key"),
+])
+
 table("TEXTS", "Texts", [
     "print('a' + 'b', 'ab' * 2, 'x' * 0, len('añ😀'))",
     "print('abc'[0], 'abc'[-1], 'añ😀'[1], 'añ😀'[2])",
@@ -246,6 +298,41 @@ table("TEXTS", "Texts", [
     "'abc'.nothing !! nothing",
     "print('a', 'b')\nprint()\nprint('c')",
     "print(len(str(9223372036854775807)))",
+])
+
+table("SLICES", "Slices that are read", [
+    "xs = [0, 1, 2, 3, 4, 5]\nprint(xs[1:4], xs[:2], xs[4:], xs[:])",
+    "xs = [0, 1, 2, 3, 4, 5]\nprint(xs[-3:-1], xs[-100:2], xs[4:100], xs[4:2])",
+    "xs = [0, 1, 2, 3, 4, 5]\nprint(xs[::2], xs[1::3], xs[::-1], xs[4:1:-2], xs[-1:-4:-1])",
+    "print('añ😀b'[1:3], 'añ😀b'[::-1], 'abc'[:-1], 'abc'[5:], 'abcdef'[1:-1:2])",
+    "print((1, 2, 3)[1:], (1, 2, 3)[::-2], (1, 2, 3)[-2:], ()[:])",
+    "print('abc'[None:None:None], 'abc'[None:2], [1, 2, 3][True:], 'abcd'[::-3])",
+    "print([1, 2, 3][9223372036854775807:], 'abc'[-9223372036854775807:2], 'ab'[::9223372036854775807])",
+    "xs = [[1], [2]]\nys = xs[:]\nys.append(3)\nys[0].append(9)\nprint(xs, ys)",
+    "print('abcdef'[1:5][1:3][0], [3, 1, 2][1:].index(2), len('abc'[1:]))",
+    "print((print(1) or 'abcd')[print(2) or 1:print(3) or 3:print(4) or 2])",
+    "print('abcd'[print(1):][:print(2) or 2])",
+    "print([1, 2, 3][::0]) !! slice",
+    "print('abc'['a':]) !! index",
+    "print((1,)[::[]]) !! index",
+    "print(5[1:2]) !! item",
+    "print([1][:1 // 0]) !! zero",
+])
+
+table("AUGMENTED", "Augmented assignments to items and attributes, which the policy of names lets no script have", [
+    "xs = [1, 2, 3]\nxs[0] += 10\nxs[-1] *= 2\nprint(xs)",
+    "d = {'a': 1}\nd['a'] += 5\nd['a'] <<= 2\nprint(d)",
+    "xs = [[1], 2]\nys = xs[0]\nxs[0] += [3]\nprint(xs, ys)",
+    "m = [[1, 2], [3, 4]]\nm[1][0] -= 1\nm[0] *= 2\nprint(m)",
+    "d = {'w': ''}\nfor c in 'abc':\n    d['w'] += c\nprint(d)",
+    "xs = [5, 6]\n(print(1) or xs)[print(2) or 1] += print(3) or 4\nprint(xs)",
+    "d = {}\nd['a'] += 1 !! 'a'",
+    "xs = [1]\nxs[1] += 1 !! index",
+    "xs = [1]\nxs[0] += xs.pop() !! index",
+    "t = (1, 2)\nt[0] += 1 !! item",
+    "xs = [1, 2]\nxs[0] += 'a' !! operand",
+    "xs = [1]\nxs.x += 1 !! x",
+    "5[0] += 1 // 0 !! item",
 ])
 
 table("ORDER", "The order in which operands are evaluated: each prints its number", [

@@ -12,7 +12,7 @@ use Rattle.rp_meaning.specs.BuiltIn.{not_called, wrong_arguments}
 use Rattle.rp_meaning.specs.Expressions.{nil}
 use Rattle.rp_meaning.specs.Special.{Special}
 use Rattle.rp_meaning.specs.State.{State, Outcome, choose, heap_of, plainly}
-use Rattle.rp_methods.specs.Counts.{counts_of, receiver_of}
+use Rattle.rp_attributes.specs.BuiltIns.{counts_of, receiver_of}
 use Rattle.rp_methods.specs.Methods.{method}
 use Rattle.rp_native.specs.Counts.{is_function}
 use Rattle.rp_native.specs.Print.{print_line}

@@ -1,5 +1,6 @@
 mod Asked
 mod Changed
+pub mod Coupled
 mod Decided
 mod Exposed
 mod FunctionLaws
@@ -16,5 +17,7 @@ mod NativeCalls
 mod ObjectCalls
 mod Operands
 mod Printing
+mod Sliced
+mod Unpacked
 mod Walked
 pub mod Worlds

@@ -5,6 +5,7 @@ use Rattle.std.specs.Option.{option_map, option_map_or}
 use Rattle.std.specs.Map.{lookup}
 use Rattle.std.proofs.lemmas.List.Elements.{All-append, All-cons, All-nil}
 use Rattle.rp_attributes.specs.Attributes as attributes
+use Rattle.rp_attributes.specs.declared.built_ins.Receiver.TheVariants as kind
 use Rattle.rp_base.specs.declared.value.Name.{Name}
 use Rattle.rp_base.specs.declared.value.Oid.{Oid}
 use Rattle.rp_base.specs.declared.value.OpEnd.{OpEnd}
@@ -44,7 +45,7 @@ module _ (names : List (List ℕ)) where
   if_named true side c s is h = h
   if_named false side c s is h = more_named s.store.heap (record { owner = side; content = c }) is h
 
-  new_named : (side : Side) (c : Content) (s : plain.State) → IsNamed names c → AreNamed names s.store.heap → AreNamed names (new_object side c s).state.store.heap
+  pub new_named : (side : Side) (c : Content) (s : plain.State) → IsNamed names c → AreNamed names s.store.heap → AreNamed names (new_object side c s).state.store.heap
   new_named side c s is h = if_named (nat_lt s.store.limit (s.store.used + cost c)) side c s is h
 
   bound_named : (side : Side) (v : Value) (called : Option Callee) (word : List ℕ) (s : plain.State) → AreNamed names s.store.heap
@@ -63,7 +64,7 @@ module _ (names : List (List ℕ)) where
       member_named o.owner at (lookup (same_name name) (fields o.content)) (attributes.method_of o.content name word s) word s h
   owned_named None at name word s h = h
 
-  lent_named : (o : plain.Outcome Value) → AreNamed names o.state.store.heap → AreNamed names (on_value o (λ v s. gives (lent v) s)).state.store.heap
+  pub lent_named : (o : plain.Outcome Value) → AreNamed names o.state.store.heap → AreNamed names (on_value o (λ v s. gives (lent v) s)).state.store.heap
   lent_named o h = by o.answer where
     by : (r : Result Value End) → AreNamed names (on_answer r o.state (λ v s. gives (lent v) s)).state.store.heap
     by (Ok v) = h
@@ -72,7 +73,7 @@ module _ (names : List (List ℕ)) where
   attribute_named : (side : Side) (a : Value) (name : Name) (word : List ℕ) (s : plain.State) → AreNamed names s.store.heap
       → AreNamed names (attributes.attribute side a name word s).state.store.heap
   attribute_named side (value.Rock (rock.Text t)) name word s h =
-      bound_named side (value.Rock (rock.Text t)) (option_map _ (attributes.method_named attributes.text_methods word)) word s h
+      bound_named side (value.Rock (rock.Text t)) (option_map _ (attributes.built_in_method kind.Text word)) word s h
   attribute_named side (value.Rock rock.Nil) name word s h = h
   attribute_named side (value.Rock (rock.Truth b)) name word s h = h
   attribute_named side (value.Rock (rock.Int z)) name word s h = h

@@ -20,7 +20,7 @@ use Rattle.rp_meaning.specs.Calls as calls
 use Rattle.rp_meaning.specs.Frame.{Frame, through}
 use Rattle.rp_meaning.specs.Special.{Special}
 use Rattle.rp_meaning.specs.State.{State, Outcome, choose, heap_of, plainly}
-use Rattle.rp_methods.specs.Counts.{counts_of, receiver_of}
+use Rattle.rp_attributes.specs.BuiltIns.{counts_of, receiver_of}
 use Rattle.rp_methods.specs.Methods.{method}
 use Rattle.rp_ops.specs.Outcome.{gives, on_value}
 use Rattle.rp_proxy.specs.Taken.{taken}

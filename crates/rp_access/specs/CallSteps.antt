@@ -15,7 +15,7 @@ use Rattle.rp_meaning.specs.Expressions.{nil}
 use Rattle.rp_meaning.specs.Frame.{through}
 use Rattle.rp_meaning.specs.Special.{Special, on_special, special}
 use Rattle.rp_meaning.specs.State.{State, Outcome, choose, heap_of, plainly}
-use Rattle.rp_methods.specs.Counts.{counts_of, receiver_of}
+use Rattle.rp_attributes.specs.BuiltIns.{counts_of, receiver_of}
 use Rattle.rp_methods.specs.Methods.{method}
 use Rattle.rp_native.specs.Counts.{is_function}
 use Rattle.rp_native.specs.Functions as plain

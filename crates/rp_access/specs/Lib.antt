@@ -4,9 +4,12 @@ pub mod Calling
 pub mod Changes
 pub mod Comes
 pub mod Comparisons
+pub mod Entries
 pub mod Moment
 pub mod Natives
 pub mod Parts
 pub mod Reading
 pub mod Rocks
+pub mod Slices
 pub mod Spots
+pub mod Unpacking

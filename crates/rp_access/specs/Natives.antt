@@ -6,7 +6,7 @@ use Rattle.rp_base.specs.declared.native.NativeId.{NativeId}
 use Rattle.rp_base.specs.declared.value.Name.{Name}
 use Rattle.rp_base.specs.declared.word.TheConstants.{BOOL, ITEMS, ITER, LEN, STR}
 use Rattle.rp_meaning.specs.Frame.{Natives}
-use Rattle.rp_methods.specs.Counts.{counts_of, receiver_of}
+use Rattle.rp_attributes.specs.BuiltIns.{counts_of, receiver_of}
 use Rattle.rp_methods.specs.Methods.{method}
 use Rattle.rp_native.specs.Counts.{is_function}
 use Rattle.rp_native.specs.Functions.{function}

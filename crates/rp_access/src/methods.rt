@@ -12,8 +12,9 @@ ghost use Rattle.rp_access.specs.Comes.{Comes};
 ghost use Rattle.rp_access.specs.Moment.{state_of};
 
 use crate::functions::ask_each;
+use rp_attributes::has_method;
 use rp_base::{Kind, NativeId, OpEnd, Side, Value};
-use rp_methods::{call_method, has_method};
+use rp_methods::call_method;
 use rp_ops::raised;
 use rp_proxy::World;
 use std::alloc::Global;

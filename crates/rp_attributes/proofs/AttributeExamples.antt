@@ -16,7 +16,9 @@ use Rattle.rp_store.specs.Object as object
 use Rattle.rp_store.specs.Object.{Content}
 use Rattle.rp_store.specs.declared.object.Callee.TheVariants as callee
 use Rattle.rp_ops.specs.Outcome.{State, ends, gives, no_cell, raises}
-use Rattle.rp_attributes.specs.Attributes.{attribute, del_attribute, dict_methods, list_methods, method_named, set_attribute, text_methods, tuple_methods}
+use Rattle.rp_attributes.specs.Attributes.{attribute, built_in_method, del_attribute, set_attribute}
+use Rattle.rp_attributes.specs.BuiltIns.{between, counts_of, just}
+use Rattle.rp_attributes.specs.declared.built_ins.Receiver.TheVariants as receiver
 
 abbrev side : ℕ → Side
 side n = record { 0 = n }
@@ -124,30 +126,43 @@ get-text_has_no_upper : attribute (side 2) (value.Rock (rock.Text [])) (name 4) 
 unfolding encode
 get-text_has_no_upper = refl
 
-named-list : method_named list_methods (codes "reverse") ≡ Some native.Reverse
+named-list : built_in_method receiver.List (codes "reverse") ≡ Some native.Reverse
 unfolding encode
 named-list = refl
 
-named-tuple : method_named tuple_methods (codes "index") ≡ Some native.Index
+named-tuple : built_in_method receiver.Tuple (codes "index") ≡ Some native.Index
 unfolding encode
 named-tuple = refl
 
-named-dict : method_named dict_methods (codes "append") ≡ None
+named-dict : built_in_method receiver.Dict (codes "append") ≡ None
 unfolding encode
 named-dict = refl
 
-named-text : method_named text_methods (codes "isdigit") ≡ Some native.IsDigit
+named-text : built_in_method receiver.Text (codes "isdigit") ≡ Some native.IsDigit
 unfolding encode
 named-text = refl
 
-named-empty : method_named list_methods [] ≡ None
+named-empty : built_in_method receiver.List [] ≡ None
 unfolding encode
 named-empty = refl
 
 -- the words are told apart where one begins as the other
-named-longer : method_named list_methods (codes "appends") ≡ None
+named-longer : built_in_method receiver.List (codes "appends") ≡ None
 unfolding encode
 named-longer = refl
+
+-- the same method may take other counts at another kind
+counts-list : counts_of receiver.List native.Pop ≡ Some (between 0 1)
+counts-list = refl
+
+counts-dict : counts_of receiver.Dict native.Pop ≡ Some (between 1 2)
+counts-dict = refl
+
+counts-tuple_has_no_append : counts_of receiver.Tuple native.Append ≡ None
+counts-tuple_has_no_append = refl
+
+counts-text : counts_of receiver.Text native.Replace ≡ Some (just 2)
+counts-text = refl
 
 set-held : set_attribute a (name 1) (codes "a") (number 8) (at_cells 7 (objects (number 7))) ≡ gives tt (at_cells 7 (objects (number 8)))
 set-held = refl

@@ -2,3 +2,4 @@ mod AttributeExamples
 mod Found
 pub mod MethodNames
 mod Places
+mod Rows

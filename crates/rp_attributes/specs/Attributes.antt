@@ -2,12 +2,11 @@
 -- Reference, Attribute references; Python Standard Library, Built-in types). Other way: a built-in method is the first of a list whose
 -- name is the list of characters asked for, and fields and methods are looked up in lists of pairs. The code compares names by their
 -- bytes, searches dicts that may be hashed, and changes the store in place.
-use Rattle.std.specs.Prelude.{ℕ, List, [], ◌∷◌, find, slice_get, Option, Some, None}
+use Rattle.std.specs.Prelude.{ℕ, List, find, map, slice_get, Option, Some, None}
 use Rattle.std.specs.Map.{lookup}
 use Rattle.std.specs.Option.{option_map, option_map_or}
 use Rattle.rp_base.specs.declared.kind.Kind.TheVariants.{AttributeError}
 use Rattle.rp_base.specs.declared.native.NativeId.{NativeId}
-use Rattle.rp_base.specs.declared.native.NativeId.TheVariants as native
 use Rattle.rp_base.specs.declared.value.Name.{Name}
 use Rattle.rp_base.specs.declared.value.Oid.{Oid}
 use Rattle.rp_base.specs.declared.value.Rock.{Rock}
@@ -29,22 +28,17 @@ use Rattle.rp_store.specs.Writers.{with_field, without_field}
 use Rattle.rp_ops.specs.Binary.{new_object}
 use Rattle.rp_ops.specs.Operand.{lent}
 use Rattle.rp_ops.specs.Outcome.{State, Outcome, gives, raises, on_value, charged, with_change}
+use Rattle.rp_attributes.specs.BuiltIns.{methods_of}
+use Rattle.rp_attributes.specs.declared.built_ins.Receiver.{Receiver}
+use Rattle.rp_attributes.specs.declared.built_ins.Receiver.TheVariants as receiver
 
-abbrev pub list_methods : List NativeId
-list_methods = native.Append ∷ native.Extend ∷ native.Insert ∷ native.Pop ∷ native.Remove ∷ native.Index ∷ native.Count ∷ native.Reverse ∷ []
-
-abbrev pub tuple_methods : List NativeId
-tuple_methods = native.Index ∷ native.Count ∷ []
-
-abbrev pub dict_methods : List NativeId
-dict_methods = native.Get ∷ native.Keys ∷ native.Values ∷ native.Items ∷ native.Pop ∷ native.SetDefault ∷ native.Update ∷ native.Copy ∷ []
-
-abbrev pub text_methods : List NativeId
-text_methods = native.Join ∷ native.Split ∷ native.Strip ∷ native.StartsWith ∷ native.EndsWith ∷ native.Find ∷ native.Replace ∷ native.Count ∷ native.IsDigit ∷ []
-
--- the built-in method of that name among some
+-- the built-in function or method of that name among some
 abbrev pub method_named : List NativeId → List ℕ → Option NativeId
 method_named ids word = find (λ id. same_text (native_name id) word) ids
+
+-- the built-in method of that name of a kind of value
+abbrev pub built_in_method : Receiver → List ℕ → Option NativeId
+built_in_method kind word = method_named (map (λ m. m.0) (methods_of kind)) word
 
 abbrev pub no_attribute : {A : Type 0} → List ℕ → State → Outcome A
 no_attribute word s = raises AttributeError word s
@@ -56,9 +50,9 @@ bound owner receiver None word s = no_attribute word s
 
 -- what is called by the method of that name: a function of an instance's class, or a built-in method of the object's kind
 abbrev pub method_of : Content → Name → List ℕ → State → Option Callee
-method_of (object.list xs) name word s = option_map callee.Native (method_named list_methods word)
-method_of (object.tuple xs) name word s = option_map callee.Native (method_named tuple_methods word)
-method_of (object.dict es) name word s = option_map callee.Native (method_named dict_methods word)
+method_of (object.list xs) name word s = option_map callee.Native (built_in_method receiver.List word)
+method_of (object.tuple xs) name word s = option_map callee.Native (built_in_method receiver.Tuple word)
+method_of (object.dict es) name word s = option_map callee.Native (built_in_method receiver.Dict word)
 method_of (object.instance of fs) name word s = option_map callee.Function (method_at s.store.heap of name)
 method_of c name word s = None
 
@@ -75,7 +69,8 @@ attribute_at at name word s = option_map_or (λ o. object_attribute at o name wo
 
 -- a text has built-in methods, which are bound for the side of the running code
 abbrev pub rock_attribute : Side → Rock → List ℕ → State → Outcome Value
-rock_attribute side (rock.Text t) word s = bound side (value.Rock (rock.Text t)) (option_map callee.Native (method_named text_methods word)) word s
+rock_attribute side (rock.Text t) word s =
+    bound side (value.Rock (rock.Text t)) (option_map callee.Native (built_in_method receiver.Text word)) word s
 rock_attribute side r word s = no_attribute word s
 
 -- `a.name`, where the name is that word; what is got through a proxy is lent

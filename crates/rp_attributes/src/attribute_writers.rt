@@ -11,7 +11,7 @@ ghost use Rattle.rp_store.specs.Kept.{IsSound};
 ghost use Rattle.rp_store.specs.Parts.{IsInstance};
 ghost use Rattle.rp_store.specs.Shape.{KeepsShape};
 
-use crate::missing::no_attribute;
+use crate::attribute_error::no_attribute;
 use rp_base::{Name, Names, Oid, OpEnd, Value};
 use rp_store::{Object, Store, StoreFault};
 use std::alloc::Global;
@@ -42,7 +42,7 @@ pub fn set_attribute(
     ensures counters { KeepsCounters store.old store.new }
 {
     match a {
-        Value::Rock(_) => Err(no_attribute(alloc, names, name)),
+        Value::Rock(_) => Err(no_attribute(alloc, store, names, name)),
         Value::Ref(at) => set_at(alloc, store, names, *at, name, v),
         Value::Prox(at) => set_at(alloc, store, names, *at, name, v),
     }
@@ -71,7 +71,7 @@ pub fn del_attribute(
     ensures counters { KeepsCounters store.old store.new }
 {
     match a {
-        Value::Rock(_) => Err(no_attribute(alloc, names, name)),
+        Value::Rock(_) => Err(no_attribute(alloc, store, names, name)),
         Value::Ref(at) => del_at(alloc, store, names, *at, name),
         Value::Prox(at) => del_at(alloc, store, names, *at, name),
     }
@@ -94,7 +94,7 @@ fn set_at(
     ensures counters { KeepsCounters store.old store.new }
 {
     if !is_instance(store, at) {
-        return Err(no_attribute(alloc, names, name));
+        return Err(no_attribute(alloc, store, names, name));
     }
     match store.set_field(at, name, v) {
         Ok(()) => Ok(()),
@@ -112,11 +112,11 @@ fn del_at(alloc: Global, store: &mut Store, names: &Names, at: Oid, name: Name) 
     ensures counters { KeepsCounters store.old store.new }
 {
     if !is_instance(store, at) {
-        return Err(no_attribute(alloc, names, name));
+        return Err(no_attribute(alloc, store, names, name));
     }
     let dropped = store.drop_field(at, name);
     if dropped.is_none() {
-        return Err(no_attribute(alloc, names, name));
+        return Err(no_attribute(alloc, store, names, name));
     }
     Ok(())
 }

@@ -10,8 +10,9 @@ ghost use Rattle.rp_store.specs.Counters.{KeepsCounters};
 ghost use Rattle.rp_store.specs.Kept.{IsCallee, IsReceiver, IsSound};
 ghost use Rattle.rp_store.specs.Shape.{KeepsShape};
 
-use crate::methods::{method_of, native, text_method};
-use crate::missing::no_attribute;
+use crate::attribute_error::no_attribute;
+use crate::built_ins::{Receiver, built_in_method};
+use crate::methods::{method_of, native};
 use rp_base::{Name, Names, Oid, OpEnd, Rock, Side, Value};
 use rp_ops::{new_object, word_of};
 use rp_store::{Callee, Object, Store};
@@ -73,10 +74,10 @@ fn rock_attribute(
     match rock {
         Rock::Text(text) => {
             let receiver = Value::Rock(Rock::Text(text.copy()?));
-            let callee = native(text_method(word_of(names, name)));
+            let callee = native(built_in_method(Receiver::Text, word_of(names, name)));
             bind(alloc, store, names, side, receiver, callee, name)
         }
-        _ => Err(no_attribute(alloc, names, name)),
+        _ => Err(no_attribute(alloc, store, names, name)),
     }
 }
 
@@ -127,7 +128,7 @@ fn bind(
 {
     match callee {
         Some(callee) => new_object(store, owner, Object::Method { receiver, callee }),
-        None => Err(no_attribute(alloc, names, name)),
+        None => Err(no_attribute(alloc, store, names, name)),
     }
 }
 

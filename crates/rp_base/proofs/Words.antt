@@ -1,5 +1,5 @@
 -- Facts on texts, and on the words that a list of shared texts shows.
-use Rattle.std.proofs.Common.{◌≡◌, ◌↔◌, refl, sym, ap, ◌∙◌, ◌<◌, ℕ, Bool, true, false, true≢false, List, [], ◌∷◌, ◌++◌, ◌+◌, ◌||◌, cond, not, get_or, length, map, None, Some, slice_get, position, IsTrue, if◌then◌else◌, chars, encode_utf8_all, nat_eq, nat_lt, arith}
+use Rattle.std.proofs.Common.{◌≡◌, ◌↔◌, refl, sym, ap, ◌∙◌, ◌<◌, ℕ, Bool, true, false, true≢false, List, [], ◌∷◌, ◌++◌, ◌+◌, ◌||◌, cond, not, zero, suc, get_or, length, map, None, Some, slice_get, position, IsTrue, if◌then◌else◌, chars, encode_utf8_all, nat_eq, nat_lt, arith}
 use Rattle.std.specs.Str.{IsUtf8, bytes_eq}
 use Rattle.std.specs.List.{All, AllByRecursion, IsDistinct, list_any, position_or_len}
 use Rattle.std.specs.Option.{option_map}
@@ -9,15 +9,17 @@ use Rattle.std.specs.declared.rc.RcStr.{RcStr}
 use Rattle.std.specs.Cmp.{on_equiv}
 use Rattle.std.specs.Cmp.Lexicographic.{pointwise, bytes_decides, nat_list_eq_equiv}
 use Rattle.std.proofs.lemmas.Str.{IsUtf8-string_bytes, encodes-chars, encodes_same}
+use Rattle.std.proofs.lemmas.Bool.{or_right}
 use Rattle.std.proofs.lemmas.List.{get_or-map, length-map, map_push}
 use Rattle.std.proofs.lemmas.List.Elements.{All-push}
 use Rattle.std.proofs.lemmas.List.Quantifiers.{position-Some}
+use Rattle.std.proofs.lemmas.List.Sums.{fold-append}
 use Rattle.std.proofs.lemmas.Map.Keys.{IsDistinct-cons, IsDistinct-head, IsDistinct-tail, apart_from_distinct}
 use Rattle.std.proofs.lemmas.Option.{get_or_from_slice_get, slice_get-get_or, slice_get-map, slice_get_within}
 use Rattle.indexmap.specs.IndexSet.{insert_all, insert_key}
 use Rattle.indexmap.proofs.SetLemmas.{set_all_distinct}
 use Rattle.rp_base.specs.Identifier.{IsIdentifier}
-use Rattle.rp_base.specs.Names.{HoldsEachOnce, is_held, with_word}
+use Rattle.rp_base.specs.Names.{HoldsEachOnce, is_held, with_word, with_words}
 use Rattle.rp_base.specs.Same.{same_text}
 
 -- texts that the test calls the same have the same characters
@@ -130,3 +132,20 @@ identifier_at ts i t all within stands =
 -- texts that differ, put into an empty set one after another, are all there in their order
 pub put_anew : (ts : List (RcStr Global)) → IsDistinct (λ x y. bytes_eq (rc_str_bytes x) (rc_str_bytes y)) ts → insert_all (λ x y. bytes_eq (rc_str_bytes x) (rc_str_bytes y)) [] ts ≡ ts
 put_anew ts distinct = set_all_distinct (on_equiv rc_str_bytes nat_list_eq_equiv) [] ts distinct
+
+-- words that are added after others
+pub with_words-append : (words some more : List (List ℕ)) → with_words (with_words words some) more ≡ with_words words (some ++ more)
+with_words-append words some more = sym (fold-append with_word words some more)
+
+pub with_words-then : (old mid new some more : List (List ℕ)) → mid ≡ with_words old some → new ≡ with_words mid more → new ≡ with_words old (some ++ more)
+with_words-then old mid new some more first last = last ∙ ap (λ words. with_words words more) first ∙ with_words-append old some more
+
+-- the word at a place is held, also where more words stand behind
+pub is_held-at : (words more : List (List ℕ)) (i : ℕ) → i < length words → IsTrue (is_held (words ++ more) (get_or words i []))
+is_held-at [] more i within = absurd (omega arith)
+is_held-at (w ∷ ws) more zero within = ap (λ b. b || is_held (ws ++ more) w) (same_text-refl w)
+is_held-at (w ∷ ws) more (suc i) within = or_right (same_text (get_or ws i []) w) _ (is_held-at ws more i (omega arith))
+
+-- a word that is held is not added
+pub with_word-held : (words : List (List ℕ)) (word : List ℕ) → IsTrue (is_held words word) → with_word words word ≡ words
+with_word-held words word held = λ k. if held k then words else words ++ word ∷ []

@@ -1,5 +1,5 @@
 -- The words that `Names` holds: a list, where the place of a word is its name.
-use Rattle.std.specs.Prelude.{◌≡◌, ℕ, Bool, List, [], ◌∷◌, ◌++◌, Some, if◌then◌else◌, slice_get, slice_index_or, codes}
+use Rattle.std.specs.Prelude.{◌≡◌, ℕ, Bool, List, [], ◌∷◌, ◌++◌, fold, Some, if◌then◌else◌, slice_get, slice_index_or, codes}
 use Rattle.std.specs.List.{All, list_any}
 use Rattle.rp_base.specs.Identifier.{IsIdentifier}
 use Rattle.rp_base.specs.Same.{same_text}
@@ -12,6 +12,10 @@ is_held words word = list_any (same_text word) words
 -- the words with this one at the end, where it is new
 abbrev pub with_word : List (List ℕ) → List ℕ → List (List ℕ)
 with_word words word = if is_held words word then words else words ++ word ∷ []
+
+-- the words with these at the end in their order, each where it is new
+abbrev pub with_words : List (List ℕ) → List (List ℕ) → List (List ℕ)
+with_words words more = fold with_word words more
 
 -- the word of a name, which is its place; empty where there is no such place
 abbrev pub word_of : List (List ℕ) → Name → List ℕ

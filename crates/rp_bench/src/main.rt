@@ -1,7 +1,8 @@
-//! Loops for the scripts in bench/: `rp_bench decide N` decides N times on a permission whose answer is kept, `rp_bench
-//! row N` looks up N rows of a class with 100 names, `rp_bench tokens N TEXT` reads the tokens of a script that is the
-//! text N times over, and `rp_bench parse N TEXT` its tree too. It writes nothing; whatever else it is given, it does
-//! nothing.
+//! Loops for the scripts in bench/.
+
+// `rp_bench decide N` decides N times on a permission whose answer is kept, `rp_bench row N` looks up N rows of a class
+// with 100 names, `rp_bench tokens N TEXT` reads the tokens of a script that is the text N times over, and `rp_bench
+// parse N TEXT` its tree too. It writes nothing; whatever else it is given, it does nothing.
 #![tactic(auto)]
 
 use rp_base::{ClassTag, Memory, Names, Op, Seed, Text};

@@ -1,6 +1,7 @@
-//! Loops for bench/built_ins.sh: `rp_bench_built_ins len N` and its kin call a built-in function or method N times, and
-//! `rp_bench_built_ins bind N` binds the arguments of a call N times. It writes nothing; whatever else it is given, it
-//! does nothing.
+//! Loops for bench/built_ins.sh.
+
+// `rp_bench_built_ins len N` and its kin call a built-in function or method N times, and `rp_bench_built_ins bind N`
+// binds the arguments of a call N times. It writes nothing; whatever else it is given, it does nothing.
 #![tactic(auto)]
 
 mod calls;

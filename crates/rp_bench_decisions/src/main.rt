@@ -1,7 +1,9 @@
-//! The loop that `bench/decisions.sh` times: `rp_bench_decisions WHAT CLASSES TURNS` decides so many times on reading a
-//! name of an object through a proxy, where so many classes are declared. WHAT is `public`, `front` (a needed
-//! permission whose answer was given last), `two` and `many` (two and 65 such permissions in turn), `denied`,
-//! `forbidden`, or `idle` for a loop without decisions. It writes nothing; whatever else it is given, it does nothing.
+//! The loop that bench/decisions.sh times.
+
+// `rp_bench_decisions WHAT CLASSES TURNS` decides so many times on reading a name of an object through a proxy, where
+// so many classes are declared. WHAT is `public`, `front` (a needed permission whose answer was given last), `two` and
+// `many` (two and 65 such permissions in turn), `denied`, `forbidden`, or `idle` for a loop without decisions. It
+// writes nothing; whatever else it is given, it does nothing.
 #![tactic(auto)]
 
 mod asking;

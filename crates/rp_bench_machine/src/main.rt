@@ -6,7 +6,7 @@
 ghost use Rattle.rp_tests_stage.specs.Staged.{IsStaged};
 
 use rp_session::SessionEnd;
-use rp_tests_stage::{Setting, Stage, set};
+use rp_tests_stage::{Code, Setting, Stage, set};
 use std::alloc::Global;
 use std::process::ExitCode;
 use std::rt::Env;
@@ -39,6 +39,7 @@ fn status_of(alloc: Global, script: &str) -> ExitCode {
     let setting = Setting {
         declarations: DECLARATIONS,
         who: "ann",
+        code: Code::Script,
         steps: AMPLE,
         cells: AMPLE,
     };

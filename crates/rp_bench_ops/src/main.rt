@@ -1,7 +1,8 @@
-//! Loops for bench/operators.sh and bench/hostile/run.sh: `rp_bench_ops add N` and its kin do a plain operation N
-//! times, `rp_bench_ops list N SIZE` and its kin fill a store with N cells of objects of that size, and `rp_bench_ops
-//! keys` takes each line of its input as a key of a dict. It writes nothing; whatever else it is given, it does
-//! nothing.
+//! Loops for bench/operators.sh and bench/hostile/run.sh.
+
+// `rp_bench_ops add N` and its kin do a plain operation N times, `rp_bench_ops list N SIZE` and its kin fill a store
+// with N cells of objects of that size, and `rp_bench_ops keys` takes each line of its input as a key of a dict. It
+// writes nothing; whatever else it is given, it does nothing.
 #![tactic(auto)]
 
 mod cells;

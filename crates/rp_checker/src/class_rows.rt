@@ -4,15 +4,13 @@ ghost use Rattle.std.specs.Prelude.{◌≡◌, ◌++◌, IfOk, [], map, option_m
 ghost use Rattle.std.specs.Option.{option_map_or, option_or};
 ghost use Rattle.std.specs.Map.{lookup};
 ghost use Rattle.rp_base.specs.declared.value.Name.{Name};
-ghost use Rattle.rp_base.specs.Same.{same_text};
-ghost use Rattle.rp_decl.specs.Document.{public as zope_public};
 ghost use Rattle.rp_checker.specs.Chain.{row_needing};
 ghost use Rattle.rp_checker.specs.Lookup.{is_name};
 ghost use Rattle.rp_checker.specs.Tables.{row_at};
 
 use crate::table::Table;
 use rp_base::{Memory, Name, Op, Text};
-use rp_decl::{Perm, Row};
+use rp_decl::{Perm, Row, is_public};
 use std::alloc::Global;
 
 /// What a class asks of whoever reads and sets the names of its objects.
@@ -76,12 +74,6 @@ fn row_needing(permissions: &[Text], permission: Perm) -> Row
         Some(id) if is_public(id) => Row::Public,
         _ => Row::Needs(permission),
     }
-}
-
-fn is_public(id: &Text) -> bool
-    ensures { result ≡ same_text id.now zope_public }
-{
-    id.is("zope.Public")
 }
 
 /// The rows for reading, none where there is no class.

@@ -8,10 +8,11 @@ use Rattle.rp_tree.specs.declared.parts.Guard.{Guard}
 use Rattle.rp_tree.specs.declared.stmt.Tree.{Tree}
 use Rattle.rp_tree.specs.Guarded.{Guarded}
 use Rattle.rp_tree.specs.Maps.{named, names_by, no_blocks, without_blocks}
-use Rattle.rp_tree.specs.Marks.{HasNoGuards, Rewrites, guard, no_marks}
+use Rattle.rp_tree.specs.Marks.{HasNoGuards, Rewrites, erase, no_marks}
 use Rattle.rp_tree.specs.StatementTrees.{Stmts}
 use Rattle.rp_tree.specs.StatementViews.{view_tree}
 use Rattle.rp_tree.proofs.MapLaws.{stmts_after}
+use Rattle.rp_tree.proofs.MarkLaws.{erased}
 use Rattle.rp_grammar.specs.Kinds.{Tokens}
 use Rattle.rp_grammar.specs.Leaves.{LeafTest, kind_passes, stmts_pass, tokens_pass}
 use Rattle.rp_grammar.specs.Program.{Spells}
@@ -92,31 +93,39 @@ module _ (source result : Stmts Name) (ts : Tokens) (spells : Spells source ts) 
   pub lawful : (word : Name → List ℕ) → offences (named word source) ≡ [] → offences (named word result) ≡ []
   lawful word h = sym (offences-unnumbered (λ w. w) (named word result)) ∙ ap offences (named_source word) ∙ h
 
+-- the tree with its guards, once they are taken off, differs from what was read in the numbers of code blocks alone
+pub unguarded : (source result marked : Stmts Name) → without_blocks result ≡ without_blocks source → Rewrites result marked
+    → without_blocks (erase marked) ≡ without_blocks source
+unguarded source result marked kept rewrites = ap without_blocks rewrites.is_source ∙ kept
+
 -- where 64 bits count the code blocks, they have their numbers
 pub has_numbers : (source result : Stmts Name) → block_numbers result ≡ renumbered 1 (block_numbers source) → block_count result + 1 < 2 ^ 64 → HasNumbers result
 has_numbers source result given few =
     let same : length (block_numbers result) ≡ length (block_numbers source) = ap length given ∙ length-renumbered 1 (block_numbers source) in
     numbered_from (block_numbers source) (block_numbers result) given (omega (arith, same, few))
 
--- what is kept of a script whose source has been numbered, then copied with its guards, and laid out
+-- what is kept of a script whose source has been numbered, laid out, and then given its guards
 pub compiled : (words : List (List ℕ)) (read source marked : Tree) (layouts : List Scope) (ts : Tokens) → Spells (view_tree read) ts
     → without_blocks (view_tree source) ≡ without_blocks (view_tree read) → block_numbers (view_tree source) ≡ renumbered 1 (block_numbers (view_tree read))
-    → offences_by (word_of words) (view_tree read) ≡ [] → view_tree marked ≡ guard (view_tree source) → Rewrites (view_tree source) (view_tree marked)
+    → offences_by (word_of words) (view_tree read) ≡ [] → Rewrites (view_tree source) (view_tree marked)
     → Guarded (view_tree marked) → block_count (view_tree source) + 1 < 2 ^ 64 → (HasNumbers (view_tree source) → AreScopesOf layouts [] (view_tree source))
-    → IsCompiled (record { source = source; rewritten = marked; layouts = layouts })
-compiled words read source marked layouts ts spells kept given lawful is rewrites guarded few laid =
+    → IsCompiled (record { rewritten = marked; layouts = layouts })
+compiled words read source marked layouts ts spells kept given lawful rewrites guarded few laid =
+    let result : Stmts Name = erase (view_tree marked) in
+    let kept_off : without_blocks result ≡ without_blocks (view_tree read) = unguarded (view_tree read) (view_tree source) (view_tree marked) kept rewrites in
     let numbers : HasNumbers (view_tree source) = has_numbers (view_tree read) (view_tree source) given few in
+    let source_numbers : HasNumbers result = subst (λ (x : Stmts Name). HasNumbers x) (sym rewrites.is_source) numbers in
     record {
-      plain = plain (view_tree read) (view_tree source) ts spells kept;
+      plain = erased (view_tree marked);
       tokens = ts;
-      spells = spelled (view_tree read) (view_tree source) ts spells kept;
+      spells = spelled (view_tree read) result ts spells kept_off;
       words = words;
-      lawful = unoffending (view_tree read) (view_tree source) ts spells kept (word_of words) lawful;
-      rewrites = rewrites;
+      lawful = unoffending (view_tree read) result ts spells kept_off (word_of words) lawful;
+      rewrites = record { is_source = refl; has_marks = rewrites.has_marks };
       guarded = guarded;
-      source_numbers = numbers;
-      numbers = subst (λ (x : Stmts Name). HasNumbers x) (sym is) (guarded_has_numbers (view_tree source) numbers);
-      scopes = laid numbers;
+      source_numbers = source_numbers;
+      numbers = subst (λ (x : Stmts Name). HasNumbers x) rewrites.has_marks (guarded_has_numbers result source_numbers);
+      scopes = subst (λ (x : Stmts Name). AreScopesOf layouts [] x) (sym rewrites.is_source) (laid numbers);
     }
 
 -- what is kept of a trusted module that has been numbered, then laid out

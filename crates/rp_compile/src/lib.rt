@@ -2,7 +2,7 @@
 #![tactic(auto)]
 
 mod script;
-mod trusted;
+mod trusted_module;
 
 pub use script::{Compiled, compile_script};
-pub use trusted::{Trusted, compile_trusted};
+pub use trusted_module::{Trusted, compile_trusted};

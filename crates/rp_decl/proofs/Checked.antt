@@ -1,18 +1,29 @@
--- In a document that has no faults all names are names, and all that is named is known.
-use Rattle.std.proofs.Common.{◌≡◌, ℕ, Bool, true, false, not, cond, List, [], ◌∷◌, ◌++◌, map, flat_map, filter, chars, codes, is_some, Option, Some, None, option_map, IfSome, Ordering, Less, Equal, Greater, is_eq, nat_cmp, refl, sym, ap, subst, ◌∙◌}
-use Rattle.std.specs.Cmp.Lexicographic.{bytes_decides, slice_cmp, texts_ties}
+-- In a document that has no faults all names are names, all that is named is known, and no object has the name of a class.
+use Rattle.std.proofs.Common.{◌≡◌, ℕ, Bool, true, false, not, cond, List, [], ◌∷◌, ◌++◌, map, flat_map, filter, ◌||◌, chars, codes, encode_utf8_all, is_some, nat_eq, Option, Some, None, option_map, string_bytes, IfSome, Ordering, Less, Equal, Greater, is_eq, nat_cmp, refl, sym, ap, subst, ◌∙◌, rules}
+use Rattle.std.specs.BTreeMap.{is_at}
+use Rattle.std.specs.Cmp.Lexicographic.{bytes_decides, pointwise, slice_cmp, texts_ties}
 use Rattle.std.specs.List.{AllByRecursion}
+use Rattle.std.specs.Map.{lookup}
 use Rattle.std.specs.Option.{option_map_or}
 use Rattle.std.specs.Ordering.{match_ordering}
 use Rattle.std.proofs.lemmas.Bool.{and_parts}
+use Rattle.std.proofs.lemmas.List.Elements.{All-from_recursion}
+use Rattle.std.proofs.lemmas.Str.{IsUtf8-string_bytes, encodes-chars}
+use Rattle.rp_base.specs.Same.{same_text}
 use Rattle.toml.specs.Data.{Data, string, integer, float, boolean, datetime, array, table, Items, no_items, item, Members, no_members, member, get_member}
+use Rattle.toml.specs.View.{members_view, view}
+use Rattle.toml.specs.declared.value.Value.{Value, out-Value, roll-Value, roll-out-Value, the_lemmas}
+use Rattle.toml.specs.declared.value.Value.TheOpen as value
+use Rattle.toml.specs.declared.value.Value.TheOpen.{Value-F}
+use Rattle.toml.proofs.Views.{Entry, view-lookup}
+use Rattle.rp_decl.specs.Apart.{AreNamesApart}
 use Rattle.rp_decl.specs.Consistency.{IsConsistent, class_faults, class_names, group_ids, is_on_ring, likes, needed, role_ids, unknown}
 use Rattle.rp_decl.specs.Document.{class_of, each_at, each_member, item_texts, members_of, named_field, object_of, records_of, row_of, text_of, texts_of}
 use Rattle.rp_decl.specs.Reading.{IsAllKnown, IsAmong, IsKnownBy, IsKnownClass, IsKnownField, IsKnownGroup, IsKnownObject, IsKnownPrincipal, IsKnownRow, IsName}
-use Rattle.rp_decl.specs.Records.{Class, Declarations, RowText}
+use Rattle.rp_decl.specs.Records.{Class, Declarations, Object, RowText}
 use Rattle.rp_decl.specs.Shape.{Path, Shape, all_members, are_texts, class_keys, deepest, document_keys, entries, entry_member, faults_of, field_value, is_array, is_class_name, is_object_name, is_text, keyed, keyed_member, object, object_keys, rows, table_of, text, unless, within}
 use Rattle.rp_decl.specs.Word.{is_among, is_declared_name, is_id}
-use Rattle.rp_decl.specs.declared.known.Known.{Known}
+use Rattle.rp_decl.specs.declared.known_ids.Known.{Known}
 
 -- lists of which each element has a fact
 
@@ -275,3 +286,72 @@ class_faults-named version ms h =
     joined IsName (unknown (class_names d) (flat_map likes d.classes ++ map (λ o. o.class) d.objects)) (filter (is_on_ring d) (class_names d))
     (filtered IsName (λ t. not (is_among (class_names d) t)) (flat_map likes d.classes ++ map (λ o. o.class) d.objects) (joined IsName (flat_map likes d.classes) (map (λ o. o.class) d.objects) likes_named objects))
     (filtered IsName (is_on_ring d) (class_names d) names)
+
+-- a name that is the key of no member is the name of no class
+absent : (es : List Entry) (name : List ℕ) → get_member (encode_utf8_all name) (members_view es) ≡ None → is_among (map (λ c. c.name) (each_member class_of (members_view es))) name ≡ false
+absent [] name h = refl
+absent (e ∷ es) name h =
+    let key = string_bytes e.0 in
+    let told : same_text name (chars key) ≡ is_eq (slice_cmp nat_cmp (encode_utf8_all name) key) =
+    ap (pointwise nat_eq (encode_utf8_all name)) (encodes-chars key (IsUtf8-string_bytes e.0)) ∙ texts_ties (encode_utf8_all name) key in
+    by (slice_cmp nat_cmp (encode_utf8_all name) key) told (absent es name) h
+  where
+    by : (o : Ordering) → same_text name (chars (string_bytes e.0)) ≡ is_eq o
+        → (get_member (encode_utf8_all name) (members_view es) ≡ None → is_among (map (λ c. c.name) (each_member class_of (members_view es))) name ≡ false)
+        → match_ordering o (get_member (encode_utf8_all name) (members_view es)) (Some (view e.1)) (get_member (encode_utf8_all name) (members_view es)) ≡ None
+        → (same_text name (chars (string_bytes e.0)) || is_among (map (λ c. c.name) (each_member class_of (members_view es))) name) ≡ false
+    by Less told rest h = rw (told, rest h) refl
+    by Equal told rest h = cc
+    by Greater told rest h = rw (told, rest h) refl
+
+-- the member of a table that stands for a name
+abbrev class_entry : List ℕ → Data → Option Data
+class_entry name d = get_member (encode_utf8_all name) (members_of d)
+
+-- the members of a value are the entries of a map
+entries_in : (v : Value) → (es : List Entry) × (members_of (view v) ≡ members_view es)
+entries_in v = subst (λ (v : Value). (es : List Entry) × (members_of (view v) ≡ members_view es)) (roll-out-Value v) (by (out-Value v))
+  where
+    by : (f : Value-F Value) → (es : List Entry) × (members_of (view (roll-Value f)) ≡ members_view es)
+    by (value.String s) = ([], search (rules, the_lemmas))
+    by (value.Integer z) = ([], search (rules, the_lemmas))
+    by (value.Float x) = ([], search (rules, the_lemmas))
+    by (value.Boolean b) = ([], search (rules, the_lemmas))
+    by (value.Datetime dt) = ([], search (rules, the_lemmas))
+    by (value.Array items) = ([], search (rules, the_lemmas))
+    by (value.Table m) = (m.entries, search (rules, the_lemmas))
+
+absent_from : (v : Value) (name : List ℕ) → class_entry name (view v) ≡ None → is_among (map (λ c. c.name) (each_member class_of (members_of (view v)))) name ≡ false
+absent_from v name h =
+    let (es, same) = entries_in v in
+    ap (λ ms. is_among (map (λ c. c.name) (each_member class_of ms)) name) same ∙ absent es name (ap (get_member (encode_utf8_all name)) (sym same) ∙ h)
+
+no_member : (o : Option Data) → not (is_some o) ≡ true → o ≡ None
+no_member None h = refl
+no_member (Some d) h = cc
+
+-- the name of an object is that of no class
+apart_from_classes : (es : List Entry) (name : List ℕ) → is_object_name (members_view es) name ≡ true → is_among (class_names (records_of (members_view es))) name ≡ false
+apart_from_classes es name h =
+    let classes = lookup (is_at (λ k. slice_cmp nat_cmp (codes "class") (string_bytes k))) es in
+    let found : option_map view classes ≡ get_member (codes "class") (members_view es) = view-lookup (codes "class") es in
+    let free = no_member _ (and_parts (is_declared_name name) _ h).1 in
+    ap (λ o. is_among (map (λ c. c.name) (option_map_or (λ d. each_member class_of (members_of d)) o [])) name) (sym found)
+    ∙ by classes (ap (λ o. option_map_or (class_entry name) o None) found ∙ free)
+  where
+    by : (o : Option Value) → option_map_or (class_entry name) (option_map view o) None ≡ None
+        → is_among (map (λ c. c.name) (option_map_or (λ d. each_member class_of (members_of d)) (option_map view o) [])) name ≡ false
+    by None h = refl
+    by (Some v) h = absent_from v name h
+
+-- no object of a document without faults has the name of a declared class
+pub names_apart : (version : ℕ) (es : List Entry) → faults_of version (members_view es) ≡ [] → AreNamesApart (records_of (members_view es))
+names_apart version es h =
+    let ms = members_view es in
+    let d = records_of ms in
+    let fine = member_at (λ k e. keyed_member (document_keys version ms) [] k e ≡ []) ms (each_fine (keyed_member (document_keys version ms) []) ms h) in
+    let Apart : Object → Type 0 = λ o. is_among (class_names d) o.name ≡ false in
+    record {
+      objects = All-from_recursion Apart d.objects (records_fine Apart object_of (codes "object") ms
+          (λ e at. entries_fine Apart object_of (is_object_name ms) object (within [] (codes "object")) (λ k o name value. apart_from_classes es (chars k) name) e (fine (codes "object") e at)));
+    }

@@ -37,6 +37,13 @@ by_version-Ok (Some v) ms d h =
 pub refused-IsConsistent : (version : ℕ) (ms : Members) (d : Declarations) → refuse shape (faults_of version ms) (consistent (records_of ms)) ≡ Ok d → IsConsistent d
 refused-IsConsistent version ms d h = by_version-Ok (Some version) ms d h
 
+-- it has no shape fault, and its records are those of the document
+pub refused-parts : (version : ℕ) (ms : Members) (d : Declarations) → refuse shape (faults_of version ms) (consistent (records_of ms)) ≡ Ok d
+    → (faults_of version ms ≡ []) × (records_of ms ≡ d)
+refused-parts version ms d h =
+    let (none, rest) = refuse-Ok shape (faults_of version ms) (consistent (records_of ms)) d h in
+    (none, (consistent-Ok (records_of ms) d rest).0)
+
 pub declares-IsConsistent : (n : ℕ) (ms : Members) (d : Declarations) → declares n ms ≡ Ok d → IsConsistent d
 declares-IsConsistent n ms d h = by_version-Ok (version_of n ms) ms d h
 

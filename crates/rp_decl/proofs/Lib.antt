@@ -9,6 +9,7 @@ pub mod Unknown
 pub mod Rings
 pub mod Named
 pub mod Growth
+pub mod Interned
 pub mod Fields
 pub mod Shown
 pub mod Checked

@@ -9,7 +9,7 @@ use Rattle.rp_decl.specs.Places.{IsClassHeld, IsClassWithin, IsClosed, IsGroupWi
 use Rattle.rp_decl.specs.Reading.{IsKnownBy, Shows, ShowsClass, ShowsGroup, ShowsName, ShowsObject, ShowsPrincipal, ShowsRole}
 use Rattle.rp_decl.specs.Records.{Declarations}
 use Rattle.rp_decl.specs.View.{Placed, class_view, declarations_view, group_ids as group_ids_placed, group_view, object_view, principal_view, role_ids as role_ids_placed, role_view}
-use Rattle.rp_decl.specs.declared.known.Known.{Known}
+use Rattle.rp_decl.specs.declared.known_ids.Known.{Known}
 use Rattle.rp_decl.proofs.Growth.{Shows-All, Shows-values, Shows-view}
 use Rattle.rp_decl.proofs.Shown.{keys-at, names-shown}
 

@@ -10,7 +10,7 @@ use Rattle.rp_decl.specs.Places.{ArePerms, AreBelow, AreRows, IsHeld}
 use Rattle.rp_decl.specs.Reading.{Shows, ShowsField, ShowsLike, ShowsName, ShowsPlace, ShowsRow}
 use Rattle.rp_decl.specs.Records.{Field, RowText}
 use Rattle.rp_decl.specs.View.{field_view, name_text, perm_text, row_text, text_at}
-use Rattle.rp_decl.specs.declared.known.Known.{Known}
+use Rattle.rp_decl.specs.declared.known_ids.Known.{Known}
 use Rattle.rp_decl.specs.declared.records.Field.{Field as FieldDecl}
 use Rattle.rp_decl.specs.declared.records.Perm.{Perm}
 use Rattle.rp_decl.proofs.Growth.{Shows-All, Shows-values, Shows-view}

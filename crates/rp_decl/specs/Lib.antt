@@ -1,5 +1,7 @@
+pub mod Apart
 pub mod Consistency
 pub mod Declares
+pub mod DeclaredWords
 pub mod Document
 pub mod Faults
 pub mod InOrder

@@ -10,7 +10,7 @@ use Rattle.rp_decl.specs.declared.records.RoleDecl.{RoleDecl}
 use Rattle.rp_decl.specs.declared.records.GroupDecl.{GroupDecl}
 use Rattle.rp_decl.specs.declared.records.PrincipalDecl.{PrincipalDecl}
 use Rattle.rp_decl.specs.declared.records.ObjectDecl.{ObjectDecl}
-use Rattle.rp_decl.specs.declared.known.Known.{Known}
+use Rattle.rp_decl.specs.declared.known_ids.Known.{Known}
 use Rattle.rp_decl.specs.Consistency.{group_ids, role_ids}
 use Rattle.rp_decl.specs.InOrder.{IsInOrder, IsClassInOrder, IsObjectInOrder}
 use Rattle.rp_decl.specs.Places.{GrowsTo, IsHeld, IsClassHeld, IsObjectHeld, IsClassWithin, IsRoleWithin, IsGroupWithin, IsPrincipalWithin}

@@ -13,7 +13,7 @@ use crate::document::member;
 use crate::least::lesser_of;
 use crate::naming::{Naming, unknown_at, unknown_in_array, unknown_in_rows, unknown_text};
 use crate::ring::ring_fault;
-use crate::sorted::{Sorted, str_of};
+use crate::text_set::{Sorted, str_of};
 use rp_base::{Memory, Text};
 use std::alloc::Global;
 use toml::{Table, Value};

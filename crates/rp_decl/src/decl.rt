@@ -1,7 +1,7 @@
 //! The records of a declaration file, whole.
 
 use crate::consistency::text_member;
-use crate::known::Known;
+use crate::known_ids::Known;
 use crate::reading::{names_at, records_at};
 use crate::records::{ClassDecl, GroupDecl, ObjectDecl, PrincipalDecl, RoleDecl};
 use rp_base::{Memory, Name, Names, Text};
@@ -59,7 +59,9 @@ impl Model for Decl {
 
 impl Decl {
     ghost use Rattle.std.specs.Prelude.{◌≡◌, All, IfOk, length};
+    ghost use Rattle.rp_base.specs.Names.{with_words};
     ghost use Rattle.toml.specs.View.{table_view};
+    ghost use Rattle.rp_decl.specs.DeclaredWords.{declared_words};
     ghost use Rattle.rp_decl.specs.Document.{records_of};
     ghost use Rattle.rp_decl.specs.InOrder.{AreInOrder};
     ghost use Rattle.rp_decl.specs.Reading.{IsAllKnown, IsKnownBy};
@@ -79,6 +81,8 @@ impl Decl {
         ensures declared { IfOk result (λ d. declarations_view names.new d ≡ records_of (table_view document.now)) }
         ensures held { IfOk result (IsHeldBy names.new) }
         ensures ordered { IfOk result (λ d. AreInOrder (records_of (table_view document.now))) }
+        ensures words { IfOk result (λ d. names.new
+            ≡ with_words names.old (declared_words (declarations_view names.new d))) }
         ensures grown { GrowsTo names.old names.new }
     {
         let expose = names_at(alloc, names, document, "expose")?;

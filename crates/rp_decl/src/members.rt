@@ -1,7 +1,9 @@
 //! The members of tables as records: of classes, roles, groups, principals and objects.
 
-ghost use Rattle.std.specs.Prelude.{IfOk, IfSome, codes};
+ghost use Rattle.std.specs.Prelude.{◌≡◌, [], ◌∷◌, IfOk, IfSome, OnOk, codes};
+ghost use Rattle.std.specs.Option.{option_map_or};
 ghost use Rattle.toml.specs.View.{table_view, view};
+ghost use Rattle.rp_base.specs.Names.{with_words};
 ghost use Rattle.rp_decl.specs.Document.{members_of, text_at};
 ghost use Rattle.rp_decl.specs.Places.{GrowsTo};
 ghost use Rattle.rp_decl.specs.Reading.{FromNowOn, IsName, ShowsLike};
@@ -9,10 +11,10 @@ ghost use Rattle.rp_decl.specs.Reading.{FromNowOn, IsName, ShowsLike};
 use crate::consistency::class_of_object;
 use crate::document::member;
 use crate::field::field_of;
-use crate::known::Known;
+use crate::known_ids::Known;
 use crate::reading::{Record, name_of, place_of, places_of, records_of};
 use crate::records::{ClassDecl, Field, GroupDecl, ObjectDecl, Perm, PrincipalDecl, RoleDecl};
-use crate::sorted::str_of;
+use crate::text_set::str_of;
 use rp_base::{Memory, Name, Names, Text};
 use std::alloc::Global;
 use toml::{Table, Value};
@@ -30,6 +32,8 @@ impl Record for (Name, Perm) {
     ghost is_known = { IsKnownRow };
 
     ghost shows = { ShowsRow };
+
+    ghost words = { λ row. row.0 ∷ [] };
 
     fn read(
         _alloc: Global,
@@ -59,6 +63,8 @@ impl Record for (Name, Field) {
 
     ghost shows = { λ names known. ShowsField names };
 
+    ghost words = { λ field. field.0 ∷ [] };
+
     fn read(
         alloc: Global,
         names: &mut Names,
@@ -76,6 +82,7 @@ impl Record for ClassDecl {
     ghost use Rattle.rp_decl.specs.Document.{class_of};
     ghost use Rattle.rp_decl.specs.Reading.{IsKnownClass, ShowsClass};
     ghost use Rattle.rp_decl.specs.Records.{Class};
+    ghost use Rattle.rp_decl.specs.DeclaredWords.{class_words};
 
     ghost Said = { Class };
 
@@ -84,6 +91,8 @@ impl Record for ClassDecl {
     ghost is_known = { IsKnownClass };
 
     ghost shows = { ShowsClass };
+
+    ghost words = { class_words };
 
     fn read(
         alloc: Global,
@@ -110,6 +119,8 @@ fn like_of(names: &mut Names, class: &Value) -> Result<Option<Name>, Memory>
     requires { IfSome (text_at (codes "like") (members_of (view class.now))) IsName }
     ensures like { IfOk result (λ like. FromNowOn names.new
         (λ names. ShowsLike names like (text_at (codes "like") (members_of (view class.now))))) }
+    ensures interned { OnOk result (names.new ≡ with_words names.old
+        (option_map_or (λ name. name ∷ []) (text_at (codes "like") (members_of (view class.now))) [])) }
     ensures grown { GrowsTo names.old names.new }
 {
     match class {
@@ -122,6 +133,8 @@ fn like_at(names: &mut Names, class: &Table) -> Result<Option<Name>, Memory>
     requires { IfSome (text_at (codes "like") (table_view class.now)) IsName }
     ensures like { IfOk result (λ like. FromNowOn names.new
         (λ names. ShowsLike names like (text_at (codes "like") (table_view class.now)))) }
+    ensures interned { OnOk result (names.new ≡ with_words names.old
+        (option_map_or (λ name. name ∷ []) (text_at (codes "like") (table_view class.now)) [])) }
     ensures grown { GrowsTo names.old names.new }
 {
     match member(class, "like") {
@@ -145,6 +158,8 @@ impl Record for RoleDecl {
     ghost is_known = { IsKnownRole };
 
     ghost shows = { λ names. ShowsRole };
+
+    ghost words = { λ r. [] };
 
     fn read(
         alloc: Global,
@@ -171,6 +186,8 @@ impl Record for GroupDecl {
     ghost is_known = { IsKnownGroup };
 
     ghost shows = { λ names. ShowsGroup };
+
+    ghost words = { λ g. [] };
 
     fn read(
         alloc: Global,
@@ -205,6 +222,8 @@ impl Record for PrincipalDecl {
 
     ghost shows = { λ names. ShowsPrincipal };
 
+    ghost words = { λ p. [] };
+
     fn read(
         alloc: Global,
         _names: &mut Names,
@@ -231,6 +250,7 @@ impl Record for ObjectDecl {
     ghost use Rattle.rp_decl.specs.Document.{object_of};
     ghost use Rattle.rp_decl.specs.Reading.{IsKnownObject, ShowsObject};
     ghost use Rattle.rp_decl.specs.Records.{Object};
+    ghost use Rattle.rp_decl.specs.DeclaredWords.{object_words};
 
     ghost Said = { Object };
 
@@ -239,6 +259,8 @@ impl Record for ObjectDecl {
     ghost is_known = { λ known. IsKnownObject };
 
     ghost shows = { λ names known. ShowsObject names };
+
+    ghost words = { object_words };
 
     fn read(
         alloc: Global,

@@ -10,7 +10,7 @@ ghost use Rattle.rp_decl.specs.Order.{least};
 
 use crate::document::member;
 use crate::least::lesser_of;
-use crate::sorted::{Sorted, str_of};
+use crate::text_set::{Sorted, str_of};
 use rp_base::{Memory, Text};
 use std::alloc::Global;
 use toml::value::Array;

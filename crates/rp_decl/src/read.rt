@@ -2,10 +2,13 @@
 
 ghost use Rattle.std.specs.Prelude.{◌≡◌, ℕ, List, [], IfOk, IfErr, OnOk, Ok, Result};
 ghost use Rattle.toml.specs.View.{table_view};
+ghost use Rattle.rp_base.specs.Names.{with_words};
+ghost use Rattle.rp_decl.specs.Apart.{AreNamesApart};
 ghost use Rattle.rp_decl.specs.Consistency.{IsConsistent, class_faults, class_names, group_faults, group_ids};
 ghost use Rattle.rp_decl.specs.Consistency.{permission_faults, role_faults, role_ids};
 ghost use Rattle.rp_decl.specs.Declares.{Declares, KeepsVersion1, Refusal, class, consistent, group, permission};
 ghost use Rattle.rp_decl.specs.Declares.{refuse, role, shape};
+ghost use Rattle.rp_decl.specs.DeclaredWords.{declared_words};
 ghost use Rattle.rp_decl.specs.Document.{records_of};
 ghost use Rattle.rp_decl.specs.Faults.{HasFault, IsFaultHeld, Tells};
 ghost use Rattle.rp_decl.specs.InOrder.{AreInOrder};
@@ -19,15 +22,16 @@ use crate::consistency::{class_fault, group_fault, permission_fault, role_fault}
 use crate::decl::Decl;
 use crate::document::{read_document, version_of};
 use crate::fault::DeclFault;
-use crate::known::Known;
+use crate::known_ids::Known;
 use crate::reading::name_of;
 use crate::shapes::shape_fault;
-use crate::sorted::Sorted;
+use crate::text_set::Sorted;
 use rp_base::Names;
 use std::alloc::Global;
 use toml::Table;
 
-/// The records of a declaration file. The names in it are added to `names`, which keep theirs.
+/// The records of a declaration file. The names in it are added to `names`, which keep theirs, in the order of
+/// `declared_words`.
 ///
 /// # Errors
 /// The first refusal, in the order of `DeclFault`, and `Memory` where a growth was refused. After a
@@ -37,10 +41,13 @@ pub fn declarations(alloc: Global, bytes: &[u8], names: &mut Names) -> Result<De
     ensures held { IfOk result (IsHeldBy names.new) }
     ensures ordered { IfOk result (λ d. AreInOrder (declarations_view names.new d)) }
     ensures consistent { IfOk result (λ d. IsConsistent (declarations_view names.new d)) }
+    ensures apart { IfOk result (λ d. AreNamesApart (declarations_view names.new d)) }
     ensures fault { IfErr result (HasFault bytes.now names.new) }
     ensures fault_held { IfErr result (IsFaultHeld names.new) }
     ensures version_1 { KeepsVersion1 bytes.now }
     ensures names { GrowsTo names.old names.new }
+    ensures words { IfOk result (λ d. names.new
+        ≡ with_words names.old (declared_words (declarations_view names.new d))) }
 {
     let document = read_document(alloc, bytes)?;
     match version_of(&document) {
@@ -60,6 +67,8 @@ fn declared(
         (consistent (records_of (table_view document.now))) ≡ Ok (declarations_view names.new d)) }
     ensures held { IfOk result (IsHeldBy names.new) }
     ensures ordered { IfOk result (λ d. AreInOrder (declarations_view names.new d)) }
+    ensures words { IfOk result (λ d. names.new
+        ≡ with_words names.old (declared_words (declarations_view names.new d))) }
     ensures fault { IfErr result (λ fault. Tells names.new fault
         (refuse shape (faults_of version (table_view document.now))
         (consistent (records_of (table_view document.now))))) }
@@ -108,6 +117,7 @@ fn check_classes(
 ) -> Result<(), DeclFault>
     requires { faults_of version (table_view document.now) ≡ [] }
     ensures ok { OnOk result (class_faults (records_of (table_view document.now)) ≡ []) }
+    ensures same { OnOk result (names.new ≡ names.old) }
     ensures fault { IfErr result (λ fault. (next : Result Declarations Refusal)
         → Tells names.new fault (refuse class (class_faults (records_of (table_view document.now))) next)) }
     ensures fault_held { IfErr result (IsFaultHeld names.new) }

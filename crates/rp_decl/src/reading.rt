@@ -1,19 +1,20 @@
 //! Arrays and tables of a document as lists of places, names and records.
 
-ghost use Rattle.std.specs.Prelude.{◌≡◌, ℕ, List, [], IfOk, IsSome, chars, codes};
-ghost use Rattle.std.specs.List.{AllByRecursion};
+ghost use Rattle.std.specs.Prelude.{◌≡◌, ℕ, List, [], IfOk, IsSome, OnOk, chars, codes};
+ghost use Rattle.std.specs.List.{AllByRecursion, flat_map};
 ghost use Rattle.toml.specs.Data.{Data};
 ghost use Rattle.toml.specs.View.{array_view, table_view, view};
+ghost use Rattle.rp_base.specs.Names.{with_word, with_words};
 ghost use Rattle.rp_decl.specs.Document.{each_at, each_member, item_texts, key_text, members_of, texts_at, texts_of};
 ghost use Rattle.rp_decl.specs.InOrder.{AreAscending};
 ghost use Rattle.rp_decl.specs.Places.{GrowsTo};
 ghost use Rattle.rp_decl.specs.Reading.{FromNowOn, IsAmong, IsName, Shows, ShowsName, ShowsPlace};
-ghost use Rattle.rp_decl.specs.declared.known.Known.{Known};
+ghost use Rattle.rp_decl.specs.declared.known_ids.Known.{Known};
 
 use crate::document::member;
-use crate::known::Known;
+use crate::known_ids::Known;
 use crate::records::Perm;
-use crate::sorted::{Sorted, str_of};
+use crate::text_set::{Sorted, str_of};
 use rp_base::{Memory, Name, Names};
 use std::alloc::Global;
 use toml::value::Array;
@@ -31,6 +32,9 @@ pub(crate) trait Record: Drop + Sized {
 
     ghost shows: { List (List ℕ) → Known → Self → Said → Type 0 };
 
+    /// The names in it.
+    ghost words: { Said → List (List ℕ) };
+
     fn read(
         alloc: Global,
         names: &mut Names,
@@ -41,6 +45,7 @@ pub(crate) trait Record: Drop + Sized {
         requires { is_known known.now (said key.now (view value.now)) }
         ensures record_read { IfOk result
             (λ r. FromNowOn names.new (λ names. shows names known.now r (said key.now (view value.now)))) }
+        ensures interned { OnOk result (names.new ≡ with_words names.old (words (said key.now (view value.now)))) }
         ensures grown { GrowsTo names.old names.new };
 }
 
@@ -56,6 +61,8 @@ pub(crate) fn records_at<R: Record>(
     ensures records { IfOk result (λ records. FromNowOn names.new
         (λ names. Shows (R.shows names known.now) records.items (each_at R.said key.now (table_view table.now)) [])) }
     ensures ordered { IfOk result (λ records. AreAscending (each_at key_text key.now (table_view table.now))) }
+    ensures interned { OnOk result (names.new
+        ≡ with_words names.old (flat_map R.words (each_at R.said key.now (table_view table.now)))) }
     ensures grown { GrowsTo names.old names.new }
 {
     match member(table, key) {
@@ -75,6 +82,8 @@ fn records_in<R: Record>(
         (λ names. Shows (R.shows names known.now) records.items
         (each_member R.said (members_of (view value.now))) [])) }
     ensures ordered { IfOk result (λ records. AreAscending (each_member key_text (members_of (view value.now)))) }
+    ensures interned { OnOk result (names.new
+        ≡ with_words names.old (flat_map R.words (each_member R.said (members_of (view value.now))))) }
     ensures grown { GrowsTo names.old names.new }
 {
     match value {
@@ -93,6 +102,8 @@ fn each_record<R: Record>(
     ensures records { IfOk result (λ records. FromNowOn names.new
         (λ names. Shows (R.shows names known.now) records.items (each_member R.said (table_view table.now)) [])) }
     ensures ordered { IfOk result (λ records. AreAscending (each_member key_text (table_view table.now))) }
+    ensures interned { OnOk result (names.new
+        ≡ with_words names.old (flat_map R.words (each_member R.said (table_view table.now)))) }
     ensures grown { GrowsTo names.old names.new }
 {
     let mut records = Vec::new(alloc);
@@ -116,6 +127,8 @@ pub(crate) fn records_of<R: Record>(
         (λ names. Shows (R.shows names known.now) records.items
         (each_at R.said key.now (members_of (view value.now))) [])) }
     ensures ordered { IfOk result (λ records. AreAscending (each_at key_text key.now (members_of (view value.now)))) }
+    ensures interned { OnOk result (names.new
+        ≡ with_words names.old (flat_map R.words (each_at R.said key.now (members_of (view value.now))))) }
     ensures grown { GrowsTo names.old names.new }
 {
     match value {
@@ -128,6 +141,7 @@ pub(crate) fn records_of<R: Record>(
 pub(crate) fn name_of(names: &mut Names, word: &str) -> Result<Name, Memory>
     requires { IsName (chars word.now) }
     ensures name { IfOk result (λ name. FromNowOn names.new (λ names. ShowsName names name (chars word.now))) }
+    ensures interned { OnOk result (names.new ≡ with_word names.old (chars word.now)) }
     ensures grown { GrowsTo names.old names.new }
 {
     names.intern(word)
@@ -233,6 +247,7 @@ pub(crate) fn names_at(
     requires { AllByRecursion IsName (texts_at key.now (table_view table.now)) }
     ensures shown { IfOk result (λ words. FromNowOn names.new
         (λ names. Shows (ShowsName names) words.items (texts_at key.now (table_view table.now)) [])) }
+    ensures interned { OnOk result (names.new ≡ with_words names.old (texts_at key.now (table_view table.now))) }
     ensures grown { GrowsTo names.old names.new }
 {
     match member(table, key) {
@@ -245,6 +260,7 @@ fn names_in(alloc: Global, names: &mut Names, value: &Value) -> Result<Vec<Name>
     requires { AllByRecursion IsName (texts_of (view value.now)) }
     ensures shown { IfOk result (λ words. FromNowOn names.new
         (λ names. Shows (ShowsName names) words.items (texts_of (view value.now)) [])) }
+    ensures interned { OnOk result (names.new ≡ with_words names.old (texts_of (view value.now))) }
     ensures grown { GrowsTo names.old names.new }
 {
     match value {
@@ -257,6 +273,7 @@ fn each_name(alloc: Global, names: &mut Names, items: &Array) -> Result<Vec<Name
     requires { AllByRecursion IsName (item_texts (array_view items.now)) }
     ensures shown { IfOk result (λ words. FromNowOn names.new
         (λ names. Shows (ShowsName names) words.items (item_texts (array_view items.now)) [])) }
+    ensures interned { OnOk result (names.new ≡ with_words names.old (item_texts (array_view items.now))) }
     ensures grown { GrowsTo names.old names.new }
 {
     let mut words = Vec::new(alloc);

@@ -4,7 +4,7 @@ use Rattle.rp_base.specs.declared.operator.BinOp.{BinOp}
 use Rattle.rp_token.specs.declared.token.TokenKind.{TokenKind}
 use Rattle.rp_tree.specs.Expressions.{Expr}
 use Rattle.rp_grammar.specs.Kinds.{Tokens, first, skip}
-use Rattle.rp_grammar.specs.ExpressionReading as r
+use Rattle.rp_grammar.specs.ExpressionReading as reading
 use Rattle.rp_grammar.specs.ExpressionReading.{Read, Readers, ◌>>=◌, all_many, all_listed, before}
 use Rattle.rp_grammar.proofs.Loops.{Shortens, ShortensIn, front, many_fail, listed_fail}
 use Rattle.rp_grammar.proofs.Turns.{pair_read, none_above, step_fails}
@@ -40,22 +40,22 @@ listed_fails open_end shut_end cons begins read short fault whole items s rest s
 
 -- ---- a fault in an item
 
-pub alike_fails : {A : Type 0} (fault : Fault) (read : Tokens → Read A) (ts : Tokens) → Fails fault (read ts) → Fails fault (r.alike read tt ts)
-alike_fails fault read ts bad = fails fault (read ts) (r.alike read tt ts) bad (λ none. rw none refl)
+pub alike_fails : {A : Type 0} (fault : Fault) (read : Tokens → Read A) (ts : Tokens) → Fails fault (read ts) → Fails fault (reading.alike read tt ts)
+alike_fails fault read ts bad = fails fault (read ts) (reading.alike read tt ts) bad (λ none. rw none refl)
 
-pub operation_fails : (fault : Fault) (k : ℕ) (read : Tokens → Read Expr) (ts : Tokens) (o : BinOp) → r.operator_of k (first ts) ≡ Some o → Fails fault (read (skip ts)) → Fails fault (r.operation k read ts)
-operation_fails fault k read ts o h bad = fails fault (read (skip ts)) (r.operation k read ts) bad (λ none. fails_by (r.operator_of k (first ts)) o (read (skip ts)) h none)
+pub operation_fails : (fault : Fault) (k : ℕ) (read : Tokens → Read Expr) (ts : Tokens) (o : BinOp) → reading.operator_of k (first ts) ≡ Some o → Fails fault (read (skip ts)) → Fails fault (reading.operation k read ts)
+operation_fails fault k read ts o h bad = fails fault (read (skip ts)) (reading.operation k read ts) bad (λ none. fails_by (reading.operator_of k (first ts)) o (read (skip ts)) h none)
   where
     fails_by : (p : Option BinOp) (o : BinOp) (q : Read Expr) → p ≡ Some o → q ≡ None → (p >>= λ o. q >>= λ e. pair_read o e.0 e.1) ≡ None
     fails_by p o q h none = rw (h, none) refl
 
 -- ---- a fault at a level of a chain
 
-pub chain_fails : (fault : Fault) (rs : Readers) (k level : ℕ) (ts us : Tokens) (e : Expr) → r.chain rs k ts ≡ Some (e, us) → k < level → Fails fault (r.chained_at (suc k) (r.chain rs k) e us) → Fails fault (r.chain rs level ts)
+pub chain_fails : (fault : Fault) (rs : Readers) (k level : ℕ) (ts us : Tokens) (e : Expr) → reading.chain rs k ts ≡ Some (e, us) → k < level → Fails fault (reading.chained_at (suc k) (reading.chain rs k) e us) → Fails fault (reading.chain rs level ts)
 chain_fails fault rs k level ts us e so_far below bad =
-    fails fault (r.chained_at (suc k) (r.chain rs k) e us) (r.chain rs level ts) bad
-    (λ none. let sum : (level - suc k) + suc k ≡ level = omega arith in subst (λ (n : ℕ). r.chain rs n ts ≡ None) sum (none_above rs (suc k) (level - suc k) ts (step_fails rs k ts us e so_far none)))
+    fails fault (reading.chained_at (suc k) (reading.chain rs k) e us) (reading.chain rs level ts) bad
+    (λ none. let sum : (level - suc k) + suc k ≡ level = omega arith in subst (λ (n : ℕ). reading.chain rs n ts ≡ None) sum (none_above rs (suc k) (level - suc k) ts (step_fails rs k ts us e so_far none)))
 
-pub chain_unread : (fault : Fault) (rs : Readers) (level : ℕ) (ts : Tokens) → Fails fault (r.unary rs ts) → Fails fault (r.chain rs level ts)
-unfolding r.chain
-chain_unread fault rs level ts bad = fails fault (r.unary rs ts) (r.chain rs level ts) bad (λ none. let sum : level + zero ≡ level = omega arith in subst (λ (n : ℕ). r.chain rs n ts ≡ None) sum (none_above rs zero level ts none))
+pub chain_unread : (fault : Fault) (rs : Readers) (level : ℕ) (ts : Tokens) → Fails fault (reading.unary rs ts) → Fails fault (reading.chain rs level ts)
+unfolding reading.chain
+chain_unread fault rs level ts bad = fails fault (reading.unary rs ts) (reading.chain rs level ts) bad (λ none. let sum : level + zero ≡ level = omega arith in subst (λ (n : ℕ). reading.chain rs n ts ≡ None) sum (none_above rs zero level ts none))

@@ -1,7 +1,7 @@
 -- What the readers of the program promise.
 use Rattle.std.specs.Prelude.{◌≡◌, Option, Some, None, Result, Ok, Err}
 use Rattle.rp_tree.specs.Expressions.{Named}
-use Rattle.rp_tree.specs.Expressions as t
+use Rattle.rp_tree.specs.Expressions as tree
 use Rattle.rp_tree.specs.ExpressionViews.{maybe_of}
 use Rattle.rp_expr.specs.declared.fault.Fault.{Fault}
 use Rattle.rp_expr.specs.declared.fault.Fault.TheVariants as fault
@@ -17,5 +17,5 @@ Gives f (Ok x) read = read ≡ Some (f x)
 Gives f (Err e) read = Fails e read
 
 -- a parameter with its default
-abbrev pub plain_item : Named × Option t.Expr → Named × t.Maybe
+abbrev pub plain_item : Named × Option tree.Expr → Named × tree.Maybe
 plain_item p = (p.0, maybe_of p.1)

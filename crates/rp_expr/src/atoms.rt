@@ -1,10 +1,10 @@
 //! Atoms.
 
 ghost use Rattle.std.specs.Prelude.{◌≡◌, Some, map, option_map};
-ghost use Rattle.rp_tree.specs.Expressions as t;
-ghost use Rattle.rp_tree.specs.ExpressionViews as v;
+ghost use Rattle.rp_tree.specs.Expressions as tree;
+ghost use Rattle.rp_tree.specs.ExpressionViews as views;
 ghost use Rattle.rp_expr.specs.Gives.{Gives};
-ghost use Rattle.rp_grammar.specs.ExpressionReading as r;
+ghost use Rattle.rp_grammar.specs.ExpressionReading as reading;
 
 use crate::clauses::clauses;
 use crate::expressions::inner_expr;
@@ -24,7 +24,8 @@ use std::alloc::Global;
 #[cycle(expr)]
 #[tactic(auto, unfolding(rp_grammar::specs::ExpressionReading::parenthesized), using(rp_tree::proofs::ExpressionEquations::variants))]
 fn parenthesized(alloc: Global, line: Line, tokens: &[Token], depth: usize) -> Read<'_, Expr>
-    ensures { Gives (λ x. (v.view_expr x.0, x.1.now)) result (r.parenthesized (r.readers depth) line tokens.now) }
+    ensures { Gives (λ x. (views.view_expr x.0, x.1.now)) result
+        (reading.parenthesized (reading.readers depth) line tokens.now) }
 {
     if is_right_paren(tokens) {
         let none = ExprForm::Tuple(Vec::new(alloc));
@@ -43,7 +44,8 @@ fn parenthesized(alloc: Global, line: Line, tokens: &[Token], depth: usize) -> R
 #[cycle(expr)]
 #[tactic(auto, unfolding(rp_grammar::specs::ExpressionReading::bracketed), using(rp_tree::proofs::ExpressionEquations::variants))]
 fn bracketed(alloc: Global, line: Line, tokens: &[Token], depth: usize) -> Read<'_, Expr>
-    ensures { Gives (λ x. (v.view_expr x.0, x.1.now)) result (r.bracketed (r.readers depth) line tokens.now) }
+    ensures { Gives (λ x. (views.view_expr x.0, x.1.now)) result
+        (reading.bracketed (reading.readers depth) line tokens.now) }
 {
     if is_right_bracket(tokens) {
         let none = ExprForm::List(Vec::new(alloc));
@@ -66,7 +68,8 @@ fn bracketed(alloc: Global, line: Line, tokens: &[Token], depth: usize) -> Read<
 #[cycle(expr)]
 #[tactic(auto, unfolding(rp_grammar::specs::ExpressionReading::braced), using(rp_tree::proofs::ExpressionEquations::variants))]
 fn braced(alloc: Global, line: Line, tokens: &[Token], depth: usize) -> Read<'_, Expr>
-    ensures { Gives (λ x. (v.view_expr x.0, x.1.now)) result (r.braced (r.readers depth) line tokens.now) }
+    ensures { Gives (λ x. (views.view_expr x.0, x.1.now)) result
+        (reading.braced (reading.readers depth) line tokens.now) }
 {
     if is_right_brace(tokens) {
         let none = ExprForm::Dict(Vec::new(alloc));
@@ -91,7 +94,7 @@ fn braced(alloc: Global, line: Line, tokens: &[Token], depth: usize) -> Read<'_,
 #[cycle(expr)]
 #[tactic(auto, unfolding(rp_grammar::specs::ExpressionReading::atom))]
 pub fn atom(alloc: Global, tokens: &[Token], depth: usize) -> Read<'_, Expr>
-    ensures { Gives (λ x. (v.view_expr x.0, x.1.now)) result (r.atom (r.readers depth) tokens.now) }
+    ensures { Gives (λ x. (views.view_expr x.0, x.1.now)) result (reading.atom (reading.readers depth) tokens.now) }
 {
     match tokens {
         [] => Err(Fault::Syntax),
@@ -102,8 +105,8 @@ pub fn atom(alloc: Global, tokens: &[Token], depth: usize) -> Read<'_, Expr>
 #[cycle(expr)]
 #[tactic(auto, using(rp_tree::proofs::ExpressionEquations::variants))]
 fn atom_at<'a>(alloc: Global, token: &Token, rest: &'a [Token], depth: usize) -> Read<'a, Expr>
-    ensures { Gives (λ x. (v.view_expr x.0, x.1.now)) result
-        (r.atom_by token.now.kind (r.readers depth) token.now.line rest.now) }
+    ensures { Gives (λ x. (views.view_expr x.0, x.1.now)) result
+        (reading.atom_by token.now.kind (reading.readers depth) token.now.line rest.now) }
 {
     let line = token.line;
     match &token.kind {

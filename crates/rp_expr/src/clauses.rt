@@ -1,10 +1,10 @@
 //! The clauses of comprehensions.
 
 ghost use Rattle.std.specs.Prelude.{◌≡◌, Some, map, option_map};
-ghost use Rattle.rp_tree.specs.Expressions as t;
-ghost use Rattle.rp_tree.specs.ExpressionViews as v;
+ghost use Rattle.rp_tree.specs.Expressions as tree;
+ghost use Rattle.rp_tree.specs.ExpressionViews as views;
 ghost use Rattle.rp_expr.specs.Gives.{Gives};
-ghost use Rattle.rp_grammar.specs.ExpressionReading as r;
+ghost use Rattle.rp_grammar.specs.ExpressionReading as reading;
 
 use crate::conversion::target_of;
 use crate::expressions::{inner_or, inner_primary};
@@ -17,7 +17,7 @@ use std::alloc::Global;
 #[cycle(expr)]
 #[tactic(auto, unfolding(rp_grammar::specs::ExpressionReading::part))]
 fn part(alloc: Global, tokens: &[Token], depth: usize) -> Read<'_, Target>
-    ensures { Gives (λ x. (v.view_target x.0, x.1.now)) result (r.part (r.readers depth) tokens.now) }
+    ensures { Gives (λ x. (views.view_target x.0, x.1.now)) result (reading.part (reading.readers depth) tokens.now) }
 {
     let (primary, rest) = inner_primary(alloc, tokens, depth)?;
     Ok((target_of(alloc, primary)?, rest))
@@ -25,8 +25,8 @@ fn part(alloc: Global, tokens: &[Token], depth: usize) -> Read<'_, Target>
 
 #[cycle(expr)]
 fn parts(alloc: Global, first: Target, tokens: &[Token], depth: usize) -> Read<'_, Vec<Target>>
-    ensures { Gives (λ x. (v.targets_of (map v.view_target x.0.items), x.1.now)) result
-        (r.parts (r.readers depth) (v.view_target first) tokens.now) }
+    ensures { Gives (λ x. (views.targets_of (map views.view_target x.0.items), x.1.now)) result
+        (reading.parts (reading.readers depth) (views.view_target first) tokens.now) }
 {
     let mut found = Vec::with_capacity(alloc, 1)?;
     found.push(first)?;
@@ -46,7 +46,7 @@ fn parts(alloc: Global, first: Target, tokens: &[Token], depth: usize) -> Read<'
 #[cycle(expr)]
 #[tactic(auto, unfolding(rp_grammar::specs::ExpressionReading::target), using(rp_tree::proofs::ExpressionEquations::variants))]
 pub fn target(alloc: Global, tokens: &[Token], depth: usize) -> Read<'_, Target>
-    ensures { Gives (λ x. (v.view_target x.0, x.1.now)) result (r.target (r.readers depth) tokens.now) }
+    ensures { Gives (λ x. (views.view_target x.0, x.1.now)) result (reading.target (reading.readers depth) tokens.now) }
 {
     let (first, rest) = part(alloc, tokens, depth)?;
     if !is_comma(rest) {
@@ -58,8 +58,8 @@ pub fn target(alloc: Global, tokens: &[Token], depth: usize) -> Read<'_, Target>
 
 #[cycle(expr)]
 fn ifs(alloc: Global, tokens: &[Token], depth: usize) -> Read<'_, Vec<Expr>>
-    ensures { Gives (λ x. (v.exprs_of (map v.view_expr x.0.items), x.1.now)) result
-        (r.ifs (r.readers depth) tokens.now) }
+    ensures { Gives (λ x. (views.exprs_of (map views.view_expr x.0.items), x.1.now)) result
+        (reading.ifs (reading.readers depth) tokens.now) }
 {
     let mut found = Vec::new(alloc);
     let mut rest = tokens;
@@ -74,7 +74,7 @@ fn ifs(alloc: Global, tokens: &[Token], depth: usize) -> Read<'_, Vec<Expr>>
 #[cycle(expr)]
 #[tactic(auto, unfolding(rp_grammar::specs::ExpressionReading::clause))]
 fn clause(alloc: Global, tokens: &[Token], depth: usize) -> Read<'_, Clause>
-    ensures { Gives (λ x. (v.view_clause x.0, x.1.now)) result (r.clause (r.readers depth) tokens.now) }
+    ensures { Gives (λ x. (views.view_clause x.0, x.1.now)) result (reading.clause (reading.readers depth) tokens.now) }
 {
     let (target, rest) = target(alloc, tokens, depth)?;
     let rest = after_in(rest)?;
@@ -91,8 +91,8 @@ fn clause(alloc: Global, tokens: &[Token], depth: usize) -> Read<'_, Clause>
 /// The clauses of a comprehension.
 #[cycle(expr)]
 pub fn clauses(alloc: Global, tokens: &[Token], depth: usize) -> Read<'_, Vec<Clause>>
-    ensures { Gives (λ x. (v.clauses_of (map v.view_clause x.0.items), x.1.now)) result
-        (r.clauses (r.readers depth) tokens.now) }
+    ensures { Gives (λ x. (views.clauses_of (map views.view_clause x.0.items), x.1.now)) result
+        (reading.clauses (reading.readers depth) tokens.now) }
 {
     let mut found = Vec::new(alloc);
     let mut rest = tokens;

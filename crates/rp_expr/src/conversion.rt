@@ -1,9 +1,9 @@
 //! Expressions as places and targets.
 
 ghost use Rattle.std.specs.Prelude.{◌≡◌, Some, map, option_map};
-ghost use Rattle.rp_tree.specs.Expressions as t;
-ghost use Rattle.rp_tree.specs.ExpressionViews as v;
-ghost use Rattle.rp_grammar.specs.Conversion as c;
+ghost use Rattle.rp_tree.specs.Expressions as tree;
+ghost use Rattle.rp_tree.specs.ExpressionViews as views;
+ghost use Rattle.rp_grammar.specs.Conversion as conversion;
 ghost use Rattle.rp_expr.specs.Gives.{Gives};
 
 use crate::fault::Fault;
@@ -14,8 +14,8 @@ use std::alloc::Global;
 
 /// An atom with the trailers that are left.
 fn with_trailers(alloc: Global, atom: Expr, trailers: Vec<Trailer>) -> Result<Expr, Fault>
-    ensures { Gives v.view_expr result (Some
-        (c.with_trailers (v.view_expr atom) (v.trailers_of (map v.view_trailer trailers.items)))) }
+    ensures { Gives views.view_expr result (Some
+        (conversion.with_trailers (views.view_expr atom) (views.trailers_of (map views.view_trailer trailers.items)))) }
 {
     if trailers.is_empty() {
         return Ok(atom);
@@ -27,7 +27,8 @@ fn with_trailers(alloc: Global, atom: Expr, trailers: Vec<Trailer>) -> Result<Ex
 /// The place that the last trailer of a primary names.
 #[tactic(auto, using(rp_tree::proofs::ExpressionEquations::variants))]
 fn trailed_place(of: Expr, trailer: Trailer) -> Result<Place, Fault>
-    ensures { Gives v.view_place result (c.trailed_place (v.view_expr of) (v.view_trailer trailer)) }
+    ensures { Gives views.view_place result
+        (conversion.trailed_place (views.view_expr of) (views.view_trailer trailer)) }
 {
     match trailer {
         Trailer::Attr(name, guard) => Ok(Place::Attr(of, name, guard)),
@@ -37,8 +38,9 @@ fn trailed_place(of: Expr, trailer: Trailer) -> Result<Place, Fault>
 }
 
 fn primary_place(alloc: Global, atom: Expr, trailers: Vec<Trailer>) -> Result<Place, Fault>
-    ensures { (line : _) → Gives v.view_place result
-        (c.place_form line (t.primary (v.view_expr atom) (v.trailers_of (map v.view_trailer trailers.items)))) }
+    ensures { (line : _) → Gives views.view_place result
+        (conversion.place_form line
+        (tree.primary (views.view_expr atom) (views.trailers_of (map views.view_trailer trailers.items)))) }
 {
     let mut trailers = trailers;
     match trailers.pop() {
@@ -52,7 +54,7 @@ fn primary_place(alloc: Global, atom: Expr, trailers: Vec<Trailer>) -> Result<Pl
 /// # Errors
 /// `Syntax` where it spells no place, `Memory` where a growth was refused.
 pub fn place_of(alloc: Global, expr: Expr) -> Result<Place, Fault>
-    ensures { Gives v.view_place result (c.as_place (v.view_expr expr)) }
+    ensures { Gives views.view_place result (conversion.as_place (views.view_expr expr)) }
 {
     let line = expr.line;
     place_form(alloc, line, Box::into_inner(expr.form))
@@ -60,7 +62,7 @@ pub fn place_of(alloc: Global, expr: Expr) -> Result<Place, Fault>
 
 #[tactic(auto, using(rp_tree::proofs::ExpressionEquations::variants))]
 fn place_form(alloc: Global, line: Line, form: ExprForm) -> Result<Place, Fault>
-    ensures { Gives v.view_place result (c.place_form line (v.view_form form)) }
+    ensures { Gives views.view_place result (conversion.place_form line (views.view_form form)) }
 {
     match form {
         ExprForm::Name(name) => Ok(Place::Name(Named { name, line })),
@@ -75,7 +77,7 @@ fn place_form(alloc: Global, line: Line, form: ExprForm) -> Result<Place, Fault>
 /// `Syntax` where it spells no target, `Memory` where a growth was refused.
 #[cycle(target)]
 pub fn target_of(alloc: Global, expr: Expr) -> Result<Target, Fault>
-    ensures { Gives v.view_target result (c.as_target (v.view_expr expr)) }
+    ensures { Gives views.view_target result (conversion.as_target (views.view_expr expr)) }
 {
     let line = expr.line;
     target_form(alloc, line, Box::into_inner(expr.form))
@@ -84,7 +86,7 @@ pub fn target_of(alloc: Global, expr: Expr) -> Result<Target, Fault>
 #[cycle(target)]
 #[tactic(auto, using(rp_tree::proofs::ExpressionEquations::variants))]
 fn target_form(alloc: Global, line: Line, form: ExprForm) -> Result<Target, Fault>
-    ensures { Gives v.view_target result (c.target_form line (v.view_form form)) }
+    ensures { Gives views.view_target result (conversion.target_form line (views.view_form form)) }
 {
     match form {
         ExprForm::Tuple(exprs) => group_of(alloc, exprs),
@@ -96,7 +98,8 @@ fn target_form(alloc: Global, line: Line, form: ExprForm) -> Result<Target, Faul
 #[cycle(target)]
 #[tactic(auto, using(rp_tree::proofs::ExpressionEquations::variants))]
 fn group_of(alloc: Global, exprs: Vec<Expr>) -> Result<Target, Fault>
-    ensures { Gives v.view_target result (c.group_of (c.as_targets (v.exprs_of (map v.view_expr exprs.items)))) }
+    ensures { Gives views.view_target result
+        (conversion.group_of (conversion.as_targets (views.exprs_of (map views.view_expr exprs.items)))) }
 {
     if exprs.is_empty() {
         return Err(Fault::Syntax);
@@ -106,8 +109,8 @@ fn group_of(alloc: Global, exprs: Vec<Expr>) -> Result<Target, Fault>
 
 #[cycle(target)]
 fn targets_of(alloc: Global, exprs: Vec<Expr>) -> Result<Vec<Target>, Fault>
-    ensures { Gives (λ x. v.targets_of (map v.view_target x.items)) result
-        (c.as_targets (v.exprs_of (map v.view_expr exprs.items))) }
+    ensures { Gives (λ x. views.targets_of (map views.view_target x.items)) result
+        (conversion.as_targets (views.exprs_of (map views.view_expr exprs.items))) }
 {
     let mut found = Vec::new(alloc);
     'exprs: for expr in exprs {

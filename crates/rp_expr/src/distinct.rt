@@ -2,8 +2,8 @@
 
 ghost use Rattle.std.specs.Prelude.{◌≡◌, ◌↔◌, ◌++◌, IfOk, IsTrue, Some, map, option_to_list};
 ghost use Rattle.std.specs.List.Sorted.{IsStrictlyIncreasing};
-ghost use Rattle.rp_tree.specs.ExpressionViews as v;
-ghost use Rattle.rp_grammar.specs.Expressions as g;
+ghost use Rattle.rp_tree.specs.ExpressionViews as views;
+ghost use Rattle.rp_grammar.specs.Expressions as grammar;
 ghost use Rattle.rp_expr.specs.Gives.{Gives};
 
 use crate::fault::Fault;
@@ -13,7 +13,7 @@ use std::alloc::{AllocError, Global};
 
 /// Whether no name stands twice: their places, sorted, rise. It takes the time of a sort, whatever the names.
 fn are_distinct(alloc: Global, names: &[Name]) -> Result<bool, Fault>
-    ensures { Gives (λ b. b) result (Some (g.distinct names.now)) }
+    ensures { Gives (λ b. b) result (Some (grammar.distinct names.now)) }
 {
     let mut places = places(alloc, names)?;
     places.sort()?;
@@ -45,14 +45,15 @@ fn do_rise(numbers: &[usize]) -> bool
 
 /// Whether no two arguments have one name.
 pub fn has_distinct_keys(alloc: Global, args: &[Arg]) -> Result<bool, Fault>
-    ensures { Gives (λ b. b) result (Some (g.distinct (g.key_names (v.args_of (map v.view_arg args.now))))) }
+    ensures { Gives (λ b. b) result
+        (Some (grammar.distinct (grammar.key_names (views.args_of (map views.view_arg args.now))))) }
 {
     let names = key_names(alloc, args)?;
     are_distinct(alloc, &names)
 }
 
 fn key_names(alloc: Global, args: &[Arg]) -> Result<Vec<Name>, Fault>
-    ensures { Gives (λ x. x.items) result (Some (g.key_names (v.args_of (map v.view_arg args.now)))) }
+    ensures { Gives (λ x. x.items) result (Some (grammar.key_names (views.args_of (map views.view_arg args.now)))) }
 {
     let mut names = Vec::new(alloc);
     'arguments: for argument in args {
@@ -65,7 +66,7 @@ fn key_names(alloc: Global, args: &[Arg]) -> Result<Vec<Name>, Fault>
 
 #[tactic(auto, using(rp_tree::proofs::ExpressionEquations::variants))]
 fn key_name(arg: &Arg) -> Option<Name>
-    ensures { option_to_list result ≡ g.key_name (v.view_arg arg.now) }
+    ensures { option_to_list result ≡ grammar.key_name (views.view_arg arg.now) }
 {
     match arg {
         Arg::Key(name, _) => Some(*name),
@@ -78,7 +79,7 @@ fn key_name(arg: &Arg) -> Option<Name>
 /// # Errors
 /// `Memory` where a growth was refused.
 pub fn has_distinct_names(alloc: Global, params: &Params) -> Result<bool, Fault>
-    ensures { Gives (λ b. b) result (Some (g.distinct (g.parameter_names (v.view_params params.now)))) }
+    ensures { Gives (λ b. b) result (Some (grammar.distinct (grammar.parameter_names (views.view_params params.now)))) }
 {
     let names = parameter_names(alloc, params)?;
     are_distinct(alloc, &names)
@@ -89,7 +90,7 @@ pub fn has_distinct_names(alloc: Global, params: &Params) -> Result<bool, Fault>
 /// # Errors
 /// `Memory` where a growth was refused.
 pub fn parameter_names(alloc: Global, params: &Params) -> Result<Vec<Name>, Fault>
-    ensures { Gives (λ x. x.items) result (Some (g.parameter_names (v.view_params params.now))) }
+    ensures { Gives (λ x. x.items) result (Some (grammar.parameter_names (views.view_params params.now))) }
 {
     let names = plain_names(alloc, &params.plain)?;
     let names = with_named(names, params.list)?;
@@ -97,7 +98,7 @@ pub fn parameter_names(alloc: Global, params: &Params) -> Result<Vec<Name>, Faul
 }
 
 fn with_named(names: Vec<Name>, named: Option<Named>) -> Result<Vec<Name>, Fault>
-    ensures { Gives (λ x. x.items) result (Some (names.items ++ g.named_names named)) }
+    ensures { Gives (λ x. x.items) result (Some (names.items ++ grammar.named_names named)) }
 {
     let mut names = names;
     match named {
@@ -110,7 +111,8 @@ fn with_named(names: Vec<Name>, named: Option<Named>) -> Result<Vec<Name>, Fault
 }
 
 fn plain_names(alloc: Global, plain: &[(Named, Option<Expr>)]) -> Result<Vec<Name>, Fault>
-    ensures { Gives (λ x. x.items) result (Some (g.plain_names (v.plain_of (map v.view_plain plain.now)))) }
+    ensures { Gives (λ x. x.items) result
+        (Some (grammar.plain_names (views.plain_of (map views.view_plain plain.now)))) }
 {
     let mut names = Vec::new(alloc);
     'plain: for parameter in plain {

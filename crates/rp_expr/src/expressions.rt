@@ -1,10 +1,10 @@
 //! Lambdas, conditional expressions and expression lists.
 
 ghost use Rattle.std.specs.Prelude.{◌≡◌, Some, map, option_map};
-ghost use Rattle.rp_tree.specs.Expressions as t;
-ghost use Rattle.rp_tree.specs.ExpressionViews as v;
+ghost use Rattle.rp_tree.specs.Expressions as tree;
+ghost use Rattle.rp_tree.specs.ExpressionViews as views;
 ghost use Rattle.rp_expr.specs.Gives.{Gives};
-ghost use Rattle.rp_grammar.specs.ExpressionReading as r;
+ghost use Rattle.rp_grammar.specs.ExpressionReading as reading;
 
 use crate::distinct::has_distinct_names;
 use crate::fault::Fault;
@@ -22,7 +22,7 @@ use std::alloc::Global;
 /// An expression within another.
 #[cycle(expr)]
 pub fn inner_expr(alloc: Global, tokens: &[Token], depth: usize) -> Read<'_, Expr>
-    ensures { Gives (λ x. (v.view_expr x.0, x.1.now)) result ((r.readers depth).expr tokens.now) }
+    ensures { Gives (λ x. (views.view_expr x.0, x.1.now)) result ((reading.readers depth).expr tokens.now) }
 {
     if depth == 0 {
         return Err(Fault::Syntax);
@@ -33,7 +33,7 @@ pub fn inner_expr(alloc: Global, tokens: &[Token], depth: usize) -> Read<'_, Exp
 /// An `or` within an expression.
 #[cycle(expr)]
 pub fn inner_or(alloc: Global, tokens: &[Token], depth: usize) -> Read<'_, Expr>
-    ensures { Gives (λ x. (v.view_expr x.0, x.1.now)) result ((r.readers depth).or tokens.now) }
+    ensures { Gives (λ x. (views.view_expr x.0, x.1.now)) result ((reading.readers depth).or tokens.now) }
 {
     if depth == 0 {
         return Err(Fault::Syntax);
@@ -44,7 +44,7 @@ pub fn inner_or(alloc: Global, tokens: &[Token], depth: usize) -> Read<'_, Expr>
 /// A `not` within an expression.
 #[cycle(expr)]
 pub fn inner_not(alloc: Global, tokens: &[Token], depth: usize) -> Read<'_, Expr>
-    ensures { Gives (λ x. (v.view_expr x.0, x.1.now)) result ((r.readers depth).not tokens.now) }
+    ensures { Gives (λ x. (views.view_expr x.0, x.1.now)) result ((reading.readers depth).not tokens.now) }
 {
     if depth == 0 {
         return Err(Fault::Syntax);
@@ -55,7 +55,7 @@ pub fn inner_not(alloc: Global, tokens: &[Token], depth: usize) -> Read<'_, Expr
 /// A `unary` within an expression.
 #[cycle(expr)]
 pub fn inner_unary(alloc: Global, tokens: &[Token], depth: usize) -> Read<'_, Expr>
-    ensures { Gives (λ x. (v.view_expr x.0, x.1.now)) result ((r.readers depth).unary tokens.now) }
+    ensures { Gives (λ x. (views.view_expr x.0, x.1.now)) result ((reading.readers depth).unary tokens.now) }
 {
     if depth == 0 {
         return Err(Fault::Syntax);
@@ -66,7 +66,7 @@ pub fn inner_unary(alloc: Global, tokens: &[Token], depth: usize) -> Read<'_, Ex
 /// A primary within an expression.
 #[cycle(expr)]
 pub fn inner_primary(alloc: Global, tokens: &[Token], depth: usize) -> Read<'_, Expr>
-    ensures { Gives (λ x. (v.view_expr x.0, x.1.now)) result ((r.readers depth).primary tokens.now) }
+    ensures { Gives (λ x. (views.view_expr x.0, x.1.now)) result ((reading.readers depth).primary tokens.now) }
 {
     if depth == 0 {
         return Err(Fault::Syntax);
@@ -77,7 +77,8 @@ pub fn inner_primary(alloc: Global, tokens: &[Token], depth: usize) -> Read<'_, 
 #[cycle(expr)]
 #[tactic(auto, unfolding(rp_grammar::specs::ExpressionReading::lambda), using(rp_tree::proofs::ExpressionEquations::variants))]
 fn lambda(alloc: Global, line: Line, tokens: &[Token], depth: usize) -> Read<'_, Expr>
-    ensures { Gives (λ x. (v.view_expr x.0, x.1.now)) result (r.lambda (r.readers depth) line tokens.now) }
+    ensures { Gives (λ x. (views.view_expr x.0, x.1.now)) result
+        (reading.lambda (reading.readers depth) line tokens.now) }
 {
     let (params, rest) = params(alloc, tokens, depth)?;
     if !has_distinct_names(alloc, &params)? {
@@ -95,8 +96,8 @@ fn lambda(alloc: Global, line: Line, tokens: &[Token], depth: usize) -> Read<'_,
 #[cycle(expr)]
 #[tactic(auto, unfolding(rp_grammar::specs::ExpressionReading::conditional), using(rp_tree::proofs::ExpressionEquations::variants))]
 fn conditional(alloc: Global, yes: Expr, tokens: &[Token], depth: usize) -> Read<'_, Expr>
-    ensures { Gives (λ x. (v.view_expr x.0, x.1.now)) result
-        (r.conditional (r.readers depth) (v.view_expr yes) tokens.now) }
+    ensures { Gives (λ x. (views.view_expr x.0, x.1.now)) result
+        (reading.conditional (reading.readers depth) (views.view_expr yes) tokens.now) }
 {
     let (test, rest) = or(alloc, tokens, depth)?;
     let rest = after_else(rest)?;
@@ -109,7 +110,7 @@ fn conditional(alloc: Global, yes: Expr, tokens: &[Token], depth: usize) -> Read
 #[cycle(expr)]
 #[tactic(auto, unfolding(rp_grammar::specs::ExpressionReading::expr))]
 pub fn expr(alloc: Global, tokens: &[Token], depth: usize) -> Read<'_, Expr>
-    ensures { Gives (λ x. (v.view_expr x.0, x.1.now)) result (r.expr (r.readers depth) tokens.now) }
+    ensures { Gives (λ x. (views.view_expr x.0, x.1.now)) result (reading.expr (reading.readers depth) tokens.now) }
 {
     if is_lambda(tokens) {
         return lambda(alloc, line_at(tokens), skip(tokens), depth);
@@ -124,7 +125,8 @@ pub fn expr(alloc: Global, tokens: &[Token], depth: usize) -> Read<'_, Expr>
 /// An expression list, which is a tuple where it has a comma.
 #[tactic(auto, unfolding(rp_grammar::specs::ExpressionReading::expr_list), using(rp_tree::proofs::ExpressionEquations::variants))]
 pub fn expr_list(alloc: Global, tokens: &[Token], depth: usize) -> Read<'_, Expr>
-    ensures { Gives (λ x. (v.view_expr x.0, x.1.now)) result (r.expr_list (r.readers depth) tokens.now) }
+    ensures { Gives (λ x. (views.view_expr x.0, x.1.now)) result
+        (reading.expr_list (reading.readers depth) tokens.now) }
 {
     let (first, rest) = expr(alloc, tokens, depth)?;
     if !is_comma(rest) {

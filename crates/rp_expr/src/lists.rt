@@ -1,10 +1,10 @@
 //! Lists of expressions with commas between them.
 
 ghost use Rattle.std.specs.Prelude.{◌≡◌, Some, map, option_map};
-ghost use Rattle.rp_tree.specs.Expressions as t;
-ghost use Rattle.rp_tree.specs.ExpressionViews as v;
+ghost use Rattle.rp_tree.specs.Expressions as tree;
+ghost use Rattle.rp_tree.specs.ExpressionViews as views;
 ghost use Rattle.rp_expr.specs.Gives.{Gives};
-ghost use Rattle.rp_grammar.specs.ExpressionReading as r;
+ghost use Rattle.rp_grammar.specs.ExpressionReading as reading;
 
 use crate::expressions::inner_expr;
 use crate::look::{after_colon, is_comma, skip, starts};
@@ -16,8 +16,8 @@ use std::alloc::Global;
 /// An expression, and those behind it and a comma.
 #[cycle(expr)]
 pub fn exprs(alloc: Global, first: Expr, tokens: &[Token], depth: usize) -> Read<'_, Vec<Expr>>
-    ensures { Gives (λ x. (v.exprs_of (map v.view_expr x.0.items), x.1.now)) result
-        (r.exprs (r.readers depth) (v.view_expr first) tokens.now) }
+    ensures { Gives (λ x. (views.exprs_of (map views.view_expr x.0.items), x.1.now)) result
+        (reading.exprs (reading.readers depth) (views.view_expr first) tokens.now) }
 {
     let mut found = Vec::with_capacity(alloc, 1)?;
     found.push(first)?;
@@ -37,8 +37,8 @@ pub fn exprs(alloc: Global, first: Expr, tokens: &[Token], depth: usize) -> Read
 #[cycle(expr)]
 #[tactic(auto, unfolding(rp_grammar::specs::ExpressionReading::others))]
 pub fn others(alloc: Global, first: Expr, tokens: &[Token], depth: usize) -> Read<'_, Vec<Expr>>
-    ensures { Gives (λ x. (v.exprs_of (map v.view_expr x.0.items), x.1.now)) result
-        (r.others (r.readers depth) (v.view_expr first) tokens.now) }
+    ensures { Gives (λ x. (views.exprs_of (map views.view_expr x.0.items), x.1.now)) result
+        (reading.others (reading.readers depth) (views.view_expr first) tokens.now) }
 {
     if is_comma(tokens) {
         return exprs(alloc, first, skip(tokens), depth);
@@ -52,7 +52,7 @@ pub fn others(alloc: Global, first: Expr, tokens: &[Token], depth: usize) -> Rea
 #[cycle(expr)]
 #[tactic(auto, unfolding(rp_grammar::specs::ExpressionReading::pair))]
 pub fn pair(alloc: Global, tokens: &[Token], depth: usize) -> Read<'_, (Expr, Expr)>
-    ensures { Gives (λ x. (v.view_pair x.0, x.1.now)) result (r.pair (r.readers depth) tokens.now) }
+    ensures { Gives (λ x. (views.view_pair x.0, x.1.now)) result (reading.pair (reading.readers depth) tokens.now) }
 {
     let (key, rest) = inner_expr(alloc, tokens, depth)?;
     let rest = after_colon(rest)?;
@@ -68,8 +68,8 @@ fn pairs(
     tokens: &[Token],
     depth: usize,
 ) -> Read<'_, Vec<(Expr, Expr)>>
-    ensures { Gives (λ x. (v.pairs_of (map v.view_pair x.0.items), x.1.now)) result
-        (r.pairs (r.readers depth) (v.view_pair first) tokens.now) }
+    ensures { Gives (λ x. (views.pairs_of (map views.view_pair x.0.items), x.1.now)) result
+        (reading.pairs (reading.readers depth) (views.view_pair first) tokens.now) }
 {
     let mut found = Vec::with_capacity(alloc, 1)?;
     found.push(first)?;
@@ -94,8 +94,8 @@ pub fn other_pairs(
     tokens: &[Token],
     depth: usize,
 ) -> Read<'_, Vec<(Expr, Expr)>>
-    ensures { Gives (λ x. (v.pairs_of (map v.view_pair x.0.items), x.1.now)) result
-        (r.other_pairs (r.readers depth) (v.view_pair first) tokens.now) }
+    ensures { Gives (λ x. (views.pairs_of (map views.view_pair x.0.items), x.1.now)) result
+        (reading.other_pairs (reading.readers depth) (views.view_pair first) tokens.now) }
 {
     if is_comma(tokens) {
         return pairs(alloc, first, skip(tokens), depth);

@@ -4,7 +4,7 @@ ghost use Rattle.std.specs.Prelude.{◌≡◌, ◌==◌, suc, None, Some, if◌t
 ghost use Rattle.std.specs.Option.{option_map_or};
 ghost use Rattle.rp_token.specs.declared.token.TokenKind.TheVariants as kind;
 ghost use Rattle.rp_grammar.specs.Kinds.{first, line_at, skip, binary_of, augmented_of, looseness, unary_of, order_of};
-ghost use Rattle.rp_grammar.specs.Front as f;
+ghost use Rattle.rp_grammar.specs.Front as token_tests;
 ghost use Rattle.rp_grammar.specs.ExpressionReading.{after, is_some, operator_of, at_test};
 ghost use Rattle.rp_expr.specs.Gives.{Gives};
 
@@ -44,126 +44,126 @@ pub fn skip(tokens: &[Token]) -> &[Token]
 
 /// Whether a comma comes.
 pub fn is_comma(tokens: &[Token]) -> bool
-    ensures { result ≡ f.is_comma (first tokens.now) }
+    ensures { result ≡ token_tests.is_comma (first tokens.now) }
 {
     matches!(kind_at(tokens), Some(TokenKind::Comma))
 }
 
 /// Whether a colon comes.
 pub fn is_colon(tokens: &[Token]) -> bool
-    ensures { result ≡ f.is_colon (first tokens.now) }
+    ensures { result ≡ token_tests.is_colon (first tokens.now) }
 {
     matches!(kind_at(tokens), Some(TokenKind::Colon))
 }
 
 /// Whether `=` comes.
 pub fn is_equal(tokens: &[Token]) -> bool
-    ensures { result ≡ f.is_equal (first tokens.now) }
+    ensures { result ≡ token_tests.is_equal (first tokens.now) }
 {
     matches!(kind_at(tokens), Some(TokenKind::Equal))
 }
 
 /// Whether `*` comes.
 pub fn is_star(tokens: &[Token]) -> bool
-    ensures { result ≡ f.is_star (first tokens.now) }
+    ensures { result ≡ token_tests.is_star (first tokens.now) }
 {
     matches!(kind_at(tokens), Some(TokenKind::Star))
 }
 
 /// Whether `**` comes.
 pub fn is_double_star(tokens: &[Token]) -> bool
-    ensures { result ≡ f.is_double_star (first tokens.now) }
+    ensures { result ≡ token_tests.is_double_star (first tokens.now) }
 {
     matches!(kind_at(tokens), Some(TokenKind::DoubleStar))
 }
 
 /// Whether `)` comes.
 pub fn is_right_paren(tokens: &[Token]) -> bool
-    ensures { result ≡ f.is_right_paren (first tokens.now) }
+    ensures { result ≡ token_tests.is_right_paren (first tokens.now) }
 {
     matches!(kind_at(tokens), Some(TokenKind::RightParen))
 }
 
 /// Whether `]` comes.
 pub fn is_right_bracket(tokens: &[Token]) -> bool
-    ensures { result ≡ f.is_right_bracket (first tokens.now) }
+    ensures { result ≡ token_tests.is_right_bracket (first tokens.now) }
 {
     matches!(kind_at(tokens), Some(TokenKind::RightBracket))
 }
 
 /// Whether `}` comes.
 pub fn is_right_brace(tokens: &[Token]) -> bool
-    ensures { result ≡ f.is_right_brace (first tokens.now) }
+    ensures { result ≡ token_tests.is_right_brace (first tokens.now) }
 {
     matches!(kind_at(tokens), Some(TokenKind::RightBrace))
 }
 
 /// Whether `lambda` comes.
 pub fn is_lambda(tokens: &[Token]) -> bool
-    ensures { result ≡ f.is_lambda (first tokens.now) }
+    ensures { result ≡ token_tests.is_lambda (first tokens.now) }
 {
     matches!(kind_at(tokens), Some(TokenKind::Lambda))
 }
 
 /// Whether `if` comes.
 pub fn is_if(tokens: &[Token]) -> bool
-    ensures { result ≡ f.is_if (first tokens.now) }
+    ensures { result ≡ token_tests.is_if (first tokens.now) }
 {
     matches!(kind_at(tokens), Some(TokenKind::If))
 }
 
 /// Whether `else` comes.
 pub fn is_else(tokens: &[Token]) -> bool
-    ensures { result ≡ f.is_else (first tokens.now) }
+    ensures { result ≡ token_tests.is_else (first tokens.now) }
 {
     matches!(kind_at(tokens), Some(TokenKind::Else))
 }
 
 /// Whether `or` comes.
 pub fn is_or(tokens: &[Token]) -> bool
-    ensures { result ≡ f.is_or (first tokens.now) }
+    ensures { result ≡ token_tests.is_or (first tokens.now) }
 {
     matches!(kind_at(tokens), Some(TokenKind::Or))
 }
 
 /// Whether `and` comes.
 pub fn is_and(tokens: &[Token]) -> bool
-    ensures { result ≡ f.is_and (first tokens.now) }
+    ensures { result ≡ token_tests.is_and (first tokens.now) }
 {
     matches!(kind_at(tokens), Some(TokenKind::And))
 }
 
 /// Whether `not` comes.
 pub fn is_not(tokens: &[Token]) -> bool
-    ensures { result ≡ f.is_not (first tokens.now) }
+    ensures { result ≡ token_tests.is_not (first tokens.now) }
 {
     matches!(kind_at(tokens), Some(TokenKind::Not))
 }
 
 /// Whether `in` comes.
 pub fn is_in(tokens: &[Token]) -> bool
-    ensures { result ≡ f.is_in (first tokens.now) }
+    ensures { result ≡ token_tests.is_in (first tokens.now) }
 {
     matches!(kind_at(tokens), Some(TokenKind::In))
 }
 
 /// Whether `for` comes.
 pub fn is_for(tokens: &[Token]) -> bool
-    ensures { result ≡ f.is_for (first tokens.now) }
+    ensures { result ≡ token_tests.is_for (first tokens.now) }
 {
     matches!(kind_at(tokens), Some(TokenKind::For))
 }
 
 /// Whether a name comes.
 pub fn is_name(tokens: &[Token]) -> bool
-    ensures { result ≡ f.is_name (first tokens.now) }
+    ensures { result ≡ token_tests.is_name (first tokens.now) }
 {
     matches!(kind_at(tokens), Some(TokenKind::Name(_)))
 }
 
 /// Whether a text literal comes.
 pub fn is_text(tokens: &[Token]) -> bool
-    ensures { result ≡ f.is_text (first tokens.now) }
+    ensures { result ≡ token_tests.is_text (first tokens.now) }
 {
     matches!(kind_at(tokens), Some(TokenKind::Text(_)))
 }
@@ -180,49 +180,49 @@ fn behind(is_wanted: bool, tokens: &[Token]) -> Result<&[Token], Fault>
 
 /// The tokens behind `)`, which has to come.
 pub fn after_right_paren(tokens: &[Token]) -> Result<&[Token], Fault>
-    ensures { Gives (λ x. x.now) result (after f.is_right_paren tokens.now) }
+    ensures { Gives (λ x. x.now) result (after token_tests.is_right_paren tokens.now) }
 {
     behind(is_right_paren(tokens), tokens)
 }
 
 /// The tokens behind `]`, which has to come.
 pub fn after_right_bracket(tokens: &[Token]) -> Result<&[Token], Fault>
-    ensures { Gives (λ x. x.now) result (after f.is_right_bracket tokens.now) }
+    ensures { Gives (λ x. x.now) result (after token_tests.is_right_bracket tokens.now) }
 {
     behind(is_right_bracket(tokens), tokens)
 }
 
 /// The tokens behind `}`, which has to come.
 pub fn after_right_brace(tokens: &[Token]) -> Result<&[Token], Fault>
-    ensures { Gives (λ x. x.now) result (after f.is_right_brace tokens.now) }
+    ensures { Gives (λ x. x.now) result (after token_tests.is_right_brace tokens.now) }
 {
     behind(is_right_brace(tokens), tokens)
 }
 
 /// The tokens behind a colon, which has to come.
 pub fn after_colon(tokens: &[Token]) -> Result<&[Token], Fault>
-    ensures { Gives (λ x. x.now) result (after f.is_colon tokens.now) }
+    ensures { Gives (λ x. x.now) result (after token_tests.is_colon tokens.now) }
 {
     behind(is_colon(tokens), tokens)
 }
 
 /// The tokens behind `in`, which has to come.
 pub fn after_in(tokens: &[Token]) -> Result<&[Token], Fault>
-    ensures { Gives (λ x. x.now) result (after f.is_in tokens.now) }
+    ensures { Gives (λ x. x.now) result (after token_tests.is_in tokens.now) }
 {
     behind(is_in(tokens), tokens)
 }
 
 /// The tokens behind `else`, which has to come.
 pub fn after_else(tokens: &[Token]) -> Result<&[Token], Fault>
-    ensures { Gives (λ x. x.now) result (after f.is_else tokens.now) }
+    ensures { Gives (λ x. x.now) result (after token_tests.is_else tokens.now) }
 {
     behind(is_else(tokens), tokens)
 }
 
 /// Whether what comes can begin an expression.
 pub fn starts(tokens: &[Token]) -> bool
-    ensures { result ≡ f.starts (first tokens.now) }
+    ensures { result ≡ token_tests.starts (first tokens.now) }
 {
     match kind_at(tokens) {
         Some(kind) => kind_starts(kind),
@@ -231,7 +231,7 @@ pub fn starts(tokens: &[Token]) -> bool
 }
 
 fn kind_starts(kind: &TokenKind) -> bool
-    ensures { result ≡ f.starts kind.now }
+    ensures { result ≡ token_tests.starts kind.now }
 {
     match kind {
         TokenKind::Name(_) | TokenKind::Int(_) | TokenKind::Text(_) => true,
@@ -245,7 +245,7 @@ fn kind_starts(kind: &TokenKind) -> bool
 
 /// Whether what comes can begin an argument.
 pub fn starts_arg(tokens: &[Token]) -> bool
-    ensures { result ≡ f.starts_arg (first tokens.now) }
+    ensures { result ≡ token_tests.starts_arg (first tokens.now) }
 {
     match kind_at(tokens) {
         Some(TokenKind::Star | TokenKind::DoubleStar) => true,
@@ -256,7 +256,7 @@ pub fn starts_arg(tokens: &[Token]) -> bool
 
 /// Whether what comes can begin a trailer.
 pub fn starts_trailer(tokens: &[Token]) -> bool
-    ensures { result ≡ f.starts_trailer (first tokens.now) }
+    ensures { result ≡ token_tests.starts_trailer (first tokens.now) }
 {
     matches!(
         kind_at(tokens),

@@ -1,11 +1,11 @@
 //! Nodes, and what a reader answers.
 
 ghost use Rattle.std.specs.Prelude.{None, Some, option_map};
-ghost use Rattle.rp_tree.specs.Expressions as t;
+ghost use Rattle.rp_tree.specs.Expressions as tree;
 ghost use Rattle.rp_tree.specs.ExpressionViews.{maybe_of, view_expr, view_form, view_trailer};
 ghost use Rattle.rp_expr.specs.Gives.{Gives};
 ghost use Rattle.rp_grammar.specs.Kinds.{first};
-ghost use Rattle.rp_grammar.specs.ExpressionReading as r;
+ghost use Rattle.rp_grammar.specs.ExpressionReading as reading;
 
 use crate::fault::Fault;
 use rp_base::Line;
@@ -18,7 +18,7 @@ pub type Read<'a, T> = Result<(T, &'a [Token]), Fault>;
 
 /// An expression of this form.
 pub fn node(alloc: Global, line: Line, form: ExprForm) -> Result<Expr, Fault>
-    ensures { Gives view_expr result (Some (t.node line (view_form form))) }
+    ensures { Gives view_expr result (Some (tree.node line (view_form form))) }
 {
     let form = Box::new(alloc, form)?;
     Ok(Expr { line, form })
@@ -33,7 +33,7 @@ pub fn slicing(
     step: Option<Expr>,
 ) -> Result<Trailer, Fault>
     ensures { Gives view_trailer result (Some
-        (t.slice (maybe_of (option_map view_expr from)) (maybe_of (option_map view_expr to))
+        (tree.slice (maybe_of (option_map view_expr from)) (maybe_of (option_map view_expr to))
         (maybe_of (option_map view_expr step)) None)) }
 {
     let slice = Box::new(alloc, Slice { from, to, step })?;
@@ -45,7 +45,7 @@ pub fn slicing(
 /// # Errors
 /// `Syntax` where no name comes.
 pub fn name(tokens: &[Token]) -> Read<'_, Named>
-    ensures { Gives (λ x. (x.0, x.1.now)) result (r.name_by (first tokens.now) tokens.now) }
+    ensures { Gives (λ x. (x.0, x.1.now)) result (reading.name_by (first tokens.now) tokens.now) }
 {
     match tokens {
         [] => Err(Fault::Syntax),

@@ -1,11 +1,11 @@
 //! Operators.
 
 ghost use Rattle.std.specs.Prelude.{◌≡◌, suc, Some, map, option_map};
-ghost use Rattle.rp_tree.specs.Expressions as t;
-ghost use Rattle.rp_tree.specs.ExpressionViews as v;
+ghost use Rattle.rp_tree.specs.Expressions as tree;
+ghost use Rattle.rp_tree.specs.ExpressionViews as views;
 ghost use Rattle.rp_grammar.specs.Kinds.{first};
 ghost use Rattle.rp_expr.specs.Gives.{Gives};
-ghost use Rattle.rp_grammar.specs.ExpressionReading as r;
+ghost use Rattle.rp_grammar.specs.ExpressionReading as reading;
 
 use crate::expressions::{inner_not, inner_unary};
 use crate::fault::Fault;
@@ -27,7 +27,7 @@ const LOOSEST: usize = 6;
 #[cycle(expr)]
 #[tactic(auto, unfolding(rp_grammar::specs::ExpressionReading::power), using(rp_tree::proofs::ExpressionEquations::variants))]
 fn power(alloc: Global, tokens: &[Token], depth: usize) -> Read<'_, Expr>
-    ensures { Gives (λ x. (v.view_expr x.0, x.1.now)) result (r.power (r.readers depth) tokens.now) }
+    ensures { Gives (λ x. (views.view_expr x.0, x.1.now)) result (reading.power (reading.readers depth) tokens.now) }
 {
     let (base, rest) = primary(alloc, tokens, depth)?;
     if !is_double_star(rest) {
@@ -42,7 +42,7 @@ fn power(alloc: Global, tokens: &[Token], depth: usize) -> Read<'_, Expr>
 #[cycle(expr)]
 #[tactic(auto, unfolding(rp_grammar::specs::ExpressionReading::unary), using(rp_tree::proofs::ExpressionEquations::variants))]
 pub fn unary(alloc: Global, tokens: &[Token], depth: usize) -> Read<'_, Expr>
-    ensures { Gives (λ x. (v.view_expr x.0, x.1.now)) result (r.unary (r.readers depth) tokens.now) }
+    ensures { Gives (λ x. (views.view_expr x.0, x.1.now)) result (reading.unary (reading.readers depth) tokens.now) }
 {
     let Some(op) = look::unary(tokens) else {
         return power(alloc, tokens, depth);
@@ -61,8 +61,8 @@ fn operations(
     tokens: &[Token],
     depth: usize,
 ) -> Read<'_, Vec<(BinOp, Expr)>>
-    ensures { Gives (λ x. (v.ops_of (map v.view_op x.0.items), x.1.now)) result
-        (r.operations (suc level) (r.chain (r.readers depth) level) tokens.now) }
+    ensures { Gives (λ x. (views.ops_of (map views.view_op x.0.items), x.1.now)) result
+        (reading.operations (suc level) (reading.chain (reading.readers depth) level) tokens.now) }
 {
     let mut found = Vec::with_capacity(alloc, 1)?;
     let mut rest = tokens;
@@ -84,8 +84,9 @@ fn chained(
     tokens: &[Token],
     depth: usize,
 ) -> Read<'_, Expr>
-    ensures { Gives (λ x. (v.view_expr x.0, x.1.now)) result
-        (r.chained_at (suc level) (r.chain (r.readers depth) level) (v.view_expr first) tokens.now) }
+    ensures { Gives (λ x. (views.view_expr x.0, x.1.now)) result
+        (reading.chained_at (suc level) (reading.chain (reading.readers depth) level)
+        (views.view_expr first) tokens.now) }
 {
     if !is_operator(level, tokens) {
         return Ok((first, tokens));
@@ -98,7 +99,8 @@ fn chained(
 /// A chain of the operators of a looseness, over those of less.
 #[cycle(expr)]
 fn chain(alloc: Global, level: usize, tokens: &[Token], depth: usize) -> Read<'_, Expr>
-    ensures { Gives (λ x. (v.view_expr x.0, x.1.now)) result (r.chain (r.readers depth) level tokens.now) }
+    ensures { Gives (λ x. (views.view_expr x.0, x.1.now)) result
+        (reading.chain (reading.readers depth) level tokens.now) }
 {
     let (first, rest) = unary(alloc, tokens, depth)?;
     if !is_binary(rest) {
@@ -119,7 +121,7 @@ fn chain(alloc: Global, level: usize, tokens: &[Token], depth: usize) -> Read<'_
 /// `None` behind `is` or `is not`.
 #[tactic(auto, using(rp_tree::proofs::ExpressionEquations::variants))]
 fn nil(alloc: Global, test: Test, tokens: &[Token]) -> Read<'_, (Test, Expr)>
-    ensures { Gives (λ x. (v.view_test x.0, x.1.now)) result (r.nil_by (first tokens.now) test tokens.now) }
+    ensures { Gives (λ x. (views.view_test x.0, x.1.now)) result (reading.nil_by (first tokens.now) test tokens.now) }
 {
     match tokens {
         [] => Err(Fault::Syntax),
@@ -135,7 +137,7 @@ fn nil(alloc: Global, test: Test, tokens: &[Token]) -> Read<'_, (Test, Expr)>
 
 /// What stands behind `is`.
 fn identity(alloc: Global, tokens: &[Token]) -> Read<'_, (Test, Expr)>
-    ensures { Gives (λ x. (v.view_test x.0, x.1.now)) result (r.is_by (first tokens.now) tokens.now) }
+    ensures { Gives (λ x. (views.view_test x.0, x.1.now)) result (reading.is_by (first tokens.now) tokens.now) }
 {
     if is_not(tokens) {
         return nil(alloc, Test::IsNot, skip(tokens));
@@ -150,7 +152,8 @@ fn compared_with(
     tokens: &[Token],
     depth: usize,
 ) -> Read<'_, (Test, Expr)>
-    ensures { Gives (λ x. (v.view_test x.0, x.1.now)) result (r.compared_with (r.readers depth) test tokens.now) }
+    ensures { Gives (λ x. (views.view_test x.0, x.1.now)) result
+        (reading.compared_with (reading.readers depth) test tokens.now) }
 {
     let (operand, rest) = chain(alloc, LOOSEST, tokens, depth)?;
     Ok(((test, operand), rest))
@@ -163,7 +166,8 @@ fn test_at<'a>(
     rest: &'a [Token],
     depth: usize,
 ) -> Read<'a, (Test, Expr)>
-    ensures { Gives (λ x. (v.view_test x.0, x.1.now)) result (r.test_by kind.now (r.readers depth) rest.now) }
+    ensures { Gives (λ x. (views.view_test x.0, x.1.now)) result
+        (reading.test_by kind.now (reading.readers depth) rest.now) }
 {
     match kind {
         TokenKind::In => compared_with(alloc, Test::Within, rest, depth),
@@ -179,7 +183,8 @@ fn test_at<'a>(
 #[cycle(expr)]
 #[tactic(auto, unfolding(rp_grammar::specs::ExpressionReading::comparison))]
 fn test(alloc: Global, tokens: &[Token], depth: usize) -> Read<'_, (Test, Expr)>
-    ensures { Gives (λ x. (v.view_test x.0, x.1.now)) result (r.comparison (r.readers depth) tokens.now) }
+    ensures { Gives (λ x. (views.view_test x.0, x.1.now)) result
+        (reading.comparison (reading.readers depth) tokens.now) }
 {
     match tokens {
         [] => Err(Fault::Syntax),
@@ -189,8 +194,8 @@ fn test(alloc: Global, tokens: &[Token], depth: usize) -> Read<'_, (Test, Expr)>
 
 #[cycle(expr)]
 fn tests(alloc: Global, tokens: &[Token], depth: usize) -> Read<'_, Vec<(Test, Expr)>>
-    ensures { Gives (λ x. (v.tests_of (map v.view_test x.0.items), x.1.now)) result
-        (r.tests (r.readers depth) tokens.now) }
+    ensures { Gives (λ x. (views.tests_of (map views.view_test x.0.items), x.1.now)) result
+        (reading.tests (reading.readers depth) tokens.now) }
 {
     let mut found = Vec::with_capacity(alloc, 1)?;
     let mut rest = tokens;
@@ -205,7 +210,7 @@ fn tests(alloc: Global, tokens: &[Token], depth: usize) -> Read<'_, Vec<(Test, E
 #[cycle(expr)]
 #[tactic(auto, unfolding(rp_grammar::specs::ExpressionReading::compare), using(rp_tree::proofs::ExpressionEquations::variants))]
 fn compare(alloc: Global, tokens: &[Token], depth: usize) -> Read<'_, Expr>
-    ensures { Gives (λ x. (v.view_expr x.0, x.1.now)) result (r.compare (r.readers depth) tokens.now) }
+    ensures { Gives (λ x. (views.view_expr x.0, x.1.now)) result (reading.compare (reading.readers depth) tokens.now) }
 {
     let (first, rest) = chain(alloc, LOOSEST, tokens, depth)?;
     if !at_test(rest) {
@@ -220,7 +225,7 @@ fn compare(alloc: Global, tokens: &[Token], depth: usize) -> Read<'_, Expr>
 #[cycle(expr)]
 #[tactic(auto, unfolding(rp_grammar::specs::ExpressionReading::not), using(rp_tree::proofs::ExpressionEquations::variants))]
 pub fn not(alloc: Global, tokens: &[Token], depth: usize) -> Read<'_, Expr>
-    ensures { Gives (λ x. (v.view_expr x.0, x.1.now)) result (r.not (r.readers depth) tokens.now) }
+    ensures { Gives (λ x. (views.view_expr x.0, x.1.now)) result (reading.not (reading.readers depth) tokens.now) }
 {
     if !is_not(tokens) {
         return compare(alloc, tokens, depth);
@@ -231,8 +236,8 @@ pub fn not(alloc: Global, tokens: &[Token], depth: usize) -> Read<'_, Expr>
 
 #[cycle(expr)]
 fn ands(alloc: Global, first: Expr, tokens: &[Token], depth: usize) -> Read<'_, Vec<Expr>>
-    ensures { Gives (λ x. (v.exprs_of (map v.view_expr x.0.items), x.1.now)) result
-        (r.ands (r.readers depth) (v.view_expr first) tokens.now) }
+    ensures { Gives (λ x. (views.exprs_of (map views.view_expr x.0.items), x.1.now)) result
+        (reading.ands (reading.readers depth) (views.view_expr first) tokens.now) }
 {
     let mut found = Vec::with_capacity(alloc, 1)?;
     found.push(first)?;
@@ -248,7 +253,7 @@ fn ands(alloc: Global, first: Expr, tokens: &[Token], depth: usize) -> Read<'_, 
 #[cycle(expr)]
 #[tactic(auto, unfolding(rp_grammar::specs::ExpressionReading::and), using(rp_tree::proofs::ExpressionEquations::variants))]
 fn and(alloc: Global, tokens: &[Token], depth: usize) -> Read<'_, Expr>
-    ensures { Gives (λ x. (v.view_expr x.0, x.1.now)) result (r.and (r.readers depth) tokens.now) }
+    ensures { Gives (λ x. (views.view_expr x.0, x.1.now)) result (reading.and (reading.readers depth) tokens.now) }
 {
     let (first, rest) = not(alloc, tokens, depth)?;
     if !is_and(rest) {
@@ -261,8 +266,8 @@ fn and(alloc: Global, tokens: &[Token], depth: usize) -> Read<'_, Expr>
 
 #[cycle(expr)]
 fn ors(alloc: Global, first: Expr, tokens: &[Token], depth: usize) -> Read<'_, Vec<Expr>>
-    ensures { Gives (λ x. (v.exprs_of (map v.view_expr x.0.items), x.1.now)) result
-        (r.ors (r.readers depth) (v.view_expr first) tokens.now) }
+    ensures { Gives (λ x. (views.exprs_of (map views.view_expr x.0.items), x.1.now)) result
+        (reading.ors (reading.readers depth) (views.view_expr first) tokens.now) }
 {
     let mut found = Vec::with_capacity(alloc, 1)?;
     found.push(first)?;
@@ -279,7 +284,7 @@ fn ors(alloc: Global, first: Expr, tokens: &[Token], depth: usize) -> Read<'_, V
 #[cycle(expr)]
 #[tactic(auto, unfolding(rp_grammar::specs::ExpressionReading::or), using(rp_tree::proofs::ExpressionEquations::variants))]
 pub fn or(alloc: Global, tokens: &[Token], depth: usize) -> Read<'_, Expr>
-    ensures { Gives (λ x. (v.view_expr x.0, x.1.now)) result (r.or (r.readers depth) tokens.now) }
+    ensures { Gives (λ x. (views.view_expr x.0, x.1.now)) result (reading.or (reading.readers depth) tokens.now) }
 {
     let (first, rest) = and(alloc, tokens, depth)?;
     if !is_or(rest) {

@@ -1,12 +1,12 @@
 //! Parameters.
 
 ghost use Rattle.std.specs.Prelude.{◌≡◌, Some, map, option_map};
-ghost use Rattle.rp_tree.specs.Expressions as t;
-ghost use Rattle.rp_tree.specs.ExpressionViews as v;
+ghost use Rattle.rp_tree.specs.Expressions as tree;
+ghost use Rattle.rp_tree.specs.ExpressionViews as views;
 ghost use Rattle.rp_grammar.specs.Kinds.{first};
 ghost use Rattle.rp_expr.specs.Gives.{Gives};
-ghost use Rattle.rp_expr.specs.Gives as g;
-ghost use Rattle.rp_grammar.specs.ExpressionReading as r;
+ghost use Rattle.rp_expr.specs.Gives as expr_gives;
+ghost use Rattle.rp_grammar.specs.ExpressionReading as reading;
 
 use crate::expressions::inner_expr;
 use crate::fault::Fault;
@@ -22,7 +22,7 @@ type Plain = (Named, Option<Expr>);
 /// The last name, behind which a comma may stand.
 #[tactic(auto, unfolding(rp_grammar::specs::ExpressionReading::last_name))]
 fn last_name(tokens: &[Token]) -> Read<'_, Named>
-    ensures { Gives (λ x. (x.0, x.1.now)) result (r.last_name tokens.now) }
+    ensures { Gives (λ x. (x.0, x.1.now)) result (reading.last_name tokens.now) }
 {
     let (found, rest) = name(tokens)?;
     if is_comma(rest) {
@@ -34,7 +34,7 @@ fn last_name(tokens: &[Token]) -> Read<'_, Named>
 /// `**NAME`, where it comes.
 #[tactic(auto, unfolding(rp_grammar::specs::ExpressionReading::dict_param))]
 fn dict_param(tokens: &[Token]) -> Read<'_, Option<Named>>
-    ensures { Gives (λ x. (x.0, x.1.now)) result (r.dict_param tokens.now) }
+    ensures { Gives (λ x. (x.0, x.1.now)) result (reading.dict_param tokens.now) }
 {
     if !is_double_star(tokens) {
         return Ok((None, tokens));
@@ -46,7 +46,7 @@ fn dict_param(tokens: &[Token]) -> Read<'_, Option<Named>>
 /// `*NAME` and `**NAME`, where they come.
 #[tactic(auto, unfolding(rp_grammar::specs::ExpressionReading::star_params))]
 fn star_params(tokens: &[Token]) -> Read<'_, (Option<Named>, Option<Named>)>
-    ensures { Gives (λ x. (x.0, x.1.now)) result (r.star_params tokens.now) }
+    ensures { Gives (λ x. (x.0, x.1.now)) result (reading.star_params tokens.now) }
 {
     if !is_star(tokens) {
         let (dict, rest) = dict_param(tokens)?;
@@ -63,8 +63,8 @@ fn star_params(tokens: &[Token]) -> Read<'_, (Option<Named>, Option<Named>)>
 #[cycle(expr)]
 #[tactic(auto, unfolding(rp_grammar::specs::ExpressionReading::plain))]
 fn plain(alloc: Global, defaults: bool, tokens: &[Token], depth: usize) -> Read<'_, (Plain, bool)>
-    ensures { Gives (λ x. ((g.plain_item (v.view_plain x.0.0), x.0.1), x.1.now)) result
-        (r.plain (r.readers depth) defaults tokens.now) }
+    ensures { Gives (λ x. ((expr_gives.plain_item (views.view_plain x.0.0), x.0.1), x.1.now)) result
+        (reading.plain (reading.readers depth) defaults tokens.now) }
 {
     let (name, rest) = name(tokens)?;
     if is_equal(rest) {
@@ -79,8 +79,8 @@ fn plain(alloc: Global, defaults: bool, tokens: &[Token], depth: usize) -> Read<
 
 #[cycle(expr)]
 fn plains(alloc: Global, tokens: &[Token], depth: usize) -> Read<'_, (Vec<Plain>, bool)>
-    ensures { Gives (λ x. ((v.plain_of (map v.view_plain x.0.0.items), x.0.1), x.1.now)) result
-        (r.plains (r.readers depth) tokens.now) }
+    ensures { Gives (λ x. ((views.plain_of (map views.view_plain x.0.0.items), x.0.1), x.1.now)) result
+        (reading.plains (reading.readers depth) tokens.now) }
 {
     let mut found = Vec::new(alloc);
     let mut defaults = false;
@@ -101,7 +101,7 @@ fn plains(alloc: Global, tokens: &[Token], depth: usize) -> Read<'_, (Vec<Plain>
 #[cycle(expr)]
 #[tactic(auto, unfolding(rp_grammar::specs::ExpressionReading::params))]
 pub fn params(alloc: Global, tokens: &[Token], depth: usize) -> Read<'_, Params>
-    ensures { Gives (λ x. (v.view_params x.0, x.1.now)) result (r.params (r.readers depth) tokens.now) }
+    ensures { Gives (λ x. (views.view_params x.0, x.1.now)) result (reading.params (reading.readers depth) tokens.now) }
 {
     let ((plain, is_open), rest) = plains(alloc, tokens, depth)?;
     if !is_open {

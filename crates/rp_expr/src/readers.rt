@@ -1,16 +1,16 @@
 //! The readers that others call: expressions, lists of them, targets and parameters.
 
 ghost use Rattle.std.specs.Prelude.{◌≡◌, ◌+◌, ◌≤◌, ℕ, false, IfOk, Some};
-ghost use Rattle.rp_base.specs.declared.value.Line as l;
-ghost use Rattle.rp_tree.specs.Expressions as t;
-ghost use Rattle.rp_tree.specs.ExpressionViews as v;
-ghost use Rattle.rp_tree.specs.Heights as h;
+ghost use Rattle.rp_base.specs.declared.value.Line as line_type;
+ghost use Rattle.rp_tree.specs.Expressions as tree;
+ghost use Rattle.rp_tree.specs.ExpressionViews as views;
+ghost use Rattle.rp_tree.specs.Heights as tree_heights;
 ghost use Rattle.rp_grammar.specs.Brackets.{IsShallow};
 ghost use Rattle.rp_grammar.specs.Expressions.{IsExpr, IsExprs, IsTarget, IsParams, any};
 ghost use Rattle.rp_grammar.specs.Front.{goes_on, goes_on_list, goes_on_target, goes_on_params};
 ghost use Rattle.rp_expr.specs.Gives.{Gives};
 ghost use Rattle.rp_grammar.specs.Kinds.{Tokens, first};
-ghost use Rattle.rp_grammar.specs.ExpressionReading as r;
+ghost use Rattle.rp_grammar.specs.ExpressionReading as reading;
 
 use crate::node::Read;
 use crate::{clauses, expressions, parameters};
@@ -27,12 +27,13 @@ use std::alloc::Global;
 /// # Errors
 /// `Syntax` where the front of the tokens spells no such expression, `Memory` where a growth was refused.
 pub fn expr(alloc: Global, tokens: &[Token], depth: usize) -> Read<'_, Expr>
-    ensures gives { Gives (λ x. (v.view_expr x.0, x.1.now)) result (r.expr (r.readers depth) tokens.now) }
-    ensures spelled { IfOk result (λ x. IsExpr (v.view_expr x.0) tokens.now x.1.now) }
-    ensures read { (e : t.Expr) (rest : Tokens) (most height : ℕ) → IsExpr e tokens.now rest → goes_on (first rest)
-        ≡ false → h.expr_height e ≤ height
+    ensures gives { Gives (λ x. (views.view_expr x.0, x.1.now)) result
+        (reading.expr (reading.readers depth) tokens.now) }
+    ensures spelled { IfOk result (λ x. IsExpr (views.view_expr x.0) tokens.now x.1.now) }
+    ensures read { (e : tree.Expr) (rest : Tokens) (most height : ℕ) → IsExpr e tokens.now rest → goes_on (first rest)
+        ≡ false → tree_heights.expr_height e ≤ height
         → IsShallow most 0 tokens.now → most + height ≤ depth
-        → Gives {Y = t.Expr × Tokens} (λ x. (v.view_expr x.0, x.1.now)) result (Some (e, rest)) }
+        → Gives {Y = tree.Expr × Tokens} (λ x. (views.view_expr x.0, x.1.now)) result (Some (e, rest)) }
 {
     expressions::expr(alloc, tokens, depth)
 }
@@ -46,12 +47,13 @@ pub fn expr(alloc: Global, tokens: &[Token], depth: usize) -> Read<'_, Expr>
 /// # Errors
 /// `Syntax` where the front of the tokens spells no such list, `Memory` where a growth was refused.
 pub fn expr_list(alloc: Global, tokens: &[Token], depth: usize) -> Read<'_, Expr>
-    ensures gives { Gives (λ x. (v.view_expr x.0, x.1.now)) result (r.expr_list (r.readers depth) tokens.now) }
-    ensures spelled { IfOk result (λ x. IsExprs (v.view_expr x.0) tokens.now x.1.now) }
-    ensures read { (e : t.Expr) (rest : Tokens) (most height : ℕ) → IsExprs e tokens.now rest
-        → goes_on_list (first rest) ≡ false → h.expr_height e ≤ height
+    ensures gives { Gives (λ x. (views.view_expr x.0, x.1.now)) result
+        (reading.expr_list (reading.readers depth) tokens.now) }
+    ensures spelled { IfOk result (λ x. IsExprs (views.view_expr x.0) tokens.now x.1.now) }
+    ensures read { (e : tree.Expr) (rest : Tokens) (most height : ℕ) → IsExprs e tokens.now rest
+        → goes_on_list (first rest) ≡ false → tree_heights.expr_height e ≤ height
         → IsShallow most 0 tokens.now → most + height ≤ depth
-        → Gives {Y = t.Expr × Tokens} (λ x. (v.view_expr x.0, x.1.now)) result (Some (e, rest)) }
+        → Gives {Y = tree.Expr × Tokens} (λ x. (views.view_expr x.0, x.1.now)) result (Some (e, rest)) }
 {
     expressions::expr_list(alloc, tokens, depth)
 }
@@ -65,12 +67,15 @@ pub fn expr_list(alloc: Global, tokens: &[Token], depth: usize) -> Read<'_, Expr
 /// # Errors
 /// `Syntax` where the front of the tokens spells no such target, `Memory` where a growth was refused.
 pub fn target(alloc: Global, tokens: &[Token], depth: usize) -> Read<'_, Target>
-    ensures gives { Gives (λ x. (v.view_target x.0, x.1.now)) result (r.target (r.readers depth) tokens.now) }
-    ensures spelled { IfOk result (λ x. (line : l.Line) × IsTarget (v.view_target x.0) line tokens.now x.1.now) }
-    ensures read { (p : t.Target) (line : l.Line) (rest : Tokens) (most height : ℕ) → IsTarget p line tokens.now rest
+    ensures gives { Gives (λ x. (views.view_target x.0, x.1.now)) result
+        (reading.target (reading.readers depth) tokens.now) }
+    ensures spelled { IfOk result (λ x. (line : line_type.Line)
+        × IsTarget (views.view_target x.0) line tokens.now x.1.now) }
+    ensures read { (p : tree.Target) (line : line_type.Line) (rest : Tokens) (most height : ℕ)
+        → IsTarget p line tokens.now rest
         → goes_on_target (first rest) ≡ false
-        → h.target_height p ≤ height → IsShallow most 0 tokens.now → most + height ≤ depth
-        → Gives {Y = t.Target × Tokens} (λ x. (v.view_target x.0, x.1.now)) result (Some (p, rest)) }
+        → tree_heights.target_height p ≤ height → IsShallow most 0 tokens.now → most + height ≤ depth
+        → Gives {Y = tree.Target × Tokens} (λ x. (views.view_target x.0, x.1.now)) result (Some (p, rest)) }
 {
     clauses::target(alloc, tokens, depth)
 }
@@ -85,12 +90,13 @@ pub fn target(alloc: Global, tokens: &[Token], depth: usize) -> Read<'_, Target>
 /// # Errors
 /// `Syntax` where a parameter or its default is not spelled so, `Memory` where a growth was refused.
 pub fn params(alloc: Global, tokens: &[Token], depth: usize) -> Read<'_, Params>
-    ensures gives { Gives (λ x. (v.view_params x.0, x.1.now)) result (r.params (r.readers depth) tokens.now) }
-    ensures spelled { IfOk result (λ x. IsParams any (v.view_params x.0) tokens.now x.1.now) }
-    ensures read { (ps : t.Params) (rest : Tokens) (most height : ℕ) → IsParams any ps tokens.now rest
+    ensures gives { Gives (λ x. (views.view_params x.0, x.1.now)) result
+        (reading.params (reading.readers depth) tokens.now) }
+    ensures spelled { IfOk result (λ x. IsParams any (views.view_params x.0) tokens.now x.1.now) }
+    ensures read { (ps : tree.Params) (rest : Tokens) (most height : ℕ) → IsParams any ps tokens.now rest
         → goes_on_params (first rest) ≡ false
-        → h.params_height ps ≤ height → IsShallow most 0 tokens.now → most + height ≤ depth
-        → Gives {Y = t.Params × Tokens} (λ x. (v.view_params x.0, x.1.now)) result (Some (ps, rest)) }
+        → tree_heights.params_height ps ≤ height → IsShallow most 0 tokens.now → most + height ≤ depth
+        → Gives {Y = tree.Params × Tokens} (λ x. (views.view_params x.0, x.1.now)) result (Some (ps, rest)) }
 {
     parameters::params(alloc, tokens, depth)
 }

@@ -4,7 +4,7 @@ ghost use Rattle.std.specs.Prelude.{◌≡◌, option_map};
 ghost use Rattle.rp_grammar.specs.Front.{text_of};
 ghost use Rattle.rp_expr.specs.Gives.{Gives};
 ghost use Rattle.rp_grammar.specs.Kinds.{first};
-ghost use Rattle.rp_grammar.specs.ExpressionReading as r;
+ghost use Rattle.rp_grammar.specs.ExpressionReading as reading;
 
 use crate::look::{is_text, kind_at, skip};
 use crate::node::Read;
@@ -14,7 +14,7 @@ use std::alloc::Global;
 
 /// A text literal, joined with those behind it. One alone is shared.
 pub fn texts<'a>(alloc: Global, text: &Text, tokens: &'a [Token]) -> Read<'a, Text>
-    ensures { Gives (λ x. (x.0, x.1.now)) result (r.texts text.now tokens.now) }
+    ensures { Gives (λ x. (x.0, x.1.now)) result (reading.texts text.now tokens.now) }
 {
     if !is_text(tokens) {
         return Ok((text.copy()?, tokens));

@@ -1,11 +1,11 @@
 //! Primaries: what trails an atom.
 
 ghost use Rattle.std.specs.Prelude.{◌≡◌, Some, map, option_map};
-ghost use Rattle.rp_tree.specs.Expressions as t;
-ghost use Rattle.rp_tree.specs.ExpressionViews as v;
+ghost use Rattle.rp_tree.specs.Expressions as tree;
+ghost use Rattle.rp_tree.specs.ExpressionViews as views;
 ghost use Rattle.rp_grammar.specs.Kinds.{first};
 ghost use Rattle.rp_expr.specs.Gives.{Gives};
-ghost use Rattle.rp_grammar.specs.ExpressionReading as r;
+ghost use Rattle.rp_grammar.specs.ExpressionReading as reading;
 
 use crate::atoms::atom;
 use crate::distinct::has_distinct_keys;
@@ -23,8 +23,8 @@ use std::alloc::Global;
 #[cycle(expr)]
 #[tactic(auto, unfolding(rp_grammar::specs::ExpressionReading::maybe))]
 fn maybe(alloc: Global, tokens: &[Token], depth: usize) -> Read<'_, Option<Expr>>
-    ensures { Gives (λ x. (v.maybe_of (option_map v.view_expr x.0), x.1.now)) result
-        (r.maybe (r.readers depth) tokens.now) }
+    ensures { Gives (λ x. (views.maybe_of (option_map views.view_expr x.0), x.1.now)) result
+        (reading.maybe (reading.readers depth) tokens.now) }
 {
     if !starts(tokens) {
         return Ok((None, tokens));
@@ -36,8 +36,8 @@ fn maybe(alloc: Global, tokens: &[Token], depth: usize) -> Read<'_, Option<Expr>
 #[cycle(expr)]
 #[tactic(auto, unfolding(rp_grammar::specs::ExpressionReading::slice), using(rp_tree::proofs::ExpressionEquations::variants))]
 fn slice(alloc: Global, from: Option<Expr>, tokens: &[Token], depth: usize) -> Read<'_, Trailer>
-    ensures { Gives (λ x. (v.view_trailer x.0, x.1.now)) result
-        (r.slice (r.readers depth) (v.maybe_of (option_map v.view_expr from)) tokens.now) }
+    ensures { Gives (λ x. (views.view_trailer x.0, x.1.now)) result
+        (reading.slice (reading.readers depth) (views.maybe_of (option_map views.view_expr from)) tokens.now) }
 {
     let (to, rest) = maybe(alloc, tokens, depth)?;
     if !is_colon(rest) {
@@ -52,7 +52,8 @@ fn slice(alloc: Global, from: Option<Expr>, tokens: &[Token], depth: usize) -> R
 #[cycle(expr)]
 #[tactic(auto, unfolding(rp_grammar::specs::ExpressionReading::subscript), using(rp_tree::proofs::ExpressionEquations::variants))]
 fn subscript(alloc: Global, tokens: &[Token], depth: usize) -> Read<'_, Trailer>
-    ensures { Gives (λ x. (v.view_trailer x.0, x.1.now)) result (r.subscript (r.readers depth) tokens.now) }
+    ensures { Gives (λ x. (views.view_trailer x.0, x.1.now)) result
+        (reading.subscript (reading.readers depth) tokens.now) }
 {
     if is_colon(tokens) {
         return slice(alloc, None, skip(tokens), depth);
@@ -68,8 +69,8 @@ fn subscript(alloc: Global, tokens: &[Token], depth: usize) -> Read<'_, Trailer>
 #[cycle(expr)]
 #[tactic(auto, unfolding(rp_grammar::specs::ExpressionReading::positional), using(rp_tree::proofs::ExpressionEquations::variants))]
 fn positional(alloc: Global, named: bool, tokens: &[Token], depth: usize) -> Read<'_, (Arg, bool)>
-    ensures { Gives (λ x. ((v.view_arg x.0.0, x.0.1), x.1.now)) result
-        (r.positional (r.readers depth) named tokens.now) }
+    ensures { Gives (λ x. ((views.view_arg x.0.0, x.0.1), x.1.now)) result
+        (reading.positional (reading.readers depth) named tokens.now) }
 {
     if named {
         return Err(Fault::Syntax);
@@ -81,7 +82,8 @@ fn positional(alloc: Global, named: bool, tokens: &[Token], depth: usize) -> Rea
 #[cycle(expr)]
 #[tactic(auto, unfolding(rp_grammar::specs::ExpressionReading::starred), using(rp_tree::proofs::ExpressionEquations::variants))]
 fn starred(alloc: Global, named: bool, tokens: &[Token], depth: usize) -> Read<'_, (Arg, bool)>
-    ensures { Gives (λ x. ((v.view_arg x.0.0, x.0.1), x.1.now)) result (r.starred (r.readers depth) named tokens.now) }
+    ensures { Gives (λ x. ((views.view_arg x.0.0, x.0.1), x.1.now)) result
+        (reading.starred (reading.readers depth) named tokens.now) }
 {
     if named {
         return Err(Fault::Syntax);
@@ -93,7 +95,8 @@ fn starred(alloc: Global, named: bool, tokens: &[Token], depth: usize) -> Read<'
 #[cycle(expr)]
 #[tactic(auto, unfolding(rp_grammar::specs::ExpressionReading::arg), using(rp_tree::proofs::ExpressionEquations::variants))]
 fn arg(alloc: Global, named: bool, tokens: &[Token], depth: usize) -> Read<'_, (Arg, bool)>
-    ensures { Gives (λ x. ((v.view_arg x.0.0, x.0.1), x.1.now)) result (r.arg (r.readers depth) named tokens.now) }
+    ensures { Gives (λ x. ((views.view_arg x.0.0, x.0.1), x.1.now)) result
+        (reading.arg (reading.readers depth) named tokens.now) }
 {
     match tokens {
         [] => positional(alloc, named, tokens, depth),
@@ -114,8 +117,8 @@ fn arg(alloc: Global, named: bool, tokens: &[Token], depth: usize) -> Read<'_, (
 
 #[cycle(expr)]
 fn args(alloc: Global, tokens: &[Token], depth: usize) -> Read<'_, Vec<Arg>>
-    ensures { Gives (λ x. (v.args_of (map v.view_arg x.0.items), x.1.now)) result
-        (r.args (r.readers depth) tokens.now) }
+    ensures { Gives (λ x. (views.args_of (map views.view_arg x.0.items), x.1.now)) result
+        (reading.args (reading.readers depth) tokens.now) }
 {
     let mut found = Vec::with_capacity(alloc, 1)?;
     let mut named = false;
@@ -135,7 +138,8 @@ fn args(alloc: Global, tokens: &[Token], depth: usize) -> Read<'_, Vec<Arg>>
 #[cycle(expr)]
 #[tactic(auto, unfolding(rp_grammar::specs::ExpressionReading::called), using(rp_tree::proofs::ExpressionEquations::variants))]
 fn called(alloc: Global, tokens: &[Token], depth: usize) -> Read<'_, Trailer>
-    ensures { Gives (λ x. (v.view_trailer x.0, x.1.now)) result (r.called (r.readers depth) tokens.now) }
+    ensures { Gives (λ x. (views.view_trailer x.0, x.1.now)) result
+        (reading.called (reading.readers depth) tokens.now) }
 {
     let (args, rest) = args(alloc, tokens, depth)?;
     if !has_distinct_keys(alloc, &args)? {
@@ -148,7 +152,8 @@ fn called(alloc: Global, tokens: &[Token], depth: usize) -> Read<'_, Trailer>
 #[cycle(expr)]
 #[tactic(auto, unfolding(rp_grammar::specs::ExpressionReading::trailer), using(rp_tree::proofs::ExpressionEquations::variants))]
 fn trailer(alloc: Global, tokens: &[Token], depth: usize) -> Read<'_, Trailer>
-    ensures { Gives (λ x. (v.view_trailer x.0, x.1.now)) result (r.trailer (r.readers depth) tokens.now) }
+    ensures { Gives (λ x. (views.view_trailer x.0, x.1.now)) result
+        (reading.trailer (reading.readers depth) tokens.now) }
 {
     match tokens {
         [] => Err(Fault::Syntax),
@@ -163,8 +168,8 @@ fn trailer(alloc: Global, tokens: &[Token], depth: usize) -> Read<'_, Trailer>
 
 #[cycle(expr)]
 fn trailers(alloc: Global, tokens: &[Token], depth: usize) -> Read<'_, Vec<Trailer>>
-    ensures { Gives (λ x. (v.trailers_of (map v.view_trailer x.0.items), x.1.now)) result
-        (r.trailers (r.readers depth) tokens.now) }
+    ensures { Gives (λ x. (views.trailers_of (map views.view_trailer x.0.items), x.1.now)) result
+        (reading.trailers (reading.readers depth) tokens.now) }
 {
     let mut found = Vec::with_capacity(alloc, 1)?;
     let mut rest = tokens;
@@ -184,7 +189,7 @@ fn trailers(alloc: Global, tokens: &[Token], depth: usize) -> Read<'_, Vec<Trail
 #[cycle(expr)]
 #[tactic(auto, unfolding(rp_grammar::specs::ExpressionReading::primary), using(rp_tree::proofs::ExpressionEquations::variants))]
 pub fn primary(alloc: Global, tokens: &[Token], depth: usize) -> Read<'_, Expr>
-    ensures { Gives (λ x. (v.view_expr x.0, x.1.now)) result (r.primary (r.readers depth) tokens.now) }
+    ensures { Gives (λ x. (views.view_expr x.0, x.1.now)) result (reading.primary (reading.readers depth) tokens.now) }
 {
     let (atom, rest) = atom(alloc, tokens, depth)?;
     if !starts_trailer(rest) {
@@ -198,7 +203,7 @@ pub fn primary(alloc: Global, tokens: &[Token], depth: usize) -> Read<'_, Expr>
 /// A name behind a dot.
 #[tactic(auto, unfolding(rp_grammar::specs::ExpressionReading::attr), using(rp_tree::proofs::ExpressionEquations::variants))]
 fn attr(tokens: &[Token]) -> Read<'_, Trailer>
-    ensures { Gives (λ x. (v.view_trailer x.0, x.1.now)) result (r.attr tokens.now) }
+    ensures { Gives (λ x. (views.view_trailer x.0, x.1.now)) result (reading.attr tokens.now) }
 {
     let (name, rest) = name(tokens)?;
     Ok((Trailer::Attr(name, None), rest))

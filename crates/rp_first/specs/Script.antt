@@ -2,9 +2,9 @@
 use Rattle.std.specs.Prelude.{◌≡◌, ℕ, pos, negsuc, ◌≤◌, Bool, true, false, ◌&&◌, ◌||◌, not, nat_eq, if◌then◌else◌, List, [], ◌∷◌, length, codes, Option, Some, None, option_and_then, option_map}
 use Rattle.std.specs.List.{list_all, starts_with, ends_with}
 use Rattle.rp_base.specs.Same.{same_text}
-use Rattle.rp_tree.specs.ExpressionTrees as t
+use Rattle.rp_tree.specs.ExpressionTrees as trees
 use Rattle.rp_tree.specs.ExpressionTrees.{Expr, Form, Place, Trailers, Args}
-use Rattle.rp_tree.specs.StatementTrees as s
+use Rattle.rp_tree.specs.StatementTrees as stmt_trees
 use Rattle.rp_tree.specs.StatementTrees.{Stmt, StmtForm, Stmts}
 use Rattle.rp_program.specs.Program.{IsProgram}
 use Rattle.rp_first.specs.Reserved.{is_reserved, inspection_attributes, text_methods}
@@ -38,33 +38,33 @@ is_written_statement (print e) = is_written e
 
 -- an expression without its line
 abbrev pub form_of : {A : Type 0} → Expr A → Form A
-form_of (t.node line form) = form
+form_of (trees.node line form) = form
 
 -- the name that an expression is
 abbrev pub name_in : {A : Type 0} → Form A → Option A
-name_in (t.name x) = Some x
+name_in (trees.name x) = Some x
 name_in _ = None
 
 -- the attribute that is all that trails
 abbrev pub attribute_in : {A : Type 0} → Trailers A → Option A
-attribute_in (t.trailer (t.attr a mark) t.no_trailers) = Some a.name
+attribute_in (trees.trailer (trees.attr a mark) trees.no_trailers) = Some a.name
 attribute_in _ = None
 
 -- the arguments of the call that is all that trails
 abbrev pub arguments_in : {A : Type 0} → Trailers A → Option (Args A)
-arguments_in (t.trailer (t.call args mark) t.no_trailers) = Some args
+arguments_in (trees.trailer (trees.call args mark) trees.no_trailers) = Some args
 arguments_in _ = None
 
 -- the positional argument that is the only one
 abbrev pub argument_in : {A : Type 0} → Args A → Option (Form A)
-argument_in (t.arg (t.value e) t.no_args) = Some (form_of e)
+argument_in (trees.arg (trees.value e) trees.no_args) = Some (form_of e)
 argument_in _ = None
 
 -- a name, an attribute of what a name stands for, or a number
 abbrev pub expression_by : {A : Type 0} → (A → List ℕ) → Form A → Option Expression
-expression_by word (t.name x) = Some (name (word x))
-expression_by word (t.int n) = Some (number n)
-expression_by word (t.primary e xs) =
+expression_by word (trees.name x) = Some (name (word x))
+expression_by word (trees.int n) = Some (number n)
+expression_by word (trees.primary e xs) =
     option_and_then (λ x. option_map (λ a. attribute (word x) (word a)) (attribute_in xs)) (name_in (form_of e))
 expression_by word _ = None
 
@@ -74,29 +74,29 @@ is_print word x = same_text (word x) (codes "print")
 
 -- the only argument of a call of `print`
 abbrev pub printed_by : {A : Type 0} → (A → List ℕ) → Form A → Option (Form A)
-printed_by word (t.primary e xs) =
+printed_by word (trees.primary e xs) =
     option_and_then (λ x. if is_print word x then option_and_then argument_in (arguments_in xs) else None) (name_in (form_of e))
 printed_by word _ = None
 
 -- the name that is the only place
 abbrev pub target_in : {A : Type 0} → List (Place A) → Option A
-target_in (t.to_name x ∷ []) = Some x.name
+target_in (trees.to_name x ∷ []) = Some x.name
 target_in _ = None
 
 -- a statement without its line
 abbrev pub statement_form : {A : Type 0} → Stmt A → StmtForm A
-statement_form (s.a_stmt line form) = form
+statement_form (stmt_trees.a_stmt line form) = form
 
 -- `x = E` or `print(E)`
 abbrev pub statement_by : {A : Type 0} → (A → List ℕ) → StmtForm A → Option Statement
-statement_by word (s.assign ps e) = option_and_then (λ x. option_map (assign (word x)) (expression_by word (form_of e))) (target_in ps)
-statement_by word (s.evaluate e) = option_map print (option_and_then (expression_by word) (printed_by word (form_of e)))
+statement_by word (stmt_trees.assign ps e) = option_and_then (λ x. option_map (assign (word x)) (expression_by word (form_of e))) (target_in ps)
+statement_by word (stmt_trees.evaluate e) = option_map print (option_and_then (expression_by word) (printed_by word (form_of e)))
 statement_by word _ = None
 
 -- the statements of a tree, where each is of a first form
 abbrev pub source_by : {A : Type 0} → (A → List ℕ) → Stmts A → Option (List Statement)
-source_by word s.no_stmts = Some []
-source_by word (s.stmt x xs) = option_and_then (λ y. option_map (λ ys. y ∷ ys) (source_by word xs)) (statement_by word (statement_form x))
+source_by word stmt_trees.no_stmts = Some []
+source_by word (stmt_trees.stmt x xs) = option_and_then (λ y. option_map (λ ys. y ∷ ys) (source_by word xs)) (statement_by word (statement_form x))
 
 -- the statements of a tree whose names are texts
 abbrev pub source_of : Stmts (List ℕ) → Option (List Statement)

@@ -3,8 +3,8 @@
 ghost use Rattle.std.specs.Prelude.{◌≡◌, ◌∷◌, [], IfErr, IfOk, IfSome, IsTrue, List, Some, map, option_and_then};
 ghost use Rattle.std.specs.Prelude.{option_map};
 ghost use Rattle.std.specs.List.{All};
-ghost use Rattle.rp_tree.specs.ExpressionTrees as t;
-ghost use Rattle.rp_tree.specs.ExpressionViews as v;
+ghost use Rattle.rp_tree.specs.ExpressionTrees as trees;
+ghost use Rattle.rp_tree.specs.ExpressionViews as views;
 ghost use Rattle.rp_tree.specs.StatementViews.{view_stmt_form, view_tree};
 ghost use Rattle.rp_first.specs.Reading.{IsRead, OnNotYet, allowed, allowed_statement};
 ghost use Rattle.rp_first.specs.Script.{argument_in, arguments_in, attribute_in, expression_by, is_attribute_name};
@@ -66,8 +66,8 @@ fn assignment(places: &[Place], value: &ExprForm, names: &Names) -> Option<Stmt>
     ensures gives { option_map (statement_view names.now) result
         ≡ allowed_statement (option_and_then
         (λ x. option_map (source.assign (word names.now x))
-        (expression_by (word names.now) (v.view_form value.now)))
-        (target_in (map v.view_place places.now))) }
+        (expression_by (word names.now) (views.view_form value.now)))
+        (target_in (map views.view_place places.now))) }
     ensures held { IfSome result (IsStatementHeld names.now) }
 {
     let target = target(places)?;
@@ -81,7 +81,7 @@ fn assignment(places: &[Place], value: &ExprForm, names: &Names) -> Option<Stmt>
 
 /// The name that is the only place.
 fn target(places: &[Place]) -> Option<Name>
-    ensures { result ≡ target_in (map v.view_place places.now) }
+    ensures { result ≡ target_in (map views.view_place places.now) }
 {
     match places {
         [place] => bound(place),
@@ -92,7 +92,7 @@ fn target(places: &[Place]) -> Option<Name>
 /// The name that a place is.
 #[tactic(auto, using(rp_tree::proofs::ExpressionEquations::variants))]
 fn bound(place: &Place) -> Option<Name>
-    ensures { result ≡ target_in (v.view_place place.now ∷ []) }
+    ensures { result ≡ target_in (views.view_place place.now ∷ []) }
 {
     match place {
         Place::Name(named) => Some(named.name),
@@ -104,7 +104,7 @@ fn bound(place: &Place) -> Option<Name>
 fn call(form: &ExprForm, names: &Names) -> Option<Stmt>
     ensures gives { option_map (statement_view names.now) result
         ≡ allowed_statement (option_map source.print
-        (option_and_then (expression_by (word names.now)) (printed_by (word names.now) (v.view_form form.now)))) }
+        (option_and_then (expression_by (word names.now)) (printed_by (word names.now) (views.view_form form.now)))) }
     ensures held { IfSome result (IsStatementHeld names.now) }
 {
     let value = expression(printed(form, names)?, names)?;
@@ -113,7 +113,7 @@ fn call(form: &ExprForm, names: &Names) -> Option<Stmt>
 
 /// The only argument of the call of `print` that an expression is.
 fn printed<'t>(form: &'t ExprForm, names: &Names) -> Option<&'t ExprForm>
-    ensures { option_map (λ f. v.view_form f.now) result ≡ printed_by (word names.now) (v.view_form form.now) }
+    ensures { option_map (λ f. views.view_form f.now) result ≡ printed_by (word names.now) (views.view_form form.now) }
 {
     match form {
         ExprForm::Primary(function, trailers) => {
@@ -129,8 +129,8 @@ fn printed<'t>(form: &'t ExprForm, names: &Names) -> Option<&'t ExprForm>
 
 /// The arguments of the call that is all that trails.
 fn arguments(trailers: &[Trailer]) -> Option<&[Arg]>
-    ensures { option_map (λ args. v.args_of (map v.view_arg args.now)) result
-        ≡ arguments_in (v.trailers_of (map v.view_trailer trailers.now)) }
+    ensures { option_map (λ args. views.args_of (map views.view_arg args.now)) result
+        ≡ arguments_in (views.trailers_of (map views.view_trailer trailers.now)) }
 {
     match trailers {
         [] => None,
@@ -141,8 +141,8 @@ fn arguments(trailers: &[Trailer]) -> Option<&[Arg]>
 
 /// The arguments, where a trailer is a call.
 fn arguments_of(trailer: &Trailer) -> Option<&[Arg]>
-    ensures { option_map (λ args. v.args_of (map v.view_arg args.now)) result
-        ≡ arguments_in (t.trailer (v.view_trailer trailer.now) t.no_trailers) }
+    ensures { option_map (λ args. views.args_of (map views.view_arg args.now)) result
+        ≡ arguments_in (trees.trailer (views.view_trailer trailer.now) trees.no_trailers) }
 {
     match trailer {
         Trailer::Call(args, _) => Some(args),
@@ -152,7 +152,8 @@ fn arguments_of(trailer: &Trailer) -> Option<&[Arg]>
 
 /// The positional argument that is the only one.
 fn argument(args: &[Arg]) -> Option<&ExprForm>
-    ensures { option_map (λ f. v.view_form f.now) result ≡ argument_in (v.args_of (map v.view_arg args.now)) }
+    ensures { option_map (λ f. views.view_form f.now) result
+        ≡ argument_in (views.args_of (map views.view_arg args.now)) }
 {
     match args {
         [] => None,
@@ -164,7 +165,8 @@ fn argument(args: &[Arg]) -> Option<&ExprForm>
 /// The expression of a positional argument.
 #[tactic(auto, using(rp_tree::proofs::ExpressionEquations::variants))]
 fn positional(arg: &Arg) -> Option<&ExprForm>
-    ensures { option_map (λ f. v.view_form f.now) result ≡ argument_in (t.arg (v.view_arg arg.now) t.no_args) }
+    ensures { option_map (λ f. views.view_form f.now) result
+        ≡ argument_in (trees.arg (views.view_arg arg.now) trees.no_args) }
 {
     match arg {
         Arg::Plain(value) => Some(&value.form),
@@ -182,7 +184,7 @@ fn is_print(name: Name, names: &Names) -> bool
 /// The expression of the first form that a form is, where a script may write it.
 fn expression(form: &ExprForm, names: &Names) -> Option<Expr>
     ensures gives { option_map (expression_view names.now) result
-        ≡ allowed (expression_by (word names.now) (v.view_form form.now)) }
+        ≡ allowed (expression_by (word names.now) (views.view_form form.now)) }
     ensures held { IfSome result (IsExpressionHeld names.now) }
 {
     match form {
@@ -197,7 +199,7 @@ fn expression(form: &ExprForm, names: &Names) -> Option<Expr>
 
 /// The name that an expression is.
 fn name(form: &ExprForm) -> Option<Name>
-    ensures { result ≡ name_in (v.view_form form.now) }
+    ensures { result ≡ name_in (views.view_form form.now) }
 {
     match form {
         ExprForm::Name(name) => Some(*name),
@@ -207,7 +209,7 @@ fn name(form: &ExprForm) -> Option<Name>
 
 /// The attribute that is all that trails.
 fn attribute(trailers: &[Trailer]) -> Option<Name>
-    ensures { result ≡ attribute_in (v.trailers_of (map v.view_trailer trailers.now)) }
+    ensures { result ≡ attribute_in (views.trailers_of (map views.view_trailer trailers.now)) }
 {
     match trailers {
         [Trailer::Attr(named, _)] => Some(named.name),

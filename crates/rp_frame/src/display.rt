@@ -5,4 +5,5 @@
 pub enum Display {
     List,
     Tuple,
+    Dict,
 }

@@ -3,7 +3,7 @@
 use crate::display::Display;
 use crate::spot::{Each, Spot};
 use rp_base::{BinOp, Name, UnOp};
-use rp_tree::{Arg, Branch, Expr, Place, Stmt, Test, Trailer};
+use rp_tree::{Arg, Branch, Expr, Place, Stmt, Target, Test, Trailer};
 
 /// What an expression does with the value of a part, or that of a statement.
 #[derive(Clone, Copy)]
@@ -32,9 +32,22 @@ pub enum ExprTask<'u> {
     Key(&'u [Trailer]),
     /// With an element of a display; so many before it are at hand, and these are behind.
     Items(Display, u32, &'u [Expr]),
-    /// With an argument of a call; the callee and, upon it, so many arguments before it are at hand, and these arguments
-    /// and trailers are behind.
+    /// With an argument of a call; the callee and, upon it, so many arguments before it are at hand, and these
+    /// arguments and trailers are behind.
     Argument(u32, &'u [Arg], &'u [Trailer]),
+    /// With the lower bound of a slice; what is sliced is at hand, and its upper bound, its step, and these trailers
+    /// are behind.
+    SliceFrom(&'u Option<Expr>, &'u Option<Expr>, &'u [Trailer]),
+    /// With the upper bound of a slice; what is sliced and, upon it, the lower bound are at hand.
+    SliceTo(&'u Option<Expr>, &'u [Trailer]),
+    /// With the step of a slice; what is sliced and, upon it, both bounds are at hand.
+    SliceStep(&'u [Trailer]),
+    /// With a key of a dict display; so many keys and values before it are at hand, and its value and these pairs are
+    /// behind.
+    DictKey(u32, &'u Expr, &'u [(Expr, Expr)]),
+    /// With the value of a key of a dict display; so many keys and values before it are at hand, and these pairs are
+    /// behind.
+    DictValue(u32, &'u [(Expr, Expr)]),
 }
 
 /// What a statement does with the value of an expression.
@@ -67,6 +80,22 @@ pub enum StmtTask<'u> {
     AugmentName(Name, BinOp),
     /// With what a `for` statement goes over.
     For(Each<'u>),
+    /// With the value of `raise`.
+    Raise,
+    /// With the object whose attribute is augmented: the operator and the right side.
+    AugmentAttr(Name, BinOp, &'u Expr),
+    /// With the right side of an augmented assignment to an attribute; the object and, upon it, the attribute's value
+    /// are at hand.
+    AugmentedAttr(Name, BinOp),
+    /// With the container of the item that is augmented: its key, the operator and the right side.
+    AugmentItem(&'u Expr, BinOp, &'u Expr),
+    /// With the key of the item that is augmented; the container is at hand.
+    AugmentKey(BinOp, &'u Expr),
+    /// With the right side of an augmented assignment to an item; the container and, upon it, the key and the item are
+    /// at hand.
+    AugmentedItem(BinOp),
+    /// With the value that is unpacked over a target.
+    Unpack(&'u Target),
 }
 
 /// What waits for the end of a statement or a block.
@@ -82,6 +111,8 @@ pub enum FlowTask<'u> {
     Delete(&'u [Place]),
     /// A `for` loop: the turns that it may still make, and where it then stands in the value at hand.
     For(u64, Spot, Each<'u>),
+    /// The targets behind one that an element was stored to; their elements are at hand, the first one upon the others.
+    StoreEach(&'u [Target]),
 }
 
 /// What waits for the end of a part.

@@ -1,6 +1,6 @@
 //! The values at hand.
 
-ghost use Rattle.std.specs.Prelude.{◌≡◌, ◌∷◌, [], drop, reverse, take, IfOk, OnErr, OnOk};
+ghost use Rattle.std.specs.Prelude.{◌≡◌, ◌∷◌, ◌++◌, [], drop, reverse, take, IfOk, OnErr, OnOk};
 ghost use Rattle.rp_frame.specs.Top.{top, below};
 
 use rp_base::{Memory, Rock, Value};
@@ -42,6 +42,20 @@ impl Values {
         ensures same { OnErr result (self.new ≡ self.old) }
     {
         self.values.push(value)?;
+        Ok(())
+    }
+
+    /// Puts values upon the others, the first one last.
+    ///
+    /// # Errors
+    /// `Memory` where a growth was refused; then they are as before.
+    pub fn put(&mut self, values: Vec<Value>) -> Result<(), Memory>
+        ensures put { OnOk result (self.new ≡ values.items ++ self.old) }
+        ensures same { OnErr result (self.new ≡ self.old) }
+    {
+        let mut values = values;
+        values.reverse();
+        self.values.append(&mut values)?;
         Ok(())
     }
 

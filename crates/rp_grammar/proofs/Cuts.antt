@@ -8,13 +8,13 @@ use Rattle.rp_token.specs.declared.token.TokenKind.TheVariants as kind
 use Rattle.rp_tree.specs.Expressions.{Named, Expr, Exprs, Place, Target, Targets, Params}
 use Rattle.rp_tree.specs.Statements.{Stmt}
 use Rattle.rp_grammar.specs.Kinds.{Tokens, first, line_at, skip}
-use Rattle.rp_grammar.specs.Expressions as g
+use Rattle.rp_grammar.specs.Expressions as grammar
 use Rattle.rp_grammar.specs.Expressions.{Stage}
-use Rattle.rp_grammar.specs.Statements as s
+use Rattle.rp_grammar.specs.Statements as stmt_grammar
 use Rattle.rp_grammar.specs.Statements.{Context}
-use Rattle.rp_grammar.proofs.Again as a
+use Rattle.rp_grammar.proofs.Again as again_laws
 use Rattle.rp_grammar.proofs.Again.{is_inner, Again}
-use Rattle.rp_grammar.proofs.AgainSimple as b
+use Rattle.rp_grammar.proofs.AgainSimple as simple_again_laws
 
 abbrev pub is_pass : TokenKind → Bool
 is_pass kind.Pass = true
@@ -90,49 +90,49 @@ cut_of c = record { front = c.0; parts = c.1.parts; no_pass = c.1.no_pass; moves
 
 -- ---- parts of expressions
 
-pub place_cut : {p : Place} {ts us : Tokens} → g.IsPlace p ts us → Cut (g.IsPlace p) ts us
-place_cut {us = us} p = cut_of (a.place_again (Before us) (before_step us) p (before_none us))
+pub place_cut : {p : Place} {ts us : Tokens} → grammar.IsPlace p ts us → Cut (grammar.IsPlace p) ts us
+place_cut {us = us} p = cut_of (again_laws.place_again (Before us) (before_step us) p (before_none us))
 
-pub group_cut : {p : Target} {line : Line} {ts us : Tokens} → g.IsGroup p line ts us → Cut (g.IsGroup p line) ts us
-group_cut {us = us} p = cut_of (a.group_again (Before us) (before_step us) p (before_none us))
+pub group_cut : {p : Target} {line : Line} {ts us : Tokens} → grammar.IsGroup p line ts us → Cut (grammar.IsGroup p line) ts us
+group_cut {us = us} p = cut_of (again_laws.group_again (Before us) (before_step us) p (before_none us))
 
-pub parts_cut : {ps : Targets} {line : Line} {ts us : Tokens} → g.Parts ps line ts us → Cut (g.Parts ps line) ts us
-parts_cut {us = us} p = cut_of (a.parts_again (Before us) (before_step us) p (before_none us))
+pub parts_cut : {ps : Targets} {line : Line} {ts us : Tokens} → grammar.Parts ps line ts us → Cut (grammar.Parts ps line) ts us
+parts_cut {us = us} p = cut_of (again_laws.parts_again (Before us) (before_step us) p (before_none us))
 
-pub target_cut : {p : Target} {line : Line} {ts us : Tokens} → g.IsTarget p line ts us → Cut (g.IsTarget p line) ts us
-target_cut {us = us} p = cut_of (a.target_again (Before us) (before_step us) p (before_none us))
+pub target_cut : {p : Target} {line : Line} {ts us : Tokens} → grammar.IsTarget p line ts us → Cut (grammar.IsTarget p line) ts us
+target_cut {us = us} p = cut_of (again_laws.target_again (Before us) (before_step us) p (before_none us))
 
-pub params_cut : {stage : Stage} {ps : Params} {ts us : Tokens} → g.IsParams stage ps ts us → Cut (g.IsParams stage ps) ts us
-params_cut {us = us} p = cut_of (a.params_again (Before us) (before_step us) p (before_none us))
+pub params_cut : {stage : Stage} {ps : Params} {ts us : Tokens} → grammar.IsParams stage ps ts us → Cut (grammar.IsParams stage ps) ts us
+params_cut {us = us} p = cut_of (again_laws.params_again (Before us) (before_step us) p (before_none us))
 
-pub listed_cut : {es : Exprs} {ts us : Tokens} → g.Listed es ts us → Cut (g.Listed es) ts us
-listed_cut {us = us} p = cut_of (a.listed_again (Before us) (before_step us) p (before_none us))
+pub listed_cut : {es : Exprs} {ts us : Tokens} → grammar.Listed es ts us → Cut (grammar.Listed es) ts us
+listed_cut {us = us} p = cut_of (again_laws.listed_again (Before us) (before_step us) p (before_none us))
 
-pub primary_cut : {e : Expr} {ts us : Tokens} → g.Primary e ts us → Cut (g.Primary e) ts us
-primary_cut {us = us} p = cut_of (a.primary_again (Before us) (before_step us) p (before_none us))
+pub primary_cut : {e : Expr} {ts us : Tokens} → grammar.Primary e ts us → Cut (grammar.Primary e) ts us
+primary_cut {us = us} p = cut_of (again_laws.primary_again (Before us) (before_step us) p (before_none us))
 
-pub or_cut : {e : Expr} {ts us : Tokens} → g.Or e ts us → Cut (g.Or e) ts us
-or_cut {us = us} p = cut_of (a.or_again (Before us) (before_step us) p (before_none us))
+pub or_cut : {e : Expr} {ts us : Tokens} → grammar.Or e ts us → Cut (grammar.Or e) ts us
+or_cut {us = us} p = cut_of (again_laws.or_again (Before us) (before_step us) p (before_none us))
 
-pub expr_cut : {e : Expr} {ts us : Tokens} → g.IsExpr e ts us → Cut (g.IsExpr e) ts us
-expr_cut {us = us} p = cut_of (a.expr_again (Before us) (before_step us) p (before_none us))
+pub expr_cut : {e : Expr} {ts us : Tokens} → grammar.IsExpr e ts us → Cut (grammar.IsExpr e) ts us
+expr_cut {us = us} p = cut_of (again_laws.expr_again (Before us) (before_step us) p (before_none us))
 
-pub exprs_cut : {e : Expr} {ts us : Tokens} → g.IsExprs e ts us → Cut (g.IsExprs e) ts us
-exprs_cut {us = us} p = cut_of (a.exprs_again (Before us) (before_step us) p (before_none us))
+pub exprs_cut : {e : Expr} {ts us : Tokens} → grammar.IsExprs e ts us → Cut (grammar.IsExprs e) ts us
+exprs_cut {us = us} p = cut_of (again_laws.exprs_again (Before us) (before_step us) p (before_none us))
 
 -- ---- parts of simple statements, and they
 
-pub names_cut : {ns : List Named} {ts us : Tokens} → s.IsNames ns ts us → Cut (s.IsNames ns) ts us
-names_cut {us = us} p = cut_of (b.names_again (Before us) (before_step us) p (before_none us))
+pub names_cut : {ns : List Named} {ts us : Tokens} → stmt_grammar.IsNames ns ts us → Cut (stmt_grammar.IsNames ns) ts us
+names_cut {us = us} p = cut_of (simple_again_laws.names_again (Before us) (before_step us) p (before_none us))
 
-pub places_cut : {ps : List Place} {ts us : Tokens} → s.IsPlaces ps ts us → Cut (s.IsPlaces ps) ts us
-places_cut {us = us} p = cut_of (b.places_again (Before us) (before_step us) p (before_none us))
+pub places_cut : {ps : List Place} {ts us : Tokens} → stmt_grammar.IsPlaces ps ts us → Cut (stmt_grammar.IsPlaces ps) ts us
+places_cut {us = us} p = cut_of (simple_again_laws.places_again (Before us) (before_step us) p (before_none us))
 
-pub assigned_cut : {ps : List Place} {ts us : Tokens} → s.Assigned ps ts us → Cut (s.Assigned ps) ts us
-assigned_cut {us = us} p = cut_of (b.assigned_again (Before us) (before_step us) p (before_none us))
+pub assigned_cut : {ps : List Place} {ts us : Tokens} → stmt_grammar.Assigned ps ts us → Cut (stmt_grammar.Assigned ps) ts us
+assigned_cut {us = us} p = cut_of (simple_again_laws.assigned_again (Before us) (before_step us) p (before_none us))
 
-pub unpacked_cut : {p : Target} {line : Line} {ts us : Tokens} → s.IsUnpacked p line ts us → Cut (s.IsUnpacked p line) ts us
-unpacked_cut {us = us} p = cut_of (b.unpacked_again (Before us) (before_step us) p (before_none us))
+pub unpacked_cut : {p : Target} {line : Line} {ts us : Tokens} → stmt_grammar.IsUnpacked p line ts us → Cut (stmt_grammar.IsUnpacked p line) ts us
+unpacked_cut {us = us} p = cut_of (simple_again_laws.unpacked_again (Before us) (before_step us) p (before_none us))
 
-pub simple_cut : {c : Context} {x : Stmt} {ts us : Tokens} → s.IsSimple c x ts us → (first ts ≡ kind.Pass → ⊥) → Cut (s.IsSimple c x) ts us
-simple_cut {us = us} p no_pass = cut_of (b.simple_again (Before us) (before_step us) ⊥ (λ no. absurd no) p no_pass (before_none us))
+pub simple_cut : {c : Context} {x : Stmt} {ts us : Tokens} → stmt_grammar.IsSimple c x ts us → (first ts ≡ kind.Pass → ⊥) → Cut (stmt_grammar.IsSimple c x) ts us
+simple_cut {us = us} p no_pass = cut_of (simple_again_laws.simple_again (Before us) (before_step us) ⊥ (λ no. absurd no) p no_pass (before_none us))

@@ -7,8 +7,8 @@ use Rattle.rp_token.specs.declared.token.TokenKind.{TokenKind}
 use Rattle.rp_token.specs.declared.token.TokenKind.TheVariants as kind
 use Rattle.rp_tree.specs.Expressions.{Expr}
 use Rattle.rp_grammar.specs.Kinds.{Tokens, first, binary_of, looseness, unary_of, order_of}
-use Rattle.rp_grammar.specs.Expressions as g
-use Rattle.rp_grammar.specs.Front as f
+use Rattle.rp_grammar.specs.Expressions as grammar
+use Rattle.rp_grammar.specs.Front as token_tests
 use Rattle.rp_grammar.specs.Front.{starts}
 
 -- Which level a token goes on with: what is spelled at level n may stand before a token whose number is above n.
@@ -61,7 +61,7 @@ loose None = 0
 loose (Some o) = looseness o
 
 -- what goes on with no expression may stand behind any
-pub ends_by : (k : TokenKind) → f.goes_on k ≡ false → 12 < binds k
+pub ends_by : (k : TokenKind) → token_tests.goes_on k ≡ false → 12 < binds k
 ends_by (kind.Text s) h = absurd cc
 ends_by kind.Dot h = absurd cc
 ends_by kind.LeftParen h = absurd cc
@@ -116,21 +116,21 @@ order_binds _ o h = absurd cc
 
 -- ---- what does not follow
 
-pub no_text : (k : TokenKind) → 0 < binds k → f.is_text k ≡ false
+pub no_text : (k : TokenKind) → 0 < binds k → token_tests.is_text k ≡ false
 no_text (kind.Text s) h = absurd (omega arith)
 no_text _ h = refl
 
-pub no_trailer : (k : TokenKind) → 1 < binds k → f.starts_trailer k ≡ false
+pub no_trailer : (k : TokenKind) → 1 < binds k → token_tests.starts_trailer k ≡ false
 no_trailer kind.Dot h = absurd (omega arith)
 no_trailer kind.LeftParen h = absurd (omega arith)
 no_trailer kind.LeftBracket h = absurd (omega arith)
 no_trailer _ h = refl
 
-pub no_power : (k : TokenKind) → 2 < binds k → f.is_double_star k ≡ false
+pub no_power : (k : TokenKind) → 2 < binds k → token_tests.is_double_star k ≡ false
 no_power kind.DoubleStar h = absurd (omega arith)
 no_power _ h = refl
 
-pub no_test : (k l : TokenKind) → 9 < binds k → f.starts_test k l ≡ false
+pub no_test : (k l : TokenKind) → 9 < binds k → token_tests.starts_test k l ≡ false
 no_test kind.Less l h = absurd (omega arith)
 no_test kind.LessEqual l h = absurd (omega arith)
 no_test kind.Greater l h = absurd (omega arith)
@@ -142,23 +142,23 @@ no_test kind.Is l h = absurd (omega arith)
 no_test kind.Not l h = absurd (omega arith)
 no_test _ l h = refl
 
-pub no_and : (k : TokenKind) → 10 < binds k → f.is_and k ≡ false
+pub no_and : (k : TokenKind) → 10 < binds k → token_tests.is_and k ≡ false
 no_and kind.And h = absurd (omega arith)
 no_and _ h = refl
 
-pub no_or : (k : TokenKind) → 11 < binds k → f.is_or k ≡ false
+pub no_or : (k : TokenKind) → 11 < binds k → token_tests.is_or k ≡ false
 no_or kind.Or h = absurd (omega arith)
 no_or _ h = refl
 
-pub no_if : (k : TokenKind) → 12 < binds k → f.is_if k ≡ false
+pub no_if : (k : TokenKind) → 12 < binds k → token_tests.is_if k ≡ false
 no_if kind.If h = absurd (omega arith)
 no_if _ h = refl
 
-pub no_for : (k : TokenKind) → 16 < binds k → f.is_for k ≡ false
+pub no_for : (k : TokenKind) → 16 < binds k → token_tests.is_for k ≡ false
 no_for kind.For h = absurd (omega arith)
 no_for _ h = refl
 
-pub no_comma : (k : TokenKind) → 20 < binds k → f.is_comma k ≡ false
+pub no_comma : (k : TokenKind) → 20 < binds k → token_tests.is_comma k ≡ false
 no_comma kind.Comma h = absurd (omega arith)
 no_comma _ h = refl
 
@@ -184,11 +184,11 @@ starts_none _ h = refl
 
 -- a token that begins an expression closes none, and is no colon
 pub record Begins (k : TokenKind) : Type 0 where
-  pub no_paren : f.is_right_paren k ≡ false
-  pub no_bracket : f.is_right_bracket k ≡ false
-  pub no_brace : f.is_right_brace k ≡ false
-  pub no_colon : f.is_colon k ≡ false
-  pub arg : f.starts_arg k ≡ true
+  pub no_paren : token_tests.is_right_paren k ≡ false
+  pub no_bracket : token_tests.is_right_bracket k ≡ false
+  pub no_brace : token_tests.is_right_brace k ≡ false
+  pub no_colon : token_tests.is_colon k ≡ false
+  pub arg : token_tests.starts_arg k ≡ true
 
 pub begins_by : (k : TokenKind) → starts k ≡ true → Begins k
 begins_by (kind.Name n) h = record { no_paren = refl; no_bracket = refl; no_brace = refl; no_colon = refl; arg = refl }
@@ -211,44 +211,44 @@ begins_by _ h = absurd cc
 pub record Plainly (k : TokenKind) : Type 0 where
   pub begins : starts k ≡ true
   pub no_mark : unary_of k ≡ None
-  pub no_not : f.is_not k ≡ false
-  pub no_lambda : f.is_lambda k ≡ false
+  pub no_not : token_tests.is_not k ≡ false
+  pub no_lambda : token_tests.is_lambda k ≡ false
 
 plainly : (k : TokenKind) (ts : Tokens) → first ts ≡ k → Plainly k → Plainly (first ts)
 plainly k ts h p = subst Plainly (sym h) p
 
-text_begins : {s : List ℕ} {ts us : Tokens} → g.Texts s ts us → Plainly (first ts)
-text_begins {ts = ts} (g.one_text {s = s} h) = plainly (kind.Text s) ts h (record { begins = refl; no_mark = refl; no_not = refl; no_lambda = refl })
-text_begins {ts = ts} (g.more_texts {s = s} h p) = plainly (kind.Text s) ts h (record { begins = refl; no_mark = refl; no_not = refl; no_lambda = refl })
+text_begins : {s : List ℕ} {ts us : Tokens} → grammar.Texts s ts us → Plainly (first ts)
+text_begins {ts = ts} (grammar.one_text {s = s} h) = plainly (kind.Text s) ts h (record { begins = refl; no_mark = refl; no_not = refl; no_lambda = refl })
+text_begins {ts = ts} (grammar.more_texts {s = s} h p) = plainly (kind.Text s) ts h (record { begins = refl; no_mark = refl; no_not = refl; no_lambda = refl })
 
-pub atom_begins : {e : Expr} {ts us : Tokens} → g.Atom e ts us → Plainly (first ts)
-atom_begins {ts = ts} (g.name {n = n} h) = plainly (kind.Name n) ts h (record { begins = refl; no_mark = refl; no_not = refl; no_lambda = refl })
-atom_begins {ts = ts} (g.int {n = n} h) = plainly (kind.Int n) ts h (record { begins = refl; no_mark = refl; no_not = refl; no_lambda = refl })
-atom_begins (g.text p) = text_begins p
-atom_begins {ts = ts} (g.nil h) = plainly kind.None ts h (record { begins = refl; no_mark = refl; no_not = refl; no_lambda = refl })
-atom_begins {ts = ts} (g.truth h) = plainly kind.True ts h (record { begins = refl; no_mark = refl; no_not = refl; no_lambda = refl })
-atom_begins {ts = ts} (g.falsity h) = plainly kind.False ts h (record { begins = refl; no_mark = refl; no_not = refl; no_lambda = refl })
-atom_begins {ts = ts} (g.paren h p i) = plainly kind.LeftParen ts h (record { begins = refl; no_mark = refl; no_not = refl; no_lambda = refl })
-atom_begins {ts = ts} (g.unit h i) = plainly kind.LeftParen ts h (record { begins = refl; no_mark = refl; no_not = refl; no_lambda = refl })
-atom_begins {ts = ts} (g.tuple h p i q j) = plainly kind.LeftParen ts h (record { begins = refl; no_mark = refl; no_not = refl; no_lambda = refl })
-atom_begins {ts = ts} (g.list h q i) = plainly kind.LeftBracket ts h (record { begins = refl; no_mark = refl; no_not = refl; no_lambda = refl })
-atom_begins {ts = ts} (g.list_of h p c cs i) = plainly kind.LeftBracket ts h (record { begins = refl; no_mark = refl; no_not = refl; no_lambda = refl })
-atom_begins {ts = ts} (g.dict h q i) = plainly kind.LeftBrace ts h (record { begins = refl; no_mark = refl; no_not = refl; no_lambda = refl })
-atom_begins {ts = ts} (g.dict_of h p i q c cs j) = plainly kind.LeftBrace ts h (record { begins = refl; no_mark = refl; no_not = refl; no_lambda = refl })
+pub atom_begins : {e : Expr} {ts us : Tokens} → grammar.Atom e ts us → Plainly (first ts)
+atom_begins {ts = ts} (grammar.name {n = n} h) = plainly (kind.Name n) ts h (record { begins = refl; no_mark = refl; no_not = refl; no_lambda = refl })
+atom_begins {ts = ts} (grammar.int {n = n} h) = plainly (kind.Int n) ts h (record { begins = refl; no_mark = refl; no_not = refl; no_lambda = refl })
+atom_begins (grammar.text p) = text_begins p
+atom_begins {ts = ts} (grammar.nil h) = plainly kind.None ts h (record { begins = refl; no_mark = refl; no_not = refl; no_lambda = refl })
+atom_begins {ts = ts} (grammar.truth h) = plainly kind.True ts h (record { begins = refl; no_mark = refl; no_not = refl; no_lambda = refl })
+atom_begins {ts = ts} (grammar.falsity h) = plainly kind.False ts h (record { begins = refl; no_mark = refl; no_not = refl; no_lambda = refl })
+atom_begins {ts = ts} (grammar.paren h p i) = plainly kind.LeftParen ts h (record { begins = refl; no_mark = refl; no_not = refl; no_lambda = refl })
+atom_begins {ts = ts} (grammar.unit h i) = plainly kind.LeftParen ts h (record { begins = refl; no_mark = refl; no_not = refl; no_lambda = refl })
+atom_begins {ts = ts} (grammar.tuple h p i q j) = plainly kind.LeftParen ts h (record { begins = refl; no_mark = refl; no_not = refl; no_lambda = refl })
+atom_begins {ts = ts} (grammar.list h q i) = plainly kind.LeftBracket ts h (record { begins = refl; no_mark = refl; no_not = refl; no_lambda = refl })
+atom_begins {ts = ts} (grammar.list_of h p c cs i) = plainly kind.LeftBracket ts h (record { begins = refl; no_mark = refl; no_not = refl; no_lambda = refl })
+atom_begins {ts = ts} (grammar.dict h q i) = plainly kind.LeftBrace ts h (record { begins = refl; no_mark = refl; no_not = refl; no_lambda = refl })
+atom_begins {ts = ts} (grammar.dict_of h p i q c cs j) = plainly kind.LeftBrace ts h (record { begins = refl; no_mark = refl; no_not = refl; no_lambda = refl })
 
-pub primary_begins : {e : Expr} {ts us : Tokens} → g.Primary e ts us → Plainly (first ts)
-primary_begins (g.bare p) = atom_begins p
-primary_begins (g.trailed p q r) = atom_begins p
+pub primary_begins : {e : Expr} {ts us : Tokens} → grammar.Primary e ts us → Plainly (first ts)
+primary_begins (grammar.bare p) = atom_begins p
+primary_begins (grammar.trailed p q r) = atom_begins p
 
-pub power_begins : {e : Expr} {ts us : Tokens} → g.Power e ts us → Plainly (first ts)
-power_begins (g.base p) = primary_begins p
-power_begins (g.raised p h q) = primary_begins p
+pub power_begins : {e : Expr} {ts us : Tokens} → grammar.Power e ts us → Plainly (first ts)
+power_begins (grammar.base p) = primary_begins p
+power_begins (grammar.raised p h q) = primary_begins p
 
 -- an operand of a binary operator begins with no `not` and no `lambda`
 pub record Operandly (k : TokenKind) : Type 0 where
   pub begins : starts k ≡ true
-  pub no_not : f.is_not k ≡ false
-  pub no_lambda : f.is_lambda k ≡ false
+  pub no_not : token_tests.is_not k ≡ false
+  pub no_lambda : token_tests.is_lambda k ≡ false
 
 marked : (k : TokenKind) (o : UnOp) → unary_of k ≡ Some o → Operandly k
 marked kind.Minus o h = record { begins = refl; no_not = refl; no_lambda = refl }
@@ -256,39 +256,39 @@ marked kind.Plus o h = record { begins = refl; no_not = refl; no_lambda = refl }
 marked kind.Tilde o h = record { begins = refl; no_not = refl; no_lambda = refl }
 marked _ o h = absurd cc
 
-unary_begins : {e : Expr} {ts us : Tokens} → g.Unary e ts us → Operandly (first ts)
-unary_begins (g.unsigned p) = let b = power_begins p in record { begins = b.begins; no_not = b.no_not; no_lambda = b.no_lambda }
-unary_begins {ts = ts} (g.signed {o = o} h p) = marked (first ts) o h
+unary_begins : {e : Expr} {ts us : Tokens} → grammar.Unary e ts us → Operandly (first ts)
+unary_begins (grammar.unsigned p) = let b = power_begins p in record { begins = b.begins; no_not = b.no_not; no_lambda = b.no_lambda }
+unary_begins {ts = ts} (grammar.signed {o = o} h p) = marked (first ts) o h
 
-chain_begins : {k : ℕ} {e : Expr} {ts us : Tokens} → g.Chain k e ts us → Operandly (first ts)
-chain_begins (g.operand p) = unary_begins p
-chain_begins (g.tighter p) = chain_begins p
-chain_begins (g.chained p h i q r) = chain_begins p
+chain_begins : {k : ℕ} {e : Expr} {ts us : Tokens} → grammar.Chain k e ts us → Operandly (first ts)
+chain_begins (grammar.operand p) = unary_begins p
+chain_begins (grammar.tighter p) = chain_begins p
+chain_begins (grammar.chained p h i q r) = chain_begins p
 
-pub compare_begins : {e : Expr} {ts us : Tokens} → g.Compare e ts us → Operandly (first ts)
-compare_begins (g.single p) = chain_begins p
-compare_begins (g.compared p q r) = chain_begins p
+pub compare_begins : {e : Expr} {ts us : Tokens} → grammar.Compare e ts us → Operandly (first ts)
+compare_begins (grammar.single p) = chain_begins p
+compare_begins (grammar.compared p q r) = chain_begins p
 
 -- what `or` joins begins with no `lambda`
 abbrev Orly : TokenKind → Type 0
-Orly k = (starts k ≡ true) × (f.is_lambda k ≡ false)
+Orly k = (starts k ≡ true) × (token_tests.is_lambda k ≡ false)
 
-not_begins : {e : Expr} {ts us : Tokens} → g.Not e ts us → Orly (first ts)
-not_begins (g.asserted p) = let b = compare_begins p in (b.begins, b.no_lambda)
-not_begins (g.negated h p) = (ap starts h, ap f.is_lambda h)
+not_begins : {e : Expr} {ts us : Tokens} → grammar.Not e ts us → Orly (first ts)
+not_begins (grammar.asserted p) = let b = compare_begins p in (b.begins, b.no_lambda)
+not_begins (grammar.negated h p) = (ap starts h, ap token_tests.is_lambda h)
 
-and_begins : {e : Expr} {ts us : Tokens} → g.And e ts us → Orly (first ts)
-and_begins (g.and_single p) = not_begins p
-and_begins (g.and_several p h q r) = not_begins p
+and_begins : {e : Expr} {ts us : Tokens} → grammar.And e ts us → Orly (first ts)
+and_begins (grammar.and_single p) = not_begins p
+and_begins (grammar.and_several p h q r) = not_begins p
 
-pub or_begins : {e : Expr} {ts us : Tokens} → g.Or e ts us → (starts (first ts) ≡ true) × (f.is_lambda (first ts) ≡ false)
-or_begins (g.or_single p) = and_begins p
-or_begins (g.or_several p h q r) = and_begins p
+pub or_begins : {e : Expr} {ts us : Tokens} → grammar.Or e ts us → (starts (first ts) ≡ true) × (token_tests.is_lambda (first ts) ≡ false)
+or_begins (grammar.or_single p) = and_begins p
+or_begins (grammar.or_several p h q r) = and_begins p
 
-pub expr_starts : {e : Expr} {ts us : Tokens} → g.IsExpr e ts us → starts (first ts) ≡ true
-expr_starts (g.a_lambda h p d i q) = ap starts h
-expr_starts (g.unconditional p) = (or_begins p).0
-expr_starts (g.cond p h q i r) = (or_begins p).0
+pub expr_starts : {e : Expr} {ts us : Tokens} → grammar.IsExpr e ts us → starts (first ts) ≡ true
+expr_starts (grammar.a_lambda h p d i q) = ap starts h
+expr_starts (grammar.unconditional p) = (or_begins p).0
+expr_starts (grammar.cond p h q i r) = (or_begins p).0
 
-pub expr_begins : {e : Expr} {ts us : Tokens} → g.IsExpr e ts us → Begins (first ts)
+pub expr_begins : {e : Expr} {ts us : Tokens} → grammar.IsExpr e ts us → Begins (first ts)
 expr_begins {ts = ts} p = begins_by (first ts) (expr_starts p)

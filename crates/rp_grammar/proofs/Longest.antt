@@ -4,7 +4,7 @@ use Rattle.rp_token.specs.declared.token.TokenKind.TheVariants as kind
 use Rattle.rp_tree.specs.Statements.{Stmts}
 use Rattle.rp_grammar.specs.Brackets.{IsShallow}
 use Rattle.rp_grammar.specs.Kinds.{Tokens}
-use Rattle.rp_grammar.specs.ExpressionReading as r
+use Rattle.rp_grammar.specs.ExpressionReading as reading
 use Rattle.rp_grammar.specs.StatementReading.{Found, program_at}
 use Rattle.rp_grammar.specs.Program.{token, ending, IsGood, IsLongestGood}
 use Rattle.rp_grammar.proofs.Founds.{ok_is}
@@ -43,26 +43,26 @@ past_by w closes _ _ (inside x b bs) y e alone =
     absurd (omega (arith, ap length rest, alone, length-append bs w.ending, ap length closes.parts))
 past_by w closes (Ok x) p (beyond over past) y e alone = past
 
-pub good_past : (d h n : ℕ) (front others : Tokens) (y : Stmts × Tokens) → program_at (r.readers d) h (front ++ ending n) ≡ Ok y → length y.1 ≡ 1 → Past others (program_at (r.readers d) h (front ++ others))
+pub good_past : (d h n : ℕ) (front others : Tokens) (y : Stmts × Tokens) → program_at (reading.readers d) h (front ++ ending n) ≡ Ok y → length y.1 ≡ 1 → Past others (program_at (reading.readers d) h (front ++ others))
 unfolding rests
 good_past d h n [] others y e alone = (trails_program (rests n others) (is_ending n) d h).past others
 good_past d h n (t ∷ front) others y e alone =
-    past_by (rests n others) (is_ending n) (program_at (r.readers d) h (t ∷ (front ++ ending n))) (program_at (r.readers d) h (t ∷ (front ++ others))) ((trails_program (rests n others) (is_ending n) d h).moves t front) y e alone
+    past_by (rests n others) (is_ending n) (program_at (reading.readers d) h (t ∷ (front ++ ending n))) (program_at (reading.readers d) h (t ∷ (front ++ others))) ((trails_program (rests n others) (is_ending n) d h).moves t front) y e alone
 
 -- a program without a tree has a place
-pub place_told : (d h : ℕ) (ts : Tokens) → program_at (r.readers d) h ts ≡ Err None → ⊥
+pub place_told : (d h : ℕ) (ts : Tokens) → program_at (reading.readers d) h ts ≡ Err None → ⊥
 unfolding rests
 place_told d h ts e = subst (λ (o : Found Stmts). Past ts o) e ((trails_program (rests 0 ts) (is_ending 0) d h).past ts)
 
-past_good : (most d : ℕ) → most + 200 ≤ d → (ts rest more others : Tokens) → IsShallow most 0 ts → program_at (r.readers d) 199 ts ≡ Err (Some rest) → ts ≡ more ++ others → IsGood more → length rest ≤ length others
+past_good : (most d : ℕ) → most + 200 ≤ d → (ts rest more others : Tokens) → IsShallow most 0 ts → program_at (reading.readers d) 199 ts ≡ Err (Some rest) → ts ≡ more ++ others → IsGood more → length rest ≤ length others
 past_good most d enough ts rest more others shallow e parts good =
     let behind = subst (λ (z : Tokens). IsShallow most 0 z) parts shallow in
     let read = program_complete most d enough good.spelled (front_ending most good.dedents more others behind) in
     let past = good_past d 199 good.dedents more others (good.tree, good.spelled.rest) read good.spelled.alone in
-    subst (λ (o : Found Stmts). Past others o) (subst (λ (z : Tokens). program_at (r.readers d) 199 z ≡ Err (Some rest)) parts e) past
+    subst (λ (o : Found Stmts). Past others o) (subst (λ (z : Tokens). program_at (reading.readers d) 199 z ≡ Err (Some rest)) parts e) past
 
 -- where no tree is read, a place is told, and it is that behind the longest good front
-pub syntax_place : (most d : ℕ) → most + 200 ≤ d → (ts : Tokens) (q : Option Tokens) → IsShallow most 0 ts → program_at (r.readers d) 199 ts ≡ Err q → (front : Tokens) × (rest : Tokens) × (q ≡ Some rest) × IsLongestGood front rest ts
+pub syntax_place : (most d : ℕ) → most + 200 ≤ d → (ts : Tokens) (q : Option Tokens) → IsShallow most 0 ts → program_at (reading.readers d) 199 ts ≡ Err q → (front : Tokens) × (rest : Tokens) × (q ≡ Some rest) × IsLongestGood front rest ts
 syntax_place most d enough ts None shallow e = absurd (place_told d 199 ts e)
 syntax_place most d enough ts (Some rest) shallow e =
     let (front, parts, good) = place_good d ts rest e in (

@@ -4,11 +4,11 @@ use Rattle.std.proofs.lemmas.List.{map_push}
 use Rattle.rp_token.specs.declared.token.TokenKind.{TokenKind}
 use Rattle.rp_base.specs.declared.operator.BinOp.{BinOp}
 use Rattle.rp_tree.specs.declared.parts.Test.{Test}
-use Rattle.rp_tree.specs.Expressions as t
-use Rattle.rp_tree.specs.ExpressionViews as v
+use Rattle.rp_tree.specs.Expressions as tree
+use Rattle.rp_tree.specs.ExpressionViews as views
 use Rattle.rp_grammar.specs.Kinds.{Tokens, first, skip}
 use Rattle.rp_grammar.specs.Front.{is_comma}
-use Rattle.rp_grammar.specs.ExpressionReading as r
+use Rattle.rp_grammar.specs.ExpressionReading as reading
 use Rattle.rp_grammar.specs.ExpressionReading.{Read, ◌>>=◌, many, listed, all_many, all_listed, before}
 use Rattle.rp_grammar.proofs.ExpressionTakes.{skip_within}
 
@@ -22,37 +22,37 @@ front_more cons [] x l = refl
 front_more cons (y ∷ items) x l = ap (cons y) (front_more cons items x l)
 
 -- the lists of the trees, made in this way
-pub front_exprs : (es : List t.Expr) → front t.expr es t.no_exprs ≡ v.exprs_of es
+pub front_exprs : (es : List tree.Expr) → front tree.expr es tree.no_exprs ≡ views.exprs_of es
 front_exprs [] = refl
-front_exprs (e ∷ es) = ap (t.expr e) (front_exprs es)
+front_exprs (e ∷ es) = ap (tree.expr e) (front_exprs es)
 
-pub front_targets : (ps : List t.Target) → front t.target ps t.no_targets ≡ v.targets_of ps
+pub front_targets : (ps : List tree.Target) → front tree.target ps tree.no_targets ≡ views.targets_of ps
 front_targets [] = refl
-front_targets (p ∷ ps) = ap (t.target p) (front_targets ps)
+front_targets (p ∷ ps) = ap (tree.target p) (front_targets ps)
 
-pub front_pairs : (ps : List (t.Expr × t.Expr)) → front r.with_pair ps t.no_pairs ≡ v.pairs_of ps
+pub front_pairs : (ps : List (tree.Expr × tree.Expr)) → front reading.with_pair ps tree.no_pairs ≡ views.pairs_of ps
 front_pairs [] = refl
-front_pairs (p ∷ ps) = ap (t.pair p.0 p.1) (front_pairs ps)
+front_pairs (p ∷ ps) = ap (tree.pair p.0 p.1) (front_pairs ps)
 
-pub front_clauses : (cs : List t.Clause) → front t.clause cs t.no_clauses ≡ v.clauses_of cs
+pub front_clauses : (cs : List tree.Clause) → front tree.clause cs tree.no_clauses ≡ views.clauses_of cs
 front_clauses [] = refl
-front_clauses (c ∷ cs) = ap (t.clause c) (front_clauses cs)
+front_clauses (c ∷ cs) = ap (tree.clause c) (front_clauses cs)
 
-pub front_trailers : (xs : List t.Trailer) → front t.trailer xs t.no_trailers ≡ v.trailers_of xs
+pub front_trailers : (xs : List tree.Trailer) → front tree.trailer xs tree.no_trailers ≡ views.trailers_of xs
 front_trailers [] = refl
-front_trailers (x ∷ xs) = ap (t.trailer x) (front_trailers xs)
+front_trailers (x ∷ xs) = ap (tree.trailer x) (front_trailers xs)
 
-pub front_args : (xs : List t.Arg) → front t.arg xs t.no_args ≡ v.args_of xs
+pub front_args : (xs : List tree.Arg) → front tree.arg xs tree.no_args ≡ views.args_of xs
 front_args [] = refl
-front_args (x ∷ xs) = ap (t.arg x) (front_args xs)
+front_args (x ∷ xs) = ap (tree.arg x) (front_args xs)
 
-pub front_ops : (os : List (BinOp × t.Expr)) → front r.with_op os t.no_ops ≡ v.ops_of os
+pub front_ops : (os : List (BinOp × tree.Expr)) → front reading.with_op os tree.no_ops ≡ views.ops_of os
 front_ops [] = refl
-front_ops (o ∷ os) = ap (t.op o.0 o.1) (front_ops os)
+front_ops (o ∷ os) = ap (tree.op o.0 o.1) (front_ops os)
 
-pub front_tests : (xs : List (Test × t.Expr)) → front r.with_test xs t.no_tests ≡ v.tests_of xs
+pub front_tests : (xs : List (Test × tree.Expr)) → front reading.with_test xs tree.no_tests ≡ views.tests_of xs
 front_tests [] = refl
-front_tests (x ∷ xs) = ap (t.test x.0 x.1) (front_tests xs)
+front_tests (x ∷ xs) = ap (tree.test x.0 x.1) (front_tests xs)
 
 -- what was read
 abbrev pub answered : {L : Type 0} → L → Tokens → Read L

@@ -7,11 +7,11 @@ use Rattle.rp_tree.specs.Expressions.{Named, Expr, Exprs, Place, Target}
 use Rattle.rp_tree.specs.Statements.{Stmt, StmtForm, Stmts, MaybeStmts, Branches, Excepts}
 use Rattle.rp_grammar.specs.Brackets.{open_behind, IsShallow}
 use Rattle.rp_grammar.specs.Kinds.{Tokens, skip}
-use Rattle.rp_grammar.specs.Expressions as g
+use Rattle.rp_grammar.specs.Expressions as grammar
 use Rattle.rp_grammar.proofs.Depth.{expr_stays, target_stays, params_stays}
 use Rattle.rp_token.specs.Laws.{IsWithin, open_behind as token_open}
 use Rattle.rp_grammar.specs.Program.{token, ending}
-use Rattle.rp_grammar.specs.Statements as i
+use Rattle.rp_grammar.specs.Statements as stmt_grammar
 use Rattle.rp_grammar.specs.Statements.{Context}
 
 open_mono : (k : TokenKind) (m n : ℕ) → m ≤ n → open_behind k m ≤ open_behind k n
@@ -95,103 +95,103 @@ module _ (most : ℕ) where
   down [] w = w
   down (t ∷ ts) w = shallow_below most 0 (open_behind t.kind 0) ts (omega arith) w.1
 
-  listed_low : {es : Exprs} {ts us : Tokens} → g.Listed es ts us → Low ts → Low us
-  listed_low g.nothing w = w
-  listed_low (g.last p) w = expr_stays most p 0 w
-  listed_low (g.more {us = us} p h q) w = listed_low q (down us (expr_stays most p 0 w))
+  listed_low : {es : Exprs} {ts us : Tokens} → grammar.Listed es ts us → Low ts → Low us
+  listed_low grammar.nothing w = w
+  listed_low (grammar.last p) w = expr_stays most p 0 w
+  listed_low (grammar.more {us = us} p h q) w = listed_low q (down us (expr_stays most p 0 w))
 
-  pub exprs_low : {e : Expr} {ts us : Tokens} → g.IsExprs e ts us → IsShallow most 0 ts → IsShallow most 0 us
-  exprs_low (g.an_expr p) w = expr_stays most p 0 w
-  exprs_low (g.several {us = us} p h q) w = listed_low q (down us (expr_stays most p 0 w))
+  pub exprs_low : {e : Expr} {ts us : Tokens} → grammar.IsExprs e ts us → IsShallow most 0 ts → IsShallow most 0 us
+  exprs_low (grammar.an_expr p) w = expr_stays most p 0 w
+  exprs_low (grammar.several {us = us} p h q) w = listed_low q (down us (expr_stays most p 0 w))
 
-  pub expr_low : {e : Expr} {ts us : Tokens} → g.IsExpr e ts us → IsShallow most 0 ts → IsShallow most 0 us
+  pub expr_low : {e : Expr} {ts us : Tokens} → grammar.IsExpr e ts us → IsShallow most 0 ts → IsShallow most 0 us
   expr_low p w = expr_stays most p 0 w
 
-  pub place_low : {p : Place} {ts us : Tokens} → g.IsPlace p ts us → IsShallow most 0 ts → IsShallow most 0 us
-  place_low p w = target_stays most (g.target_part (g.part_place p)) 0 w
+  pub place_low : {p : Place} {ts us : Tokens} → grammar.IsPlace p ts us → IsShallow most 0 ts → IsShallow most 0 us
+  place_low p w = target_stays most (grammar.target_part (grammar.part_place p)) 0 w
 
-  names_low : {ns : List Named} {ts us : Tokens} → i.IsNames ns ts us → Low ts → Low us
-  names_low {ts = ts} (i.last_name h) w = down ts w
-  names_low {ts = ts} (i.more_names h comma q) w = names_low q (down (skip ts) (down ts w))
+  names_low : {ns : List Named} {ts us : Tokens} → stmt_grammar.IsNames ns ts us → Low ts → Low us
+  names_low {ts = ts} (stmt_grammar.last_name h) w = down ts w
+  names_low {ts = ts} (stmt_grammar.more_names h comma q) w = names_low q (down (skip ts) (down ts w))
 
-  places_low : {ps : List Place} {ts us : Tokens} → i.IsPlaces ps ts us → Low ts → Low us
-  places_low (i.last_place p) w = place_low p w
-  places_low (i.last_comma {us = us} p comma) w = down us (place_low p w)
-  places_low (i.more_places {us = us} p comma q) w = places_low q (down us (place_low p w))
+  places_low : {ps : List Place} {ts us : Tokens} → stmt_grammar.IsPlaces ps ts us → Low ts → Low us
+  places_low (stmt_grammar.last_place p) w = place_low p w
+  places_low (stmt_grammar.last_comma {us = us} p comma) w = down us (place_low p w)
+  places_low (stmt_grammar.more_places {us = us} p comma q) w = places_low q (down us (place_low p w))
 
-  pub assigned_low : {ps : List Place} {ts us : Tokens} → i.Assigned ps ts us → IsShallow most 0 ts → IsShallow most 0 us
-  assigned_low (i.last_assigned {us = us} p equal) w = down us (place_low p w)
-  assigned_low (i.more_assigned {us = us} p equal q) w = assigned_low q (down us (place_low p w))
+  pub assigned_low : {ps : List Place} {ts us : Tokens} → stmt_grammar.Assigned ps ts us → IsShallow most 0 ts → IsShallow most 0 us
+  assigned_low (stmt_grammar.last_assigned {us = us} p equal) w = down us (place_low p w)
+  assigned_low (stmt_grammar.more_assigned {us = us} p equal q) w = assigned_low q (down us (place_low p w))
 
-  pub unpacked_low : {p : Target} {line : Line} {ts us : Tokens} → i.IsUnpacked p line ts us → IsShallow most 0 ts → IsShallow most 0 us
-  unpacked_low (i.a_group p) w = target_stays most (g.target_part (g.part_group p)) 0 w
-  unpacked_low (i.some_parts p) w = target_stays most (g.target_parts p) 0 w
+  pub unpacked_low : {p : Target} {line : Line} {ts us : Tokens} → stmt_grammar.IsUnpacked p line ts us → IsShallow most 0 ts → IsShallow most 0 us
+  unpacked_low (stmt_grammar.a_group p) w = target_stays most (grammar.target_part (grammar.part_group p)) 0 w
+  unpacked_low (stmt_grammar.some_parts p) w = target_stays most (grammar.target_parts p) 0 w
 
-  pub simple_low : {c : Context} {x : Stmt} {ts us : Tokens} → i.IsSimple c x ts us → IsShallow most 0 ts → IsShallow most 0 us
-  simple_low {ts = ts} (i.is_pass h) w = down ts w
-  simple_low {ts = ts} (i.is_break inside h) w = down ts w
-  simple_low {ts = ts} (i.is_continue inside h) w = down ts w
-  simple_low {ts = ts} (i.is_return inside h) w = down ts w
-  simple_low {ts = ts} (i.returns_value inside h p) w = exprs_low p (down ts w)
-  simple_low {ts = ts} (i.raises_again inside h) w = down ts w
-  simple_low {ts = ts} (i.is_raise h p) w = expr_low p (down ts w)
-  simple_low {ts = ts} (i.is_assert h p) w = expr_low p (down ts w)
-  simple_low {ts = ts} (i.asserts_with_text {us = us} h p comma q) w = expr_low q (down us (expr_low p (down ts w)))
-  simple_low {ts = ts} (i.is_global outside free h p) w = names_low p (down ts w)
-  simple_low {ts = ts} (i.is_del h p) w = places_low p (down ts w)
-  simple_low (i.is_value p) w = exprs_low p w
-  simple_low (i.is_augmented {us = us} p mark q) w = exprs_low q (down us (place_low p w))
-  simple_low (i.is_assignment p q) w = exprs_low q (assigned_low p w)
-  simple_low (i.is_unpacking {us = us} p equal q) w = exprs_low q (down us (unpacked_low p w))
+  pub simple_low : {c : Context} {x : Stmt} {ts us : Tokens} → stmt_grammar.IsSimple c x ts us → IsShallow most 0 ts → IsShallow most 0 us
+  simple_low {ts = ts} (stmt_grammar.is_pass h) w = down ts w
+  simple_low {ts = ts} (stmt_grammar.is_break inside h) w = down ts w
+  simple_low {ts = ts} (stmt_grammar.is_continue inside h) w = down ts w
+  simple_low {ts = ts} (stmt_grammar.is_return inside h) w = down ts w
+  simple_low {ts = ts} (stmt_grammar.returns_value inside h p) w = exprs_low p (down ts w)
+  simple_low {ts = ts} (stmt_grammar.raises_again inside h) w = down ts w
+  simple_low {ts = ts} (stmt_grammar.is_raise h p) w = expr_low p (down ts w)
+  simple_low {ts = ts} (stmt_grammar.is_assert h p) w = expr_low p (down ts w)
+  simple_low {ts = ts} (stmt_grammar.asserts_with_text {us = us} h p comma q) w = expr_low q (down us (expr_low p (down ts w)))
+  simple_low {ts = ts} (stmt_grammar.is_global outside free h p) w = names_low p (down ts w)
+  simple_low {ts = ts} (stmt_grammar.is_del h p) w = places_low p (down ts w)
+  simple_low (stmt_grammar.is_value p) w = exprs_low p w
+  simple_low (stmt_grammar.is_augmented {us = us} p mark q) w = exprs_low q (down us (place_low p w))
+  simple_low (stmt_grammar.is_assignment p q) w = exprs_low q (assigned_low p w)
+  simple_low (stmt_grammar.is_unpacking {us = us} p equal q) w = exprs_low q (down us (unpacked_low p w))
 
-  pub line_low : {c : Context} {xs : Stmts} {ts us : Tokens} → i.IsLine c xs ts us → IsShallow most 0 ts → IsShallow most 0 us
-  line_low (i.line_end {us = us} x h) w = down us (simple_low x w)
-  line_low (i.line_semicolon {us = us} x h newline) w = down (skip us) (down us (simple_low x w))
-  line_low (i.line_more {us = us} x h xs) w = line_low xs (down us (simple_low x w))
+  pub line_low : {c : Context} {xs : Stmts} {ts us : Tokens} → stmt_grammar.IsLine c xs ts us → IsShallow most 0 ts → IsShallow most 0 us
+  line_low (stmt_grammar.line_end {us = us} x h) w = down us (simple_low x w)
+  line_low (stmt_grammar.line_semicolon {us = us} x h newline) w = down (skip us) (down us (simple_low x w))
+  line_low (stmt_grammar.line_more {us = us} x h xs) w = line_low xs (down us (simple_low x w))
 
-  pub bases_low : {ts us : Tokens} → i.IsEmptyBases ts us → IsShallow most 0 ts → IsShallow most 0 us
-  bases_low i.no_bases w = w
-  bases_low {ts = ts} (i.empty_bases opens closes) w = down (skip ts) (down ts w)
+  pub bases_low : {ts us : Tokens} → stmt_grammar.IsEmptyBases ts us → IsShallow most 0 ts → IsShallow most 0 us
+  bases_low stmt_grammar.no_bases w = w
+  bases_low {ts = ts} (stmt_grammar.empty_bases opens closes) w = down (skip ts) (down ts w)
 
   mutual
-    pub statement_low : {c : Context} {xs : Stmts} {ts us : Tokens} → i.IsStatement c xs ts us → IsShallow most 0 ts → IsShallow most 0 us
-    statement_low (i.a_line l) w = line_low l w
-    statement_low (i.a_compound x) w = compound_low x w
+    pub statement_low : {c : Context} {xs : Stmts} {ts us : Tokens} → stmt_grammar.IsStatement c xs ts us → IsShallow most 0 ts → IsShallow most 0 us
+    statement_low (stmt_grammar.a_line l) w = line_low l w
+    statement_low (stmt_grammar.a_compound x) w = compound_low x w
 
-    pub compound_low : {c : Context} {form : StmtForm} {ts us : Tokens} → i.IsCompound c form ts us → IsShallow most 0 ts → IsShallow most 0 us
-    compound_low {ts = ts} (i.is_if h e b bs o) w = else_low o (elifs_low bs (suite_low b (expr_low e (down ts w))))
-    compound_low {ts = ts} (i.is_while h e b) w = suite_low b (expr_low e (down ts w))
-    compound_low {ts = ts} (i.is_for {us = us} h p comes e b) w = suite_low b (exprs_low e (down us (target_stays most p 0 (down ts w))))
-    compound_low {ts = ts} (i.is_try h b hs o l) w = finally_low l (else_low o (handlers_low hs (suite_low b (down ts w))))
-    compound_low {ts = ts} (i.is_try_finally h b l) w = finally_low l (suite_low b (down ts w))
-    compound_low {ts = ts} (i.is_def {us = us} h name opens ps differ closes b) w = suite_low b (down us (params_stays most ps 0 (down (skip (skip ts)) (down (skip ts) (down ts w)))))
-    compound_low {ts = ts} (i.is_class h name empty b members) w = suite_low b (bases_low empty (down (skip ts) (down ts w)))
+    pub compound_low : {c : Context} {form : StmtForm} {ts us : Tokens} → stmt_grammar.IsCompound c form ts us → IsShallow most 0 ts → IsShallow most 0 us
+    compound_low {ts = ts} (stmt_grammar.is_if h e b bs o) w = else_low o (elifs_low bs (suite_low b (expr_low e (down ts w))))
+    compound_low {ts = ts} (stmt_grammar.is_while h e b) w = suite_low b (expr_low e (down ts w))
+    compound_low {ts = ts} (stmt_grammar.is_for {us = us} h p comes e b) w = suite_low b (exprs_low e (down us (target_stays most p 0 (down ts w))))
+    compound_low {ts = ts} (stmt_grammar.is_try h b hs o l) w = finally_low l (else_low o (handlers_low hs (suite_low b (down ts w))))
+    compound_low {ts = ts} (stmt_grammar.is_try_finally h b l) w = finally_low l (suite_low b (down ts w))
+    compound_low {ts = ts} (stmt_grammar.is_def {us = us} h name opens ps differ closes b) w = suite_low b (down us (params_stays most ps 0 (down (skip (skip ts)) (down (skip ts) (down ts w)))))
+    compound_low {ts = ts} (stmt_grammar.is_class h name empty b members) w = suite_low b (bases_low empty (down (skip ts) (down ts w)))
 
-    pub elifs_low : {c : Context} {bs : Branches} {ts us : Tokens} → i.IsElifs c bs ts us → IsShallow most 0 ts → IsShallow most 0 us
-    elifs_low i.no_elif w = w
-    elifs_low {ts = ts} (i.an_elif h e b bs) w = elifs_low bs (suite_low b (expr_low e (down ts w)))
+    pub elifs_low : {c : Context} {bs : Branches} {ts us : Tokens} → stmt_grammar.IsElifs c bs ts us → IsShallow most 0 ts → IsShallow most 0 us
+    elifs_low stmt_grammar.no_elif w = w
+    elifs_low {ts = ts} (stmt_grammar.an_elif h e b bs) w = elifs_low bs (suite_low b (expr_low e (down ts w)))
 
-    pub else_low : {c : Context} {o : MaybeStmts} {ts us : Tokens} → i.IsElse c o ts us → IsShallow most 0 ts → IsShallow most 0 us
-    else_low i.no_else w = w
-    else_low {ts = ts} (i.an_else h b) w = suite_low b (down ts w)
+    pub else_low : {c : Context} {o : MaybeStmts} {ts us : Tokens} → stmt_grammar.IsElse c o ts us → IsShallow most 0 ts → IsShallow most 0 us
+    else_low stmt_grammar.no_else w = w
+    else_low {ts = ts} (stmt_grammar.an_else h b) w = suite_low b (down ts w)
 
-    pub finally_low : {c : Context} {o : MaybeStmts} {ts us : Tokens} → i.IsFinally c o ts us → IsShallow most 0 ts → IsShallow most 0 us
-    finally_low i.no_finally w = w
-    finally_low {ts = ts} (i.a_finally h b) w = suite_low b (down ts w)
+    pub finally_low : {c : Context} {o : MaybeStmts} {ts us : Tokens} → stmt_grammar.IsFinally c o ts us → IsShallow most 0 ts → IsShallow most 0 us
+    finally_low stmt_grammar.no_finally w = w
+    finally_low {ts = ts} (stmt_grammar.a_finally h b) w = suite_low b (down ts w)
 
-    pub handlers_low : {c : Context} {hs : Excepts} {ts us : Tokens} → i.IsHandlers c hs ts us → IsShallow most 0 ts → IsShallow most 0 us
-    handlers_low i.no_handler w = w
-    handlers_low {ts = ts} (i.handles_all h b) w = suite_low b (down ts w)
-    handlers_low {ts = ts} (i.handles h e b hs) w = handlers_low hs (suite_low b (expr_low e (down ts w)))
-    handlers_low {ts = ts} (i.handles_named {us = us} h e comes name b hs) w = handlers_low hs (suite_low b (down (skip us) (down us (expr_low e (down ts w)))))
+    pub handlers_low : {c : Context} {hs : Excepts} {ts us : Tokens} → stmt_grammar.IsHandlers c hs ts us → IsShallow most 0 ts → IsShallow most 0 us
+    handlers_low stmt_grammar.no_handler w = w
+    handlers_low {ts = ts} (stmt_grammar.handles_all h b) w = suite_low b (down ts w)
+    handlers_low {ts = ts} (stmt_grammar.handles h e b hs) w = handlers_low hs (suite_low b (expr_low e (down ts w)))
+    handlers_low {ts = ts} (stmt_grammar.handles_named {us = us} h e comes name b hs) w = handlers_low hs (suite_low b (down (skip us) (down us (expr_low e (down ts w)))))
 
-    pub suite_low : {c : Context} {xs : Stmts} {ts us : Tokens} → i.IsSuite c xs ts us → IsShallow most 0 ts → IsShallow most 0 us
-    suite_low {ts = ts} (i.suite h b) w = block_low b (down ts w)
+    pub suite_low : {c : Context} {xs : Stmts} {ts us : Tokens} → stmt_grammar.IsSuite c xs ts us → IsShallow most 0 ts → IsShallow most 0 us
+    suite_low {ts = ts} (stmt_grammar.suite h b) w = block_low b (down ts w)
 
-    pub block_low : {c : Context} {xs : Stmts} {ts us : Tokens} → i.IsBlock c xs ts us → IsShallow most 0 ts → IsShallow most 0 us
-    block_low (i.one_line l) w = line_low l w
-    block_low {ts = ts} (i.indented {vs = vs} newline indent x xs dedent) w = down vs (statements_low xs (statement_low x (down (skip ts) (down ts w))))
+    pub block_low : {c : Context} {xs : Stmts} {ts us : Tokens} → stmt_grammar.IsBlock c xs ts us → IsShallow most 0 ts → IsShallow most 0 us
+    block_low (stmt_grammar.one_line l) w = line_low l w
+    block_low {ts = ts} (stmt_grammar.indented {vs = vs} newline indent x xs dedent) w = down vs (statements_low xs (statement_low x (down (skip ts) (down ts w))))
 
-    pub statements_low : {c : Context} {xs : Stmts} {ts us : Tokens} → i.IsStatements c xs ts us → IsShallow most 0 ts → IsShallow most 0 us
-    statements_low i.no_statement w = w
-    statements_low (i.more_statements x xs) w = statements_low xs (statement_low x w)
+    pub statements_low : {c : Context} {xs : Stmts} {ts us : Tokens} → stmt_grammar.IsStatements c xs ts us → IsShallow most 0 ts → IsShallow most 0 us
+    statements_low stmt_grammar.no_statement w = w
+    statements_low (stmt_grammar.more_statements x xs) w = statements_low xs (statement_low x w)

@@ -5,11 +5,11 @@ use Rattle.rp_token.specs.declared.token.Token.{Token}
 use Rattle.rp_token.specs.declared.token.TokenKind.{TokenKind}
 use Rattle.rp_token.specs.declared.token.TokenKind.TheVariants as kind
 use Rattle.rp_tree.specs.Expressions.{Named}
-use Rattle.rp_tree.specs.Statements as s
+use Rattle.rp_tree.specs.Statements as stmt_tree
 use Rattle.rp_tree.specs.Statements.{Stmts}
 use Rattle.rp_grammar.specs.Kinds.{Tokens, first, line_at, skip}
 use Rattle.rp_grammar.specs.ExpressionReading.{Read}
-use Rattle.rp_grammar.specs.Statements as i
+use Rattle.rp_grammar.specs.Statements as stmt_grammar
 use Rattle.rp_grammar.specs.Statements.{Context, one}
 use Rattle.rp_grammar.specs.StatementReading.{Found, ◌>>>◌, from, hidden, within, expected, with_name}
 use Rattle.rp_grammar.specs.Program.{token, is_indent}
@@ -79,19 +79,19 @@ pub data Then (A : Type 0) (P : A → Tokens → Tokens → Type 0) (K : Tokens 
 pub tail_then : {A : Type 0} {P : A → Tokens → Tokens → Type 0} {K : Tokens → Tokens → Type 0} (x : A) → ((ts : Tokens) → P x ts ts) → Tail K → Tail (Then A P K)
 tail_then x none t = record { here = λ tail. then (none (closing 0 tail)) (t.here tail); none = λ us. then (none us) (t.none us) }
 
-pub pass_line : (h : ℕ) (c : Context) (members : Bool) (tail : Tokens) → IsRead i.IsLine (suc h) c members (one (s.a_stmt (record { 0 = 0 }) s.pass)) (closing 0 tail) tail
-pass_line h c members tail = record { spelled = i.line_end (i.is_pass refl) refl; low = omega arith; are_members = λ m. refl }
+pub pass_line : (h : ℕ) (c : Context) (members : Bool) (tail : Tokens) → IsRead stmt_grammar.IsLine (suc h) c members (one (stmt_tree.a_stmt (record { 0 = 0 }) stmt_tree.pass)) (closing 0 tail) tail
+pass_line h c members tail = record { spelled = stmt_grammar.line_end (stmt_grammar.is_pass refl) refl; low = omega arith; are_members = λ m. refl }
 
-pub pass_statement : (h : ℕ) (c : Context) (members : Bool) (tail : Tokens) → IsRead i.IsStatement (suc h) c members (one (s.a_stmt (record { 0 = 0 }) s.pass)) (closing 0 tail) tail
-pass_statement h c members tail = record { spelled = i.a_line (i.line_end (i.is_pass refl) refl); low = omega arith; are_members = λ m. refl }
+pub pass_statement : (h : ℕ) (c : Context) (members : Bool) (tail : Tokens) → IsRead stmt_grammar.IsStatement (suc h) c members (one (stmt_tree.a_stmt (record { 0 = 0 }) stmt_tree.pass)) (closing 0 tail) tail
+pass_statement h c members tail = record { spelled = stmt_grammar.a_line (stmt_grammar.line_end (stmt_grammar.is_pass refl) refl); low = omega arith; are_members = λ m. refl }
 
-pub no_statements : (h : ℕ) (c : Context) (members : Bool) (us : Tokens) → IsRead i.IsStatements h c members s.no_stmts us us
-no_statements h c members us = record { spelled = i.no_statement; low = omega arith; are_members = λ m. refl }
+pub no_statements : (h : ℕ) (c : Context) (members : Bool) (us : Tokens) → IsRead stmt_grammar.IsStatements h c members stmt_tree.no_stmts us us
+no_statements h c members us = record { spelled = stmt_grammar.no_statement; low = omega arith; are_members = λ m. refl }
 
-pub statements_tail : (h : ℕ) (c : Context) (members : Bool) → Tail (Any (IsRead i.IsStatements (suc h) c members))
+pub statements_tail : (h : ℕ) (c : Context) (members : Bool) → Tail (Any (IsRead stmt_grammar.IsStatements (suc h) c members))
 statements_tail h c members = record {
-  here = λ tail. (one (s.a_stmt (record { 0 = 0 }) s.pass), record { spelled = i.more_statements (i.a_line (i.line_end (i.is_pass refl) refl)) i.no_statement; low = omega arith; are_members = λ m. refl });
-  none = λ us. (s.no_stmts, no_statements (suc h) c members us);
+  here = λ tail. (one (stmt_tree.a_stmt (record { 0 = 0 }) stmt_tree.pass), record { spelled = stmt_grammar.more_statements (stmt_grammar.a_line (stmt_grammar.line_end (stmt_grammar.is_pass refl) refl)) stmt_grammar.no_statement; low = omega arith; are_members = λ m. refl });
+  none = λ us. (stmt_tree.no_stmts, no_statements (suc h) c members us);
 }
 
 -- ---- readers that tell places

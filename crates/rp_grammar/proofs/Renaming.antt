@@ -8,9 +8,9 @@ use Rattle.rp_token.specs.declared.token.TokenKind.TheVariants as kind
 use Rattle.rp_tree.specs.Statements.{Stmts}
 use Rattle.rp_grammar.specs.Brackets.{IsShallow, open_behind}
 use Rattle.rp_grammar.specs.Kinds.{Tokens, line_at}
-use Rattle.rp_grammar.specs.ExpressionReading as r
+use Rattle.rp_grammar.specs.ExpressionReading as reading
 use Rattle.rp_grammar.specs.Program.{Spells, IsGood, IsLongestGood, is_indent, token, ending}
-use Rattle.rp_grammar.specs.StatementReading as p
+use Rattle.rp_grammar.specs.StatementReading as stmt_reading
 use Rattle.rp_grammar.specs.StatementReading.{Found}
 use Rattle.rp_grammar.proofs.Renamed.{IsInjective, renamed_kind, renamed_token, renamed_tokens, renamed_stmts, renamed_found}
 use Rattle.rp_grammar.proofs.Founds.{ok_is}
@@ -35,8 +35,8 @@ found_same : (f : Name → Name) (found : Found Stmts) → told f (renamed_stmts
 found_same f (Ok x) = refl
 found_same f (Err place) = refl
 
-pub program_renamed : (f : Name → Name) → IsInjective f → (d h : ℕ) (ts : Tokens) → p.program_at (r.readers d) h (renamed_tokens f ts) ≡ renamed_found f (p.program_at (r.readers d) h ts)
-program_renamed f injective d h ts = program_at_renamed f injective (r.readers d) (readers_renamed f injective d) h ts ∙ found_same f (p.program_at (r.readers d) h ts)
+pub program_renamed : (f : Name → Name) → IsInjective f → (d h : ℕ) (ts : Tokens) → stmt_reading.program_at (reading.readers d) h (renamed_tokens f ts) ≡ renamed_found f (stmt_reading.program_at (reading.readers d) h ts)
+program_renamed f injective d h ts = program_at_renamed f injective (reading.readers d) (readers_renamed f injective d) h ts ∙ found_same f (stmt_reading.program_at (reading.readers d) h ts)
 
 pub spells_renamed : (f : Name → Name) → IsInjective f → (tree : Stmts) (ts : Tokens) → IsShallow 450 0 ts → Spells tree ts → Spells (renamed_stmts f tree) (renamed_tokens f ts)
 spells_renamed f injective tree ts shallow spelled =
@@ -44,14 +44,14 @@ spells_renamed f injective tree ts shallow spelled =
     (program_renamed f injective 650 199 ts ∙ ap (renamed_found f) (program_complete 450 650 (omega arith) spelled shallow))
 
 -- what is read before the renaming of what spells a tree
-before_found : (f : Name → Name) (ts : Tokens) (tree : Stmts) (rest : Tokens) (found : Found Stmts) → p.program_at (r.readers 650) 199 ts ≡ found → renamed_found f found ≡ Ok (tree, rest)
+before_found : (f : Name → Name) (ts : Tokens) (tree : Stmts) (rest : Tokens) (found : Found Stmts) → stmt_reading.program_at (reading.readers 650) 199 ts ≡ found → renamed_found f found ≡ Ok (tree, rest)
     → (before : Stmts) × Spells before ts × (tree ≡ renamed_stmts f before)
 before_found f ts tree rest (Ok x) is same = (x.0, program_spells 650 ts x is, sym (ap (λ (y : Stmts × Tokens). y.0) (ok_is same)))
 before_found f ts tree rest (Err place) is same = absurd cc
 
 pub spells_back : (f : Name → Name) → IsInjective f → (tree : Stmts) (ts : Tokens) → IsShallow 450 0 ts → Spells tree (renamed_tokens f ts) → (before : Stmts) × Spells before ts × (tree ≡ renamed_stmts f before)
 spells_back f injective tree ts shallow spelled =
-    before_found f ts tree spelled.rest (p.program_at (r.readers 650) 199 ts) refl
+    before_found f ts tree spelled.rest (stmt_reading.program_at (reading.readers 650) 199 ts) refl
     (sym (program_renamed f injective 650 199 ts) ∙ program_complete 450 650 (omega arith) spelled (shallow_renamed f 450 0 ts shallow))
 
 -- ---- good fronts

@@ -9,10 +9,10 @@ use Rattle.rp_base.specs.declared.value.Line.{Line}
 use Rattle.rp_base.specs.declared.value.Name.{Name}
 use Rattle.rp_token.specs.declared.token.TokenKind.{TokenKind}
 use Rattle.rp_token.specs.declared.token.TokenKind.TheVariants as kind
-use Rattle.rp_tree.specs.Expressions as t
+use Rattle.rp_tree.specs.Expressions as tree
 use Rattle.rp_tree.specs.Expressions.{Named, Expr, Place, Target, Params}
 use Rattle.rp_tree.specs.Heights.{expr_height, target_height, params_height, stmt_height}
-use Rattle.rp_tree.specs.Statements as s
+use Rattle.rp_tree.specs.Statements as stmt_tree
 use Rattle.rp_tree.specs.Statements.{Stmt, StmtForm, Stmts, MaybeStmts, Branches, Except, Excepts}
 use Rattle.rp_grammar.specs.Kinds.{Tokens, first, line_at, skip, augmented_of}
 use Rattle.rp_grammar.specs.Expressions.{line_of, named, distinct, parameter_names}
@@ -48,11 +48,11 @@ maybe_expr r ts = if starts (first ts) then (read.expr r ts >>= λ e. Some (Some
 
 -- behind `return`
 unfoldable pub return : Readers → Context → Line → Tokens → Read Stmt
-return r c line ts = if is_in_function c then (maybe_exprs r ts >>= λ e. Some (s.a_stmt line (s.give_back e.0), e.1)) else None
+return r c line ts = if is_in_function c then (maybe_exprs r ts >>= λ e. Some (stmt_tree.a_stmt line (stmt_tree.give_back e.0), e.1)) else None
 
 abbrev pub raised : Context → Line → Option Expr × Tokens → Read Stmt
-raised c line (Some e, us) = Some (s.a_stmt line (s.raise (Some e)), us)
-raised c line (None, us) = if c.handler then Some (s.a_stmt line (s.raise None), us) else None
+raised c line (Some e, us) = Some (stmt_tree.a_stmt line (stmt_tree.raise (Some e)), us)
+raised c line (None, us) = if c.handler then Some (stmt_tree.a_stmt line (stmt_tree.raise None), us) else None
 
 -- behind `raise`
 unfoldable pub raise : Readers → Context → Line → Tokens → Read Stmt
@@ -61,12 +61,12 @@ raise r c line ts = maybe_expr r ts >>= raised c line
 -- behind `assert`
 unfoldable pub assert : Readers → Line → Tokens → Read Stmt
 assert r line ts = read.expr r ts >>= λ e.
-    if is_comma (first e.1) then (read.expr r (skip e.1) >>= λ f. Some (s.a_stmt line (s.assert e.0 (Some f.0)), f.1))
-    else Some (s.a_stmt line (s.assert e.0 None), e.1)
+    if is_comma (first e.1) then (read.expr r (skip e.1) >>= λ f. Some (stmt_tree.a_stmt line (stmt_tree.assert e.0 (Some f.0)), f.1))
+    else Some (stmt_tree.a_stmt line (stmt_tree.assert e.0 None), e.1)
 
 -- behind `global`
 unfoldable pub global : Context → Line → Tokens → Read Stmt
-global c line ts = if c.class then None else (names ts >>= λ ns. if list_all (is_free c.function) ns.0 then Some (s.a_stmt line (s.global ns.0), ns.1) else None)
+global c line ts = if c.class then None else (names ts >>= λ ns. if list_all (is_free c.function) ns.0 then Some (stmt_tree.a_stmt line (stmt_tree.global ns.0), ns.1) else None)
 
 -- behind `=`: further places, each with `=` behind it, and the value
 unfoldable pub assigned_by : ℕ → Readers → Tokens → Read (List Place × Expr)
@@ -80,34 +80,34 @@ assigned r ts = assigned_by (suc (length ts)) r ts
 
 -- behind an expression list and `=`: the target that it stands for is a place, and further places may follow, or a group
 abbrev pub assignment_to : Readers → Line → Target → Tokens → Read Stmt
-assignment_to r line (t.to_place p) ts = assigned r ts >>= λ x. Some (s.a_stmt line (s.assign (p ∷ x.0.0) x.0.1), x.1)
-assignment_to r line g ts = read.expr_list r ts >>= λ e. Some (s.a_stmt line (s.unpack g e.0 None), e.1)
+assignment_to r line (tree.to_place p) ts = assigned r ts >>= λ x. Some (stmt_tree.a_stmt line (stmt_tree.assign (p ∷ x.0.0) x.0.1), x.1)
+assignment_to r line g ts = read.expr_list r ts >>= λ e. Some (stmt_tree.a_stmt line (stmt_tree.unpack g e.0 None), e.1)
 
 unfoldable pub assignment : Readers → Expr → Tokens → Read Stmt
 assignment r e ts = as_target e >>= λ g. assignment_to r (line_of e) g ts
 
 -- behind an expression list, where a mark of augmented assignment comes
 unfoldable pub augmented : Readers → BinOp → Expr → Tokens → Read Stmt
-augmented r o e ts = as_place e >>= λ p. read.expr_list r (skip ts) >>= λ f. Some (s.a_stmt (line_of e) (s.aug p o (line_at ts) f.0 None), f.1)
+augmented r o e ts = as_place e >>= λ p. read.expr_list r (skip ts) >>= λ f. Some (stmt_tree.a_stmt (line_of e) (stmt_tree.aug p o (line_at ts) f.0 None), f.1)
 
 abbrev pub behind_exprs : TokenKind → Option BinOp → Readers → Expr → Tokens → Read Stmt
 behind_exprs k (Some o) r e ts = augmented r o e ts
 behind_exprs kind.Equal None r e ts = assignment r e (skip ts)
-behind_exprs k None r e ts = Some (s.a_stmt (line_of e) (s.evaluate e), ts)
+behind_exprs k None r e ts = Some (stmt_tree.a_stmt (line_of e) (stmt_tree.evaluate e), ts)
 
 -- what begins with an expression list
 unfoldable pub expression_statement : Readers → Tokens → Read Stmt
 expression_statement r ts = read.expr_list r ts >>= λ e. behind_exprs (first e.1) (augmented_of (first e.1)) r e.0 e.1
 
 abbrev pub simple_by : TokenKind → Readers → Context → Tokens → Read Stmt
-simple_by kind.Pass r c ts = Some (s.a_stmt (line_at ts) s.pass, skip ts)
-simple_by kind.Break r c ts = if c.loop then Some (s.a_stmt (line_at ts) s.break, skip ts) else None
-simple_by kind.Continue r c ts = if c.loop then Some (s.a_stmt (line_at ts) s.continue, skip ts) else None
+simple_by kind.Pass r c ts = Some (stmt_tree.a_stmt (line_at ts) stmt_tree.pass, skip ts)
+simple_by kind.Break r c ts = if c.loop then Some (stmt_tree.a_stmt (line_at ts) stmt_tree.break, skip ts) else None
+simple_by kind.Continue r c ts = if c.loop then Some (stmt_tree.a_stmt (line_at ts) stmt_tree.continue, skip ts) else None
 simple_by kind.Return r c ts = return r c (line_at ts) (skip ts)
 simple_by kind.Raise r c ts = raise r c (line_at ts) (skip ts)
 simple_by kind.Assert r c ts = assert r (line_at ts) (skip ts)
 simple_by kind.Global r c ts = global c (line_at ts) (skip ts)
-simple_by kind.Del r c ts = places r (skip ts) >>= λ ps. Some (s.a_stmt (line_at ts) (s.del ps.0), ps.1)
+simple_by kind.Del r c ts = places r (skip ts) >>= λ ps. Some (stmt_tree.a_stmt (line_at ts) (stmt_tree.del ps.0), ps.1)
 simple_by _ r c ts = expression_statement r ts
 
 unfoldable pub simple : Readers → Context → Tokens → Read Stmt
@@ -171,7 +171,7 @@ item_at r h c members ts = simple_at r h c members ts >>> λ x. separated (first
 unfoldable pub line_by : ℕ → Readers → ℕ → Context → Bool → Tokens → Found Stmts
 line_by zero r h c members ts = Err (Some ts)
 line_by (suc n) r h c members ts = from ts (item_at r h c members ts) >>> λ x.
-    if x.0.1 then (line_by n r h c members x.1 >>> λ xs. Ok (s.stmt x.0.0 xs.0, xs.1)) else Ok (one x.0.0, x.1)
+    if x.0.1 then (line_by n r h c members x.1 >>> λ xs. Ok (stmt_tree.stmt x.0.0 xs.0, xs.1)) else Ok (one x.0.0, x.1)
 
 abbrev pub line : Readers → ℕ → Context → Bool → Tokens → Found Stmts
 line r h c members ts = line_by (suc (length ts)) r h c members ts
@@ -192,15 +192,15 @@ is_elif _ = false
 unfoldable pub elifs_by : ℕ → Readers → ℕ → (Tokens → Found Stmts) → Tokens → Found Branches
 elifs_by zero r h block ts = Err (Some ts)
 elifs_by (suc n) r h block ts =
-    if is_elif (first ts) then (from ts (tested r h block (skip ts)) >>> λ x. elifs_by n r h block x.1 >>> λ bs. Ok (s.branch x.0.0 x.0.1 bs.0, bs.1))
-    else Ok (s.no_branches, ts)
+    if is_elif (first ts) then (from ts (tested r h block (skip ts)) >>> λ x. elifs_by n r h block x.1 >>> λ bs. Ok (stmt_tree.branch x.0.0 x.0.1 bs.0, bs.1))
+    else Ok (stmt_tree.no_branches, ts)
 
 abbrev pub elifs : Readers → ℕ → (Tokens → Found Stmts) → Tokens → Found Branches
 elifs r h block ts = elifs_by (suc (length ts)) r h block ts
 
 -- a block behind a word that may be missing
 unfoldable pub maybe_suite : (TokenKind → Bool) → (Tokens → Found Stmts) → Tokens → Found MaybeStmts
-maybe_suite is block ts = if is (first ts) then (from ts (suite block (skip ts)) >>> λ b. Ok (s.some b.0, b.1)) else Ok (s.none, ts)
+maybe_suite is block ts = if is (first ts) then (from ts (suite block (skip ts)) >>> λ b. Ok (stmt_tree.some b.0, b.1)) else Ok (stmt_tree.none, ts)
 
 abbrev pub is_else : TokenKind → Bool
 is_else kind.Else = true
@@ -213,26 +213,26 @@ is_finally _ = false
 -- behind `if`
 unfoldable pub if_statement : Readers → ℕ → (Tokens → Found Stmts) → Tokens → Found StmtForm
 if_statement r h block ts = tested r h block ts >>> λ x. elifs r h block x.1 >>> λ bs. maybe_suite is_else block bs.1 >>> λ o.
-    Ok (s.choose (s.branch x.0.0 x.0.1 bs.0) o.0, o.1)
+    Ok (stmt_tree.choose (stmt_tree.branch x.0.0 x.0.1 bs.0) o.0, o.1)
 
 -- behind `while`
 unfoldable pub while_statement : Readers → ℕ → (Tokens → Found Stmts) → Tokens → Found StmtForm
-while_statement r h block ts = tested r h block ts >>> λ x. Ok (s.while x.0.0 x.0.1, x.1)
+while_statement r h block ts = tested r h block ts >>> λ x. Ok (stmt_tree.while x.0.0 x.0.1, x.1)
 
 -- behind `for`
 unfoldable pub for_statement : Readers → ℕ → (Tokens → Found Stmts) → Tokens → Found StmtForm
 for_statement r h block ts = within target_height h (read.target r ts) >>> λ p. expected is_in (λ us.
-    within expr_height h (read.expr_list r us) >>> λ e. suite block e.1 >>> λ b. Ok (s.for (t.a_walk p.0 e.0 None) b.0, b.1)) p.1
+    within expr_height h (read.expr_list r us) >>> λ e. suite block e.1 >>> λ b. Ok (stmt_tree.for (tree.a_walk p.0 e.0 None) b.0, b.1)) p.1
 
 -- behind the expression of a handler, by the two tokens that come: 'as' and a name, or neither
 abbrev pub named_handler : TokenKind → TokenKind → (Tokens → Found Stmts) → Expr → Tokens → Found (Except × Bool)
-named_handler kind.As (kind.Name n) block e us = suite block (skip (skip us)) >>> λ b. Ok ((s.an_except (Some e) (Some (named n (skip us))) b.0, false), b.1)
+named_handler kind.As (kind.Name n) block e us = suite block (skip (skip us)) >>> λ b. Ok ((stmt_tree.an_except (Some e) (Some (named n (skip us))) b.0, false), b.1)
 named_handler kind.As _ block e us = Err None
-named_handler _ l block e us = suite block us >>> λ b. Ok ((s.an_except (Some e) None b.0, false), b.1)
+named_handler _ l block e us = suite block us >>> λ b. Ok ((stmt_tree.an_except (Some e) None b.0, false), b.1)
 
 -- behind `except`: a handler, and whether it handles all
 abbrev pub handler_by : TokenKind → Readers → ℕ → (Tokens → Found Stmts) → Tokens → Found (Except × Bool)
-handler_by kind.Colon r h block ts = suite block ts >>> λ b. Ok ((s.an_except None None b.0, true), b.1)
+handler_by kind.Colon r h block ts = suite block ts >>> λ b. Ok ((stmt_tree.an_except None None b.0, true), b.1)
 handler_by _ r h block ts = within expr_height h (read.expr r ts) >>> λ e. named_handler (first e.1) (first (skip e.1)) block e.0 e.1
 
 unfoldable pub handler : Readers → ℕ → (Tokens → Found Stmts) → Tokens → Found (Except × Bool)
@@ -246,8 +246,8 @@ is_except _ = false
 unfoldable pub handlers_by : ℕ → Readers → ℕ → (Tokens → Found Stmts) → Bool → Tokens → Found Excepts
 handlers_by zero r h block all ts = Err (Some ts)
 handlers_by (suc n) r h block all ts =
-    if not all && is_except (first ts) then (from ts (handler r h block (skip ts)) >>> λ x. handlers_by n r h block x.0.1 x.1 >>> λ xs. Ok (s.except x.0.0 xs.0, xs.1))
-    else Ok (s.no_excepts, ts)
+    if not all && is_except (first ts) then (from ts (handler r h block (skip ts)) >>> λ x. handlers_by n r h block x.0.1 x.1 >>> λ xs. Ok (stmt_tree.except x.0.0 xs.0, xs.1))
+    else Ok (stmt_tree.no_excepts, ts)
 
 abbrev pub handlers : Readers → ℕ → (Tokens → Found Stmts) → Bool → Tokens → Found Excepts
 handlers r h block all ts = handlers_by (suc (length ts)) r h block all ts
@@ -255,8 +255,8 @@ handlers r h block all ts = handlers_by (suc (length ts)) r h block all ts
 -- behind the first block of `try`: handlers, or a last block alone
 abbrev pub behind_try : TokenKind → Readers → ℕ → (Tokens → Found Stmts) → (Tokens → Found Stmts) → Stmts → Tokens → Found StmtForm
 behind_try kind.Except r h block handling b ts = handler r h handling (skip ts) >>> λ x. handlers r h handling x.0.1 x.1 >>> λ xs.
-    maybe_suite is_else block xs.1 >>> λ o. maybe_suite is_finally block o.1 >>> λ l. Ok (s.try b (s.except x.0.0 xs.0) o.0 l.0, l.1)
-behind_try kind.Finally r h block handling b ts = suite block (skip ts) >>> λ l. Ok (s.try b s.no_excepts s.none (s.some l.0), l.1)
+    maybe_suite is_else block xs.1 >>> λ o. maybe_suite is_finally block o.1 >>> λ l. Ok (stmt_tree.try b (stmt_tree.except x.0.0 xs.0) o.0 l.0, l.1)
+behind_try kind.Finally r h block handling b ts = suite block (skip ts) >>> λ l. Ok (stmt_tree.try b stmt_tree.no_excepts stmt_tree.none (stmt_tree.some l.0), l.1)
 behind_try _ r h block handling b ts = Err None
 
 -- behind `try`
@@ -279,7 +279,7 @@ with_name more (Some n) = more n.0 n.1
 -- behind `def`
 unfoldable pub def_statement : Readers → ℕ → (Params → Tokens → Found Stmts) → Tokens → Found StmtForm
 def_statement r h block ts = with_name (λ n. expected is_left_paren (λ us. within params_height h (parameters r us) >>> λ ps.
-    expected is_right_paren (suite (block ps.0)) ps.1 >>> λ b. Ok (s.define 0 n ps.0 b.0, b.1))) (name_by (first ts) ts)
+    expected is_right_paren (suite (block ps.0)) ps.1 >>> λ b. Ok (stmt_tree.define 0 n ps.0 b.0, b.1))) (name_by (first ts) ts)
 
 -- ['(' ')']
 unfoldable pub bases : Tokens → Found (Unit {0})
@@ -287,11 +287,11 @@ bases ts = if is_left_paren (first ts) then expected is_right_paren (λ us. Ok (
 
 -- behind `class`
 unfoldable pub class_statement : (Tokens → Found Stmts) → Tokens → Found StmtForm
-class_statement block ts = with_name (λ n us. bases us >>> λ x. suite block x.1 >>> λ b. Ok (s.class n b.0, b.1)) (name_by (first ts) ts)
+class_statement block ts = with_name (λ n us. bases us >>> λ x. suite block x.1 >>> λ b. Ok (stmt_tree.class n b.0, b.1)) (name_by (first ts) ts)
 
 -- a compound statement, one of a class if it is a member; else a line
 abbrev pub compound : Line → Found StmtForm → Found Stmts
-compound at found = found >>> λ x. Ok (one (s.a_stmt at x.0), x.1)
+compound at found = found >>> λ x. Ok (one (stmt_tree.a_stmt at x.0), x.1)
 
 -- what is no member of a class
 abbrev pub no_member : {A : Type 0} → Bool → Found A → Found A
@@ -322,7 +322,7 @@ ends _ = false
 unfoldable pub statements_by : ℕ → Readers → ℕ → Context → Bool → Blocks → Tokens → Found Stmts
 statements_by zero r h c members block ts = Err (Some ts)
 statements_by (suc n) r h c members block ts =
-    if ends (first ts) then Ok (s.no_stmts, ts)
+    if ends (first ts) then Ok (stmt_tree.no_stmts, ts)
     else (from ts (statement_at r h c members block ts) >>> λ xs. statements_by n r h c members block xs.1 >>> λ ys. Ok (joined xs.0 ys.0, ys.1))
 
 abbrev pub statements : Readers → ℕ → Context → Bool → Blocks → Tokens → Found Stmts

@@ -6,8 +6,8 @@ use Rattle.rp_tree.specs.declared.stmt.Branch.{Branch}
 use Rattle.rp_tree.specs.declared.stmt.Except.{Except}
 use Rattle.rp_tree.specs.declared.stmt.Stmt.{Stmt}
 use Rattle.rp_tree.specs.declared.stmt.StmtForm.TheVariants as form
-use Rattle.rp_tree.specs.Statements as s
-use Rattle.rp_tree.specs.StatementViews as v
+use Rattle.rp_tree.specs.Statements as stmt_tree
+use Rattle.rp_tree.specs.StatementViews as stmt_views
 use Rattle.rp_tree.proofs.StatementEquations.{stmt_if, stmt_try}
 
 -- what a vector stands for, when its elements have been marked in place
@@ -19,8 +19,8 @@ filled f g w b old ws same read kept marked =
 
 -- an equation that says 'm' of a block that may be missing does not fit where 'Some' has computed: these do
 
-pub if_some : (b : Vec Branch Global) (w : Vec Stmt Global) → v.view_stmt_form (form.If b (Some w)) ≡ s.choose (v.branches_of (map v.view_branch b.items)) (s.some (v.view_stmts w.items))
+pub if_some : (b : Vec Branch Global) (w : Vec Stmt Global) → stmt_views.view_stmt_form (form.If b (Some w)) ≡ stmt_tree.choose (stmt_views.branches_of (map stmt_views.view_branch b.items)) (stmt_tree.some (stmt_views.view_stmts w.items))
 if_some b w = stmt_if b (Some w)
 
-pub try_some : (b : Vec Stmt Global) (h : Vec Except Global) (d : Option (Vec Stmt Global)) (w : Vec Stmt Global) → v.view_stmt_form (form.Try b h d (Some w)) ≡ s.try (v.view_stmts b.items) (v.excepts_of (map v.view_except h.items)) (v.view_maybe_stmts d) (s.some (v.view_stmts w.items))
+pub try_some : (b : Vec Stmt Global) (h : Vec Except Global) (d : Option (Vec Stmt Global)) (w : Vec Stmt Global) → stmt_views.view_stmt_form (form.Try b h d (Some w)) ≡ stmt_tree.try (stmt_views.view_stmts b.items) (stmt_views.excepts_of (map stmt_views.view_except h.items)) (stmt_views.view_maybe_stmts d) (stmt_tree.some (stmt_views.view_stmts w.items))
 try_some b h d w = stmt_try b h d (Some w)

@@ -3,8 +3,8 @@
 ghost use Rattle.std.specs.Prelude.{◌≡◌, ◌&&◌, ◌↔◌, IsTrue, map};
 ghost use Rattle.std.specs.List.{list_all};
 ghost use Rattle.rp_tree.specs.ExpressionViews.{view_place};
-ghost use Rattle.rp_tree.specs.StatementViews as v;
-ghost use Rattle.rp_tree.specs.Guarded as g;
+ghost use Rattle.rp_tree.specs.StatementViews as stmt_views;
+ghost use Rattle.rp_tree.specs.Guarded as guardedness;
 ghost use Rattle.rp_tree.specs.Guarded.{Guarded};
 
 use crate::checks::{
@@ -16,13 +16,13 @@ use rp_tree::{Branch, Except, Guard, Place, Stmt, StmtForm, Tree, stmts_of};
 /// Whether no attribute, item, slice, iteration, unpacking, call with a star or augmented assignment in the tree stands
 /// without its guard (RestrictedPython, transformer).
 pub fn guarded(tree: &Tree) -> bool
-    ensures { IsTrue result ↔ Guarded (v.view_tree tree.now) }
+    ensures { IsTrue result ↔ Guarded (stmt_views.view_tree tree.now) }
 {
     is_block_guarded(&tree.body)
 }
 
 fn are_places_guarded(places: &[Place]) -> bool
-    ensures { result ≡ list_all g.is_place_guarded (map view_place places.now) }
+    ensures { result ≡ list_all guardedness.is_place_guarded (map view_place places.now) }
 {
     'places: for place in places {
         if !is_place_guarded(place) {
@@ -34,7 +34,7 @@ fn are_places_guarded(places: &[Place]) -> bool
 
 #[cycle(is_stmt_guarded)]
 fn is_stmt_guarded(stmt: &Stmt) -> bool
-    ensures { result ≡ g.is_stmt_guarded (v.view_stmt stmt.now) }
+    ensures { result ≡ guardedness.is_stmt_guarded (stmt_views.view_stmt stmt.now) }
 {
     is_stmt_form_guarded(&stmt.form)
 }
@@ -42,7 +42,7 @@ fn is_stmt_guarded(stmt: &Stmt) -> bool
 #[cycle(is_stmt_guarded)]
 #[tactic(auto, using(rp_tree::proofs::StatementEquations::variants))]
 fn is_stmt_form_guarded(form: &StmtForm) -> bool
-    ensures { result ≡ g.is_stmt_form_guarded (v.view_stmt_form form.now) }
+    ensures { result ≡ guardedness.is_stmt_form_guarded (stmt_views.view_stmt_form form.now) }
 {
     match form {
         StmtForm::Expr(expr) => is_expr_guarded(expr),
@@ -84,7 +84,7 @@ fn is_stmt_form_guarded(form: &StmtForm) -> bool
 
 #[cycle(is_stmt_guarded)]
 fn is_block_guarded(stmts: &[Stmt]) -> bool
-    ensures { result ≡ g.are_stmts_guarded (v.view_stmts stmts.now) }
+    ensures { result ≡ guardedness.are_stmts_guarded (stmt_views.view_stmts stmts.now) }
 {
     'stmts: for stmt in stmts {
         if !is_stmt_guarded(stmt) {
@@ -97,14 +97,16 @@ fn is_block_guarded(stmts: &[Stmt]) -> bool
 #[cycle(is_stmt_guarded)]
 fn is_branch_guarded(branch: &Branch) -> bool
     ensures { result
-        ≡ (g.is_expr_guarded (v.view_branch branch.now).0 && g.are_stmts_guarded (v.view_branch branch.now).1) }
+        ≡ (guardedness.is_expr_guarded (stmt_views.view_branch branch.now).0 && guardedness.are_stmts_guarded
+        (stmt_views.view_branch branch.now).1) }
 {
     is_expr_guarded(&branch.test) && is_block_guarded(&branch.body)
 }
 
 #[cycle(is_stmt_guarded)]
 fn are_branches_guarded(branches: &[Branch]) -> bool
-    ensures { result ≡ g.are_branches_guarded (v.branches_of (map v.view_branch branches.now)) }
+    ensures { result
+        ≡ guardedness.are_branches_guarded (stmt_views.branches_of (map stmt_views.view_branch branches.now)) }
 {
     'branches: for branch in branches {
         if !is_branch_guarded(branch) {
@@ -116,14 +118,15 @@ fn are_branches_guarded(branches: &[Branch]) -> bool
 
 #[cycle(is_stmt_guarded)]
 fn is_handler_guarded(handler: &Except) -> bool
-    ensures { result ≡ g.is_except_guarded (v.view_except handler.now) }
+    ensures { result ≡ guardedness.is_except_guarded (stmt_views.view_except handler.now) }
 {
     is_option_guarded(&handler.kind) && is_block_guarded(&handler.body)
 }
 
 #[cycle(is_stmt_guarded)]
 fn are_handlers_guarded(handlers: &[Except]) -> bool
-    ensures { result ≡ g.are_excepts_guarded (v.excepts_of (map v.view_except handlers.now)) }
+    ensures { result
+        ≡ guardedness.are_excepts_guarded (stmt_views.excepts_of (map stmt_views.view_except handlers.now)) }
 {
     'handlers: for handler in handlers {
         if !is_handler_guarded(handler) {

@@ -2,8 +2,8 @@
 
 ghost use Rattle.std.specs.Prelude.{◌≡◌, IfOk, IsOk, Some, map};
 ghost use Rattle.rp_tree.specs.ExpressionViews.{view_expr, view_place, view_target};
-ghost use Rattle.rp_tree.specs.StatementViews as v;
-ghost use Rattle.rp_tree.specs.Maps as m;
+ghost use Rattle.rp_tree.specs.StatementViews as stmt_views;
+ghost use Rattle.rp_tree.specs.Maps as maps;
 ghost use Rattle.rp_tree.specs.Maps.{inplace_site};
 ghost use Rattle.rp_tree.specs.Marks.{table, guard, guard_at, HasNoGuards, Rewrites};
 ghost use Rattle.rp_tree.specs.Guarded.{Guarded};
@@ -21,18 +21,19 @@ use rp_tree::{Branch, Except, Expr, Guard, Place, Stmt, StmtForm, Target, Tree};
 /// # Errors
 /// None: the marks are set in place, so that no memory is asked for.
 pub fn transform(mut tree: Tree) -> Result<Tree, Memory>
-    requires { HasNoGuards (v.view_tree tree) }
+    requires { HasNoGuards (stmt_views.view_tree tree) }
     ensures made { IsOk result }
-    ensures marked { IfOk result (λ made. v.view_tree made ≡ guard (v.view_tree tree)) }
-    ensures rewritten { IfOk result (λ made. Rewrites (v.view_tree tree) (v.view_tree made)) }
-    ensures guarded { AugmentsNames (v.view_tree tree) → IfOk result (λ made. Guarded (v.view_tree made)) }
+    ensures marked { IfOk result (λ made. stmt_views.view_tree made ≡ guard (stmt_views.view_tree tree)) }
+    ensures rewritten { IfOk result (λ made. Rewrites (stmt_views.view_tree tree) (stmt_views.view_tree made)) }
+    ensures guarded { AugmentsNames (stmt_views.view_tree tree)
+        → IfOk result (λ made. Guarded (stmt_views.view_tree made)) }
 {
     mark_block(&mut tree.body);
     Ok(tree)
 }
 
 fn mark_places(places: &mut [Place])
-    ensures { map view_place places.new ≡ map (m.map_place table) (map view_place places.old) }
+    ensures { map view_place places.new ≡ map (maps.map_place table) (map view_place places.old) }
 {
     'places: for place in places.iter_mut() {
         mark_place(place);
@@ -40,16 +41,16 @@ fn mark_places(places: &mut [Place])
 }
 
 fn mark_assigned(places: &mut [Place], value: &mut Expr)
-    ensures places { map view_place places.new ≡ map (m.map_place table) (map view_place places.old) }
-    ensures value { view_expr value.new ≡ m.map_expr table (view_expr value.old) }
+    ensures places { map view_place places.new ≡ map (maps.map_place table) (map view_place places.old) }
+    ensures value { view_expr value.new ≡ maps.map_expr table (view_expr value.old) }
 {
     mark_places(places);
     mark_expr(value);
 }
 
 fn mark_unpacked(target: &mut Target, value: &mut Expr, guard: &mut Option<Guard>)
-    ensures target { view_target target.new ≡ m.map_target table (view_target target.old) }
-    ensures value { view_expr value.new ≡ m.map_expr table (view_expr value.old) }
+    ensures target { view_target target.new ≡ maps.map_target table (view_target target.old) }
+    ensures value { view_expr value.new ≡ maps.map_expr table (view_expr value.old) }
     ensures guard { guard.new ≡ Some Guard.Unpack }
 {
     mark_target(target);
@@ -58,8 +59,8 @@ fn mark_unpacked(target: &mut Target, value: &mut Expr, guard: &mut Option<Guard
 }
 
 fn mark_augmented(place: &mut Place, value: &mut Expr, guard: &mut Option<Guard>)
-    ensures place { view_place place.new ≡ m.map_place table (view_place place.old) }
-    ensures value { view_expr value.new ≡ m.map_expr table (view_expr value.old) }
+    ensures place { view_place place.new ≡ maps.map_place table (view_place place.old) }
+    ensures value { view_expr value.new ≡ maps.map_expr table (view_expr value.old) }
     ensures guard { guard.new ≡ guard_at (inplace_site (view_place place.old)) }
 {
     *guard = inplace_guard(place);
@@ -69,7 +70,7 @@ fn mark_augmented(place: &mut Place, value: &mut Expr, guard: &mut Option<Guard>
 
 #[cycle(mark_stmt)]
 fn mark_stmt(stmt: &mut Stmt)
-    ensures { v.view_stmt stmt.new ≡ m.map_stmt table (v.view_stmt stmt.old) }
+    ensures { stmt_views.view_stmt stmt.new ≡ maps.map_stmt table (stmt_views.view_stmt stmt.old) }
 {
     mark_stmt_form(&mut stmt.form);
 }
@@ -77,7 +78,7 @@ fn mark_stmt(stmt: &mut Stmt)
 #[cycle(mark_stmt)]
 #[tactic(auto, using(rp_tree::proofs::StatementEquations::variants, crate::proofs::Lists::names_kept))]
 fn mark_stmt_form(form: &mut StmtForm)
-    ensures { v.view_stmt_form form.new ≡ m.map_stmt_form table (v.view_stmt_form form.old) }
+    ensures { stmt_views.view_stmt_form form.new ≡ maps.map_stmt_form table (stmt_views.view_stmt_form form.old) }
 {
     match form {
         StmtForm::Expr(expr) => mark_expr(expr),
@@ -136,7 +137,7 @@ fn mark_stmt_form(form: &mut StmtForm)
 
 #[cycle(mark_stmt)]
 fn mark_block(stmts: &mut [Stmt])
-    ensures { v.view_stmts stmts.new ≡ m.map_stmts table (v.view_stmts stmts.old) }
+    ensures { stmt_views.view_stmts stmts.new ≡ maps.map_stmts table (stmt_views.view_stmts stmts.old) }
 {
     'stmts: for stmt in stmts.iter_mut() {
         mark_stmt(stmt);
@@ -145,8 +146,8 @@ fn mark_block(stmts: &mut [Stmt])
 
 #[cycle(mark_stmt)]
 fn mark_branch(branch: &mut Branch)
-    ensures test { (v.view_branch branch.new).0 ≡ m.map_expr table (v.view_branch branch.old).0 }
-    ensures body { (v.view_branch branch.new).1 ≡ m.map_stmts table (v.view_branch branch.old).1 }
+    ensures test { (stmt_views.view_branch branch.new).0 ≡ maps.map_expr table (stmt_views.view_branch branch.old).0 }
+    ensures body { (stmt_views.view_branch branch.new).1 ≡ maps.map_stmts table (stmt_views.view_branch branch.old).1 }
 {
     mark_expr(&mut branch.test);
     mark_block(&mut branch.body);
@@ -154,8 +155,8 @@ fn mark_branch(branch: &mut Branch)
 
 #[cycle(mark_stmt)]
 fn mark_branches(branches: &mut [Branch])
-    ensures { v.branches_of (map v.view_branch branches.new)
-        ≡ m.map_branches table (v.branches_of (map v.view_branch branches.old)) }
+    ensures { stmt_views.branches_of (map stmt_views.view_branch branches.new)
+        ≡ maps.map_branches table (stmt_views.branches_of (map stmt_views.view_branch branches.old)) }
 {
     'branches: for branch in branches.iter_mut() {
         mark_branch(branch);
@@ -165,7 +166,7 @@ fn mark_branches(branches: &mut [Branch])
 #[cycle(mark_stmt)]
 #[tactic(auto, using(crate::proofs::Lists::names_option_kept))]
 fn mark_handler(handler: &mut Except)
-    ensures { v.view_except handler.new ≡ m.map_except table (v.view_except handler.old) }
+    ensures { stmt_views.view_except handler.new ≡ maps.map_except table (stmt_views.view_except handler.old) }
 {
     mark_option(&mut handler.kind);
     mark_block(&mut handler.body);
@@ -173,8 +174,8 @@ fn mark_handler(handler: &mut Except)
 
 #[cycle(mark_stmt)]
 fn mark_handlers(handlers: &mut [Except])
-    ensures { v.excepts_of (map v.view_except handlers.new)
-        ≡ m.map_excepts table (v.excepts_of (map v.view_except handlers.old)) }
+    ensures { stmt_views.excepts_of (map stmt_views.view_except handlers.new)
+        ≡ maps.map_excepts table (stmt_views.excepts_of (map stmt_views.view_except handlers.old)) }
 {
     'handlers: for handler in handlers.iter_mut() {
         mark_handler(handler);

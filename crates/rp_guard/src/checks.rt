@@ -2,8 +2,8 @@
 
 ghost use Rattle.std.specs.Prelude.{◌≡◌, ◌&&◌, true, map, option_map};
 ghost use Rattle.std.specs.Option.{option_map_or};
-ghost use Rattle.rp_tree.specs.ExpressionViews as v;
-ghost use Rattle.rp_tree.specs.Guarded as g;
+ghost use Rattle.rp_tree.specs.ExpressionViews as views;
+ghost use Rattle.rp_tree.specs.Guarded as guardedness;
 
 use crate::table::walk_guard;
 use rp_base::BinOp;
@@ -13,7 +13,7 @@ use rp_tree::{
 
 /// Whether the mark is that of the guard.
 pub fn is_mark(guard: Guard, mark: &Option<Guard>) -> bool
-    ensures { result ≡ g.is_mark guard mark.now }
+    ensures { result ≡ guardedness.is_mark guard mark.now }
 {
     match mark {
         None => false,
@@ -24,7 +24,7 @@ pub fn is_mark(guard: Guard, mark: &Option<Guard>) -> bool
 /// Whether no form in the expression stands without its guard.
 #[cycle(is_expr_guarded)]
 pub fn is_expr_guarded(expr: &Expr) -> bool
-    ensures { result ≡ g.is_expr_guarded (v.view_expr expr.now) }
+    ensures { result ≡ guardedness.is_expr_guarded (views.view_expr expr.now) }
 {
     is_form_guarded(&expr.form)
 }
@@ -32,7 +32,7 @@ pub fn is_expr_guarded(expr: &Expr) -> bool
 #[cycle(is_expr_guarded)]
 #[tactic(auto, using(rp_tree::proofs::ExpressionEquations::variants))]
 fn is_form_guarded(form: &ExprForm) -> bool
-    ensures { result ≡ g.is_form_guarded (v.view_form form.now) }
+    ensures { result ≡ guardedness.is_form_guarded (views.view_form form.now) }
 {
     match form {
         ExprForm::Name(_) | ExprForm::Int(_) | ExprForm::Text(_) | ExprForm::Const(_) => true,
@@ -66,7 +66,7 @@ fn is_form_guarded(form: &ExprForm) -> bool
 /// Whether no form stands without its guard in an expression that may be missing.
 #[cycle(is_expr_guarded)]
 pub fn is_option_guarded(expr: &Option<Expr>) -> bool
-    ensures { result ≡ option_map_or g.is_expr_guarded (option_map v.view_expr expr.now) true }
+    ensures { result ≡ option_map_or guardedness.is_expr_guarded (option_map views.view_expr expr.now) true }
 {
     match expr {
         None => true,
@@ -76,7 +76,7 @@ pub fn is_option_guarded(expr: &Option<Expr>) -> bool
 
 #[cycle(is_expr_guarded)]
 fn are_exprs_guarded(exprs: &[Expr]) -> bool
-    ensures { result ≡ g.are_exprs_guarded (v.exprs_of (map v.view_expr exprs.now)) }
+    ensures { result ≡ guardedness.are_exprs_guarded (views.exprs_of (map views.view_expr exprs.now)) }
 {
     'exprs: for expr in exprs {
         if !is_expr_guarded(expr) {
@@ -88,7 +88,7 @@ fn are_exprs_guarded(exprs: &[Expr]) -> bool
 
 #[cycle(is_expr_guarded)]
 fn are_pairs_guarded(pairs: &[(Expr, Expr)]) -> bool
-    ensures { result ≡ g.are_pairs_guarded (v.pairs_of (map v.view_pair pairs.now)) }
+    ensures { result ≡ guardedness.are_pairs_guarded (views.pairs_of (map views.view_pair pairs.now)) }
 {
     'pairs: for pair in pairs {
         if !(is_expr_guarded(&pair.0) && is_expr_guarded(&pair.1)) {
@@ -100,7 +100,7 @@ fn are_pairs_guarded(pairs: &[(Expr, Expr)]) -> bool
 
 #[cycle(is_expr_guarded)]
 fn are_tests_guarded(tests: &[(Test, Expr)]) -> bool
-    ensures { result ≡ g.are_tests_guarded (v.tests_of (map v.view_test tests.now)) }
+    ensures { result ≡ guardedness.are_tests_guarded (views.tests_of (map views.view_test tests.now)) }
 {
     'tests: for test in tests {
         if !is_expr_guarded(&test.1) {
@@ -112,7 +112,7 @@ fn are_tests_guarded(tests: &[(Test, Expr)]) -> bool
 
 #[cycle(is_expr_guarded)]
 fn are_operands_guarded(operands: &[(BinOp, Expr)]) -> bool
-    ensures { result ≡ g.are_ops_guarded (v.ops_of (map v.view_op operands.now)) }
+    ensures { result ≡ guardedness.are_ops_guarded (views.ops_of (map views.view_op operands.now)) }
 {
     'operands: for operand in operands {
         if !is_expr_guarded(&operand.1) {
@@ -124,14 +124,14 @@ fn are_operands_guarded(operands: &[(BinOp, Expr)]) -> bool
 
 #[cycle(is_expr_guarded)]
 fn is_clause_guarded(clause: &Clause) -> bool
-    ensures { result ≡ g.is_clause_guarded (v.view_clause clause.now) }
+    ensures { result ≡ guardedness.is_clause_guarded (views.view_clause clause.now) }
 {
     is_walk_guarded(&clause.walk) && are_exprs_guarded(&clause.tests)
 }
 
 #[cycle(is_expr_guarded)]
 fn are_clauses_guarded(clauses: &[Clause]) -> bool
-    ensures { result ≡ g.are_clauses_guarded (v.clauses_of (map v.view_clause clauses.now)) }
+    ensures { result ≡ guardedness.are_clauses_guarded (views.clauses_of (map views.view_clause clauses.now)) }
 {
     'clauses: for clause in clauses {
         if !is_clause_guarded(clause) {
@@ -144,7 +144,7 @@ fn are_clauses_guarded(clauses: &[Clause]) -> bool
 /// Whether no form stands without its guard in what a loop goes over, nor the going over it.
 #[cycle(is_expr_guarded)]
 pub fn is_walk_guarded(walk: &Walk) -> bool
-    ensures { result ≡ g.is_walk_guarded (v.view_walk walk.now) }
+    ensures { result ≡ guardedness.is_walk_guarded (views.view_walk walk.now) }
 {
     is_target_guarded(&walk.target)
         && is_expr_guarded(&walk.of)
@@ -153,7 +153,7 @@ pub fn is_walk_guarded(walk: &Walk) -> bool
 
 /// Whether the mark is that of going over an iterable whose elements are assigned to the target.
 fn is_walk_marked(target: &Target, mark: &Option<Guard>) -> bool
-    ensures { result ≡ g.is_walk_marked (v.view_target target.now) mark.now }
+    ensures { result ≡ guardedness.is_walk_marked (views.view_target target.now) mark.now }
 {
     is_mark(walk_guard(target), mark)
 }
@@ -161,7 +161,7 @@ fn is_walk_marked(target: &Target, mark: &Option<Guard>) -> bool
 /// Whether no place in the target stands without its guard.
 #[cycle(is_expr_guarded)]
 pub fn is_target_guarded(target: &Target) -> bool
-    ensures { result ≡ g.is_target_guarded (v.view_target target.now) }
+    ensures { result ≡ guardedness.is_target_guarded (views.view_target target.now) }
 {
     match target {
         Target::Place(place) => is_place_guarded(place),
@@ -171,7 +171,7 @@ pub fn is_target_guarded(target: &Target) -> bool
 
 #[cycle(is_expr_guarded)]
 fn are_targets_guarded(targets: &[Target]) -> bool
-    ensures { result ≡ g.are_targets_guarded (v.targets_of (map v.view_target targets.now)) }
+    ensures { result ≡ guardedness.are_targets_guarded (views.targets_of (map views.view_target targets.now)) }
 {
     'targets: for target in targets {
         if !is_target_guarded(target) {
@@ -184,7 +184,7 @@ fn are_targets_guarded(targets: &[Target]) -> bool
 /// Whether the place that is assigned or deleted has its guard, and no form in it stands without one.
 #[cycle(is_expr_guarded)]
 pub fn is_place_guarded(place: &Place) -> bool
-    ensures { result ≡ g.is_place_guarded (v.view_place place.now) }
+    ensures { result ≡ guardedness.is_place_guarded (views.view_place place.now) }
 {
     match place {
         Place::Name(_) => true,
@@ -198,14 +198,14 @@ pub fn is_place_guarded(place: &Place) -> bool
 /// Whether no form stands without its guard in the defaults of parameters.
 #[cycle(is_expr_guarded)]
 pub fn are_params_guarded(params: &Params) -> bool
-    ensures { result ≡ g.are_params_guarded (v.view_params params.now) }
+    ensures { result ≡ guardedness.are_params_guarded (views.view_params params.now) }
 {
     are_defaults_guarded(&params.plain)
 }
 
 #[cycle(is_expr_guarded)]
 fn are_defaults_guarded(plain: &[(Named, Option<Expr>)]) -> bool
-    ensures { result ≡ g.is_plain_guarded (v.plain_of (map v.view_plain plain.now)) }
+    ensures { result ≡ guardedness.is_plain_guarded (views.plain_of (map views.view_plain plain.now)) }
 {
     'plain: for param in plain {
         if let Some(default) = &param.1
@@ -220,7 +220,7 @@ fn are_defaults_guarded(plain: &[(Named, Option<Expr>)]) -> bool
 #[cycle(is_expr_guarded)]
 #[tactic(auto, using(rp_tree::proofs::ExpressionEquations::trailer_slice))]
 fn is_trailer_guarded(trailer: &Trailer) -> bool
-    ensures { result ≡ g.is_trailer_guarded (v.view_trailer trailer.now) }
+    ensures { result ≡ guardedness.is_trailer_guarded (views.view_trailer trailer.now) }
 {
     match trailer {
         Trailer::Attr(_, guard) => is_mark(Guard::GetAttr, guard),
@@ -233,16 +233,16 @@ fn is_trailer_guarded(trailer: &Trailer) -> bool
 #[cycle(is_expr_guarded)]
 fn is_slice_guarded(slice: &Slice) -> bool
     ensures { result
-        ≡ (g.is_maybe_guarded (v.view_slice slice.now).0
-        && g.is_maybe_guarded (v.view_slice slice.now).1
-        && g.is_maybe_guarded (v.view_slice slice.now).2) }
+        ≡ (guardedness.is_maybe_guarded (views.view_slice slice.now).0
+        && guardedness.is_maybe_guarded (views.view_slice slice.now).1
+        && guardedness.is_maybe_guarded (views.view_slice slice.now).2) }
 {
     is_option_guarded(&slice.from) && is_option_guarded(&slice.to) && is_option_guarded(&slice.step)
 }
 
 /// Whether no argument of a call stands behind `*` or `**`, or the call has its guard.
 fn is_call_guarded(args: &[Arg], mark: &Option<Guard>) -> bool
-    ensures { result ≡ g.is_call_guarded (v.args_of (map v.view_arg args.now)) mark.now }
+    ensures { result ≡ guardedness.is_call_guarded (views.args_of (map views.view_arg args.now)) mark.now }
 {
     'arguments: for arg in args {
         match arg {
@@ -257,7 +257,7 @@ fn is_call_guarded(args: &[Arg], mark: &Option<Guard>) -> bool
 
 #[cycle(is_expr_guarded)]
 fn are_trailers_guarded(trailers: &[Trailer]) -> bool
-    ensures { result ≡ g.are_trailers_guarded (v.trailers_of (map v.view_trailer trailers.now)) }
+    ensures { result ≡ guardedness.are_trailers_guarded (views.trailers_of (map views.view_trailer trailers.now)) }
 {
     'trailers: for trailer in trailers {
         if !is_trailer_guarded(trailer) {
@@ -269,7 +269,7 @@ fn are_trailers_guarded(trailers: &[Trailer]) -> bool
 
 #[cycle(is_expr_guarded)]
 fn is_arg_guarded(arg: &Arg) -> bool
-    ensures { result ≡ g.is_arg_guarded (v.view_arg arg.now) }
+    ensures { result ≡ guardedness.is_arg_guarded (views.view_arg arg.now) }
 {
     match arg {
         Arg::Plain(expr) | Arg::Star(expr) | Arg::Key(_, expr) | Arg::Stars(expr) => {
@@ -280,7 +280,7 @@ fn is_arg_guarded(arg: &Arg) -> bool
 
 #[cycle(is_expr_guarded)]
 fn are_args_guarded(args: &[Arg]) -> bool
-    ensures { result ≡ g.are_args_guarded (v.args_of (map v.view_arg args.now)) }
+    ensures { result ≡ guardedness.are_args_guarded (views.args_of (map views.view_arg args.now)) }
 {
     'arguments: for arg in args {
         if !is_arg_guarded(arg) {

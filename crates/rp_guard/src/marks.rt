@@ -1,8 +1,8 @@
 //! The marks of expressions and of their parts, set in place.
 
 ghost use Rattle.std.specs.Prelude.{◌≡◌, map, option_map};
-ghost use Rattle.rp_tree.specs.ExpressionViews as v;
-ghost use Rattle.rp_tree.specs.Maps as m;
+ghost use Rattle.rp_tree.specs.ExpressionViews as views;
+ghost use Rattle.rp_tree.specs.Maps as maps;
 ghost use Rattle.rp_tree.specs.Marks.{table};
 
 use crate::table::{call_guard, walk_guard};
@@ -14,7 +14,7 @@ use rp_tree::{
 /// Sets the mark of each form in the expression, as the table of guards has it.
 #[cycle(mark_expr)]
 pub fn mark_expr(expr: &mut Expr)
-    ensures { v.view_expr expr.new ≡ m.map_expr table (v.view_expr expr.old) }
+    ensures { views.view_expr expr.new ≡ maps.map_expr table (views.view_expr expr.old) }
 {
     mark_form(&mut expr.form);
 }
@@ -22,7 +22,7 @@ pub fn mark_expr(expr: &mut Expr)
 #[cycle(mark_expr)]
 #[tactic(auto, using(rp_tree::proofs::ExpressionEquations::variants))]
 fn mark_form(form: &mut ExprForm)
-    ensures { v.view_form form.new ≡ m.map_form table (v.view_form form.old) }
+    ensures { views.view_form form.new ≡ maps.map_form table (views.view_form form.old) }
 {
     match form {
         ExprForm::Name(_) => {}
@@ -76,7 +76,8 @@ fn mark_form(form: &mut ExprForm)
 /// Sets the marks in an expression that may be missing.
 #[cycle(mark_expr)]
 pub fn mark_option(expr: &mut Option<Expr>)
-    ensures { option_map v.view_expr expr.new ≡ option_map (m.map_expr table) (option_map v.view_expr expr.old) }
+    ensures { option_map views.view_expr expr.new
+        ≡ option_map (maps.map_expr table) (option_map views.view_expr expr.old) }
 {
     if let Some(expr) = expr {
         mark_expr(expr);
@@ -85,7 +86,8 @@ pub fn mark_option(expr: &mut Option<Expr>)
 
 #[cycle(mark_expr)]
 fn mark_exprs(exprs: &mut [Expr])
-    ensures { v.exprs_of (map v.view_expr exprs.new) ≡ m.map_exprs table (v.exprs_of (map v.view_expr exprs.old)) }
+    ensures { views.exprs_of (map views.view_expr exprs.new)
+        ≡ maps.map_exprs table (views.exprs_of (map views.view_expr exprs.old)) }
 {
     'exprs: for expr in exprs.iter_mut() {
         mark_expr(expr);
@@ -94,7 +96,8 @@ fn mark_exprs(exprs: &mut [Expr])
 
 #[cycle(mark_expr)]
 fn mark_pairs(pairs: &mut [(Expr, Expr)])
-    ensures { v.pairs_of (map v.view_pair pairs.new) ≡ m.map_pairs table (v.pairs_of (map v.view_pair pairs.old)) }
+    ensures { views.pairs_of (map views.view_pair pairs.new)
+        ≡ maps.map_pairs table (views.pairs_of (map views.view_pair pairs.old)) }
 {
     'pairs: for pair in pairs.iter_mut() {
         mark_expr(&mut pair.0);
@@ -104,7 +107,8 @@ fn mark_pairs(pairs: &mut [(Expr, Expr)])
 
 #[cycle(mark_expr)]
 fn mark_tests(tests: &mut [(Test, Expr)])
-    ensures { v.tests_of (map v.view_test tests.new) ≡ m.map_tests table (v.tests_of (map v.view_test tests.old)) }
+    ensures { views.tests_of (map views.view_test tests.new)
+        ≡ maps.map_tests table (views.tests_of (map views.view_test tests.old)) }
 {
     'tests: for test in tests.iter_mut() {
         mark_expr(&mut test.1);
@@ -113,7 +117,8 @@ fn mark_tests(tests: &mut [(Test, Expr)])
 
 #[cycle(mark_expr)]
 fn mark_operands(operands: &mut [(BinOp, Expr)])
-    ensures { v.ops_of (map v.view_op operands.new) ≡ m.map_ops table (v.ops_of (map v.view_op operands.old)) }
+    ensures { views.ops_of (map views.view_op operands.new)
+        ≡ maps.map_ops table (views.ops_of (map views.view_op operands.old)) }
 {
     'operands: for operand in operands.iter_mut() {
         mark_expr(&mut operand.1);
@@ -122,8 +127,8 @@ fn mark_operands(operands: &mut [(BinOp, Expr)])
 
 #[cycle(mark_expr)]
 fn mark_clauses(clauses: &mut [Clause])
-    ensures { v.clauses_of (map v.view_clause clauses.new)
-        ≡ m.map_clauses table (v.clauses_of (map v.view_clause clauses.old)) }
+    ensures { views.clauses_of (map views.view_clause clauses.new)
+        ≡ maps.map_clauses table (views.clauses_of (map views.view_clause clauses.old)) }
 {
     'clauses: for clause in clauses.iter_mut() {
         mark_clause(clause);
@@ -132,7 +137,7 @@ fn mark_clauses(clauses: &mut [Clause])
 
 #[cycle(mark_expr)]
 fn mark_clause(clause: &mut Clause)
-    ensures { v.view_clause clause.new ≡ m.map_clause table (v.view_clause clause.old) }
+    ensures { views.view_clause clause.new ≡ maps.map_clause table (views.view_clause clause.old) }
 {
     mark_walk(&mut clause.walk);
     mark_exprs(&mut clause.tests);
@@ -141,7 +146,7 @@ fn mark_clause(clause: &mut Clause)
 /// Sets the marks in what a loop goes over, and the mark of going over it.
 #[cycle(mark_expr)]
 pub fn mark_walk(walk: &mut Walk)
-    ensures { v.view_walk walk.new ≡ m.map_walk table (v.view_walk walk.old) }
+    ensures { views.view_walk walk.new ≡ maps.map_walk table (views.view_walk walk.old) }
 {
     walk.guard = Some(walk_guard(&walk.target));
     mark_target(&mut walk.target);
@@ -151,7 +156,7 @@ pub fn mark_walk(walk: &mut Walk)
 /// Sets the marks of the places in a target.
 #[cycle(mark_expr)]
 pub fn mark_target(target: &mut Target)
-    ensures { v.view_target target.new ≡ m.map_target table (v.view_target target.old) }
+    ensures { views.view_target target.new ≡ maps.map_target table (views.view_target target.old) }
 {
     match target {
         Target::Place(place) => mark_place(place),
@@ -161,8 +166,8 @@ pub fn mark_target(target: &mut Target)
 
 #[cycle(mark_expr)]
 fn mark_targets(targets: &mut [Target])
-    ensures { v.targets_of (map v.view_target targets.new)
-        ≡ m.map_targets table (v.targets_of (map v.view_target targets.old)) }
+    ensures { views.targets_of (map views.view_target targets.new)
+        ≡ maps.map_targets table (views.targets_of (map views.view_target targets.old)) }
 {
     'targets: for target in targets.iter_mut() {
         mark_target(target);
@@ -172,7 +177,7 @@ fn mark_targets(targets: &mut [Target])
 /// Sets the mark of a place that is assigned or deleted, and the marks in it.
 #[cycle(mark_expr)]
 pub fn mark_place(place: &mut Place)
-    ensures { v.view_place place.new ≡ m.map_place table (v.view_place place.old) }
+    ensures { views.view_place place.new ≡ maps.map_place table (views.view_place place.old) }
 {
     match place {
         Place::Name(_) => {}
@@ -192,7 +197,7 @@ pub fn mark_place(place: &mut Place)
 #[cycle(mark_expr)]
 #[tactic(auto, using(crate::proofs::Lists::names_option_kept))]
 pub fn mark_params(params: &mut Params)
-    ensures { v.view_params params.new ≡ m.map_params table (v.view_params params.old) }
+    ensures { views.view_params params.new ≡ maps.map_params table (views.view_params params.old) }
 {
     mark_defaults(&mut params.plain);
 }
@@ -200,14 +205,15 @@ pub fn mark_params(params: &mut Params)
 /// Sets the marks in the defaults of a lambda's parameters.
 #[cycle(mark_expr)]
 fn mark_boxed_params(params: &mut Box<Params>)
-    ensures { v.view_params params.new.value ≡ m.map_params table (v.view_params params.old.value) }
+    ensures { views.view_params params.new.value ≡ maps.map_params table (views.view_params params.old.value) }
 {
     mark_params(params);
 }
 
 #[cycle(mark_expr)]
 fn mark_defaults(plain: &mut [(Named, Option<Expr>)])
-    ensures { v.plain_of (map v.view_plain plain.new) ≡ m.map_plain table (v.plain_of (map v.view_plain plain.old)) }
+    ensures { views.plain_of (map views.view_plain plain.new)
+        ≡ maps.map_plain table (views.plain_of (map views.view_plain plain.old)) }
 {
     'plain: for param in plain.iter_mut() {
         if let Some(default) = &mut param.1 {
@@ -219,7 +225,7 @@ fn mark_defaults(plain: &mut [(Named, Option<Expr>)])
 #[cycle(mark_expr)]
 #[tactic(auto, using(rp_tree::proofs::ExpressionEquations::trailer_slice))]
 fn mark_trailer(trailer: &mut Trailer)
-    ensures { v.view_trailer trailer.new ≡ m.map_trailer table (v.view_trailer trailer.old) }
+    ensures { views.view_trailer trailer.new ≡ maps.map_trailer table (views.view_trailer trailer.old) }
 {
     match trailer {
         Trailer::Attr(_, guard) => *guard = Some(Guard::GetAttr),
@@ -241,9 +247,9 @@ fn mark_trailer(trailer: &mut Trailer)
 #[cycle(mark_expr)]
 #[tactic(auto, using(crate::proofs::Lists::maybe_of_map))]
 fn mark_slice(slice: &mut Slice)
-    ensures from { (v.view_slice slice.new).0 ≡ m.map_maybe table (v.view_slice slice.old).0 }
-    ensures to { (v.view_slice slice.new).1 ≡ m.map_maybe table (v.view_slice slice.old).1 }
-    ensures step { (v.view_slice slice.new).2 ≡ m.map_maybe table (v.view_slice slice.old).2 }
+    ensures from { (views.view_slice slice.new).0 ≡ maps.map_maybe table (views.view_slice slice.old).0 }
+    ensures to { (views.view_slice slice.new).1 ≡ maps.map_maybe table (views.view_slice slice.old).1 }
+    ensures step { (views.view_slice slice.new).2 ≡ maps.map_maybe table (views.view_slice slice.old).2 }
 {
     mark_option(&mut slice.from);
     mark_option(&mut slice.to);
@@ -252,8 +258,8 @@ fn mark_slice(slice: &mut Slice)
 
 #[cycle(mark_expr)]
 fn mark_trailers(trailers: &mut [Trailer])
-    ensures { v.trailers_of (map v.view_trailer trailers.new)
-        ≡ m.map_trailers table (v.trailers_of (map v.view_trailer trailers.old)) }
+    ensures { views.trailers_of (map views.view_trailer trailers.new)
+        ≡ maps.map_trailers table (views.trailers_of (map views.view_trailer trailers.old)) }
 {
     'trailers: for trailer in trailers.iter_mut() {
         mark_trailer(trailer);
@@ -262,7 +268,7 @@ fn mark_trailers(trailers: &mut [Trailer])
 
 #[cycle(mark_expr)]
 fn mark_arg(arg: &mut Arg)
-    ensures { v.view_arg arg.new ≡ m.map_arg table (v.view_arg arg.old) }
+    ensures { views.view_arg arg.new ≡ maps.map_arg table (views.view_arg arg.old) }
 {
     match arg {
         Arg::Plain(expr) => mark_expr(expr),
@@ -274,7 +280,8 @@ fn mark_arg(arg: &mut Arg)
 
 #[cycle(mark_expr)]
 fn mark_args(args: &mut [Arg])
-    ensures { v.args_of (map v.view_arg args.new) ≡ m.map_args table (v.args_of (map v.view_arg args.old)) }
+    ensures { views.args_of (map views.view_arg args.new)
+        ≡ maps.map_args table (views.args_of (map views.view_arg args.old)) }
 {
     'arguments: for arg in args.iter_mut() {
         mark_arg(arg);

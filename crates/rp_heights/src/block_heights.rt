@@ -2,8 +2,8 @@
 
 ghost use Rattle.std.specs.Prelude.{◌≡◌, map, option_map};
 ghost use Rattle.rp_tree.specs.ExpressionViews.{view_expr, view_place};
-ghost use Rattle.rp_tree.specs.StatementViews as v;
-ghost use Rattle.rp_tree.specs.Heights as h;
+ghost use Rattle.rp_tree.specs.StatementViews as stmt_views;
+ghost use Rattle.rp_tree.specs.Heights as tree_heights;
 ghost use Rattle.rp_tree.specs.Heights.{capped};
 
 use crate::heights::{above, expr_height, params_height, place_height, target_height, walk_height};
@@ -16,14 +16,14 @@ use rp_tree::{Branch, Except, Expr, Place, Stmt, StmtForm, Tree, stmts_of};
 /// height 1, another 1 more than the greatest height of its parts; what is no node, as a branch, a handler, a
 /// clause, a parameter, an argument or a trailer, leaves its parts to the node around it.
 pub fn height(tree: &Tree) -> u32
-    ensures { result ≡ capped (h.stmts_height (v.view_tree tree.now)) }
+    ensures { result ≡ capped (tree_heights.stmts_height (stmt_views.view_tree tree.now)) }
 {
     block_height(&tree.body)
 }
 
 #[tactic(auto, unfolding(rp_tree::specs::Heights::capped))]
 fn option_height(expr: &Option<Expr>) -> u32
-    ensures { result ≡ capped (h.option_height (option_map view_expr expr.now)) }
+    ensures { result ≡ capped (tree_heights.option_height (option_map view_expr expr.now)) }
 {
     match expr {
         None => 0,
@@ -33,7 +33,7 @@ fn option_height(expr: &Option<Expr>) -> u32
 
 #[tactic(auto, unfolding(rp_tree::specs::Heights::capped))]
 fn places_height(places: &[Place]) -> u32
-    ensures { result ≡ capped (h.places_height (map view_place places.now)) }
+    ensures { result ≡ capped (tree_heights.places_height (map view_place places.now)) }
 {
     let mut greatest = 0;
     'places: for place in places {
@@ -46,7 +46,7 @@ fn places_height(places: &[Place]) -> u32
 /// targets in it, and the greatest `u32` where it is above that.
 #[cycle(block_height)]
 pub fn stmt_height(stmt: &Stmt) -> u32
-    ensures { result ≡ capped (h.stmt_height (v.view_stmt stmt.now)) }
+    ensures { result ≡ capped (tree_heights.stmt_height (stmt_views.view_stmt stmt.now)) }
 {
     above(stmt_form_height(&stmt.form))
 }
@@ -54,7 +54,7 @@ pub fn stmt_height(stmt: &Stmt) -> u32
 #[cycle(block_height)]
 #[tactic(auto, using(rp_tree::proofs::StatementEquations::variants), unfolding(rp_tree::specs::Heights::capped))]
 fn stmt_form_height(form: &StmtForm) -> u32
-    ensures { result ≡ capped (h.stmt_form_height (v.view_stmt_form form.now)) }
+    ensures { result ≡ capped (tree_heights.stmt_form_height (stmt_views.view_stmt_form form.now)) }
 {
     match form {
         StmtForm::Expr(expr) => expr_height(expr),
@@ -89,7 +89,7 @@ fn stmt_form_height(form: &StmtForm) -> u32
 #[cycle(block_height)]
 #[tactic(auto, unfolding(rp_tree::specs::Heights::capped))]
 fn block_height(stmts: &[Stmt]) -> u32
-    ensures { result ≡ capped (h.stmts_height (v.view_stmts stmts.now)) }
+    ensures { result ≡ capped (tree_heights.stmts_height (stmt_views.view_stmts stmts.now)) }
 {
     let mut greatest = 0;
     'stmts: for stmt in stmts {
@@ -101,7 +101,8 @@ fn block_height(stmts: &[Stmt]) -> u32
 #[cycle(block_height)]
 #[tactic(auto, unfolding(rp_tree::specs::Heights::capped))]
 fn branches_height(branches: &[Branch]) -> u32
-    ensures { result ≡ capped (h.branches_height (v.branches_of (map v.view_branch branches.now))) }
+    ensures { result
+        ≡ capped (tree_heights.branches_height (stmt_views.branches_of (map stmt_views.view_branch branches.now))) }
 {
     let mut greatest = 0;
     'branches: for branch in branches {
@@ -113,7 +114,7 @@ fn branches_height(branches: &[Branch]) -> u32
 #[cycle(block_height)]
 #[tactic(auto, unfolding(rp_tree::specs::Heights::capped))]
 fn handler_height(handler: &Except) -> u32
-    ensures { result ≡ capped (h.except_height (v.view_except handler.now)) }
+    ensures { result ≡ capped (tree_heights.except_height (stmt_views.view_except handler.now)) }
 {
     option_height(&handler.kind).max(block_height(&handler.body))
 }
@@ -121,7 +122,8 @@ fn handler_height(handler: &Except) -> u32
 #[cycle(block_height)]
 #[tactic(auto, unfolding(rp_tree::specs::Heights::capped))]
 fn handlers_height(handlers: &[Except]) -> u32
-    ensures { result ≡ capped (h.excepts_height (v.excepts_of (map v.view_except handlers.now))) }
+    ensures { result
+        ≡ capped (tree_heights.excepts_height (stmt_views.excepts_of (map stmt_views.view_except handlers.now))) }
 {
     let mut greatest = 0;
     'handlers: for handler in handlers {

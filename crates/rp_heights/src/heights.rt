@@ -1,8 +1,8 @@
 //! The heights of expressions and of their parts.
 
 ghost use Rattle.std.specs.Prelude.{◌≡◌, ℕ, suc, max, map, option_map};
-ghost use Rattle.rp_tree.specs.ExpressionViews as v;
-ghost use Rattle.rp_tree.specs.Heights as h;
+ghost use Rattle.rp_tree.specs.ExpressionViews as views;
+ghost use Rattle.rp_tree.specs.Heights as tree_heights;
 ghost use Rattle.rp_tree.specs.Heights.{capped};
 
 use rp_base::BinOp;
@@ -22,7 +22,7 @@ pub fn above(height: u32) -> u32
 /// that.
 #[cycle(expr_height)]
 pub fn expr_height(expr: &Expr) -> u32
-    ensures { result ≡ capped (h.expr_height (v.view_expr expr.now)) }
+    ensures { result ≡ capped (tree_heights.expr_height (views.view_expr expr.now)) }
 {
     above(form_height(&expr.form))
 }
@@ -30,7 +30,7 @@ pub fn expr_height(expr: &Expr) -> u32
 #[cycle(expr_height)]
 #[tactic(auto, using(rp_tree::proofs::ExpressionEquations::variants), unfolding(rp_tree::specs::Heights::capped))]
 fn form_height(form: &ExprForm) -> u32
-    ensures { result ≡ capped (h.form_height (v.view_form form.now)) }
+    ensures { result ≡ capped (tree_heights.form_height (views.view_form form.now)) }
 {
     match form {
         ExprForm::Name(_) | ExprForm::Int(_) | ExprForm::Text(_) | ExprForm::Const(_) => 0,
@@ -59,7 +59,7 @@ fn form_height(form: &ExprForm) -> u32
 #[cycle(expr_height)]
 #[tactic(auto, unfolding(rp_tree::specs::Heights::capped))]
 fn exprs_height(exprs: &[Expr]) -> u32
-    ensures { result ≡ capped (h.exprs_height (v.exprs_of (map v.view_expr exprs.now))) }
+    ensures { result ≡ capped (tree_heights.exprs_height (views.exprs_of (map views.view_expr exprs.now))) }
 {
     let mut greatest = 0;
     'exprs: for expr in exprs {
@@ -71,7 +71,7 @@ fn exprs_height(exprs: &[Expr]) -> u32
 #[cycle(expr_height)]
 #[tactic(auto, unfolding(rp_tree::specs::Heights::capped))]
 fn maybe_height(expr: &Option<Expr>) -> u32
-    ensures { result ≡ capped (h.maybe_height (v.maybe_of (option_map v.view_expr expr.now))) }
+    ensures { result ≡ capped (tree_heights.maybe_height (views.maybe_of (option_map views.view_expr expr.now))) }
 {
     match expr {
         None => 0,
@@ -82,7 +82,7 @@ fn maybe_height(expr: &Option<Expr>) -> u32
 #[cycle(expr_height)]
 #[tactic(auto, unfolding(rp_tree::specs::Heights::capped))]
 fn pairs_height(pairs: &[(Expr, Expr)]) -> u32
-    ensures { result ≡ capped (h.pairs_height (v.pairs_of (map v.view_pair pairs.now))) }
+    ensures { result ≡ capped (tree_heights.pairs_height (views.pairs_of (map views.view_pair pairs.now))) }
 {
     let mut greatest = 0;
     'pairs: for pair in pairs {
@@ -94,7 +94,7 @@ fn pairs_height(pairs: &[(Expr, Expr)]) -> u32
 #[cycle(expr_height)]
 #[tactic(auto, unfolding(rp_tree::specs::Heights::capped))]
 fn tests_height(tests: &[(Test, Expr)]) -> u32
-    ensures { result ≡ capped (h.tests_height (v.tests_of (map v.view_test tests.now))) }
+    ensures { result ≡ capped (tree_heights.tests_height (views.tests_of (map views.view_test tests.now))) }
 {
     let mut greatest = 0;
     'tests: for test in tests {
@@ -106,7 +106,7 @@ fn tests_height(tests: &[(Test, Expr)]) -> u32
 #[cycle(expr_height)]
 #[tactic(auto, unfolding(rp_tree::specs::Heights::capped))]
 fn operands_height(operands: &[(BinOp, Expr)]) -> u32
-    ensures { result ≡ capped (h.ops_height (v.ops_of (map v.view_op operands.now))) }
+    ensures { result ≡ capped (tree_heights.ops_height (views.ops_of (map views.view_op operands.now))) }
 {
     let mut greatest = 0;
     'operands: for operand in operands {
@@ -118,7 +118,7 @@ fn operands_height(operands: &[(BinOp, Expr)]) -> u32
 #[cycle(expr_height)]
 #[tactic(auto, unfolding(rp_tree::specs::Heights::capped))]
 fn clauses_height(clauses: &[Clause]) -> u32
-    ensures { result ≡ capped (h.clauses_height (v.clauses_of (map v.view_clause clauses.now))) }
+    ensures { result ≡ capped (tree_heights.clauses_height (views.clauses_of (map views.view_clause clauses.now))) }
 {
     let mut greatest = 0;
     'clauses: for clause in clauses {
@@ -131,7 +131,7 @@ fn clauses_height(clauses: &[Clause]) -> u32
 #[cycle(expr_height)]
 #[tactic(auto, unfolding(rp_tree::specs::Heights::capped))]
 pub fn walk_height(walk: &Walk) -> u32
-    ensures { result ≡ capped (h.walk_height (v.view_walk walk.now)) }
+    ensures { result ≡ capped (tree_heights.walk_height (views.view_walk walk.now)) }
 {
     target_height(&walk.target).max(expr_height(&walk.of))
 }
@@ -140,7 +140,7 @@ pub fn walk_height(walk: &Walk) -> u32
 #[cycle(expr_height)]
 #[tactic(auto, unfolding(rp_tree::specs::Heights::capped))]
 pub fn target_height(target: &Target) -> u32
-    ensures { result ≡ capped (h.target_height (v.view_target target.now)) }
+    ensures { result ≡ capped (tree_heights.target_height (views.view_target target.now)) }
 {
     match target {
         Target::Place(place) => place_height(place),
@@ -151,7 +151,7 @@ pub fn target_height(target: &Target) -> u32
 #[cycle(expr_height)]
 #[tactic(auto, unfolding(rp_tree::specs::Heights::capped))]
 fn targets_height(targets: &[Target]) -> u32
-    ensures { result ≡ capped (h.targets_height (v.targets_of (map v.view_target targets.now))) }
+    ensures { result ≡ capped (tree_heights.targets_height (views.targets_of (map views.view_target targets.now))) }
 {
     let mut greatest = 0;
     'targets: for target in targets {
@@ -164,7 +164,7 @@ fn targets_height(targets: &[Target]) -> u32
 #[cycle(expr_height)]
 #[tactic(auto, unfolding(rp_tree::specs::Heights::capped))]
 pub fn place_height(place: &Place) -> u32
-    ensures { result ≡ capped (h.place_height (v.view_place place.now)) }
+    ensures { result ≡ capped (tree_heights.place_height (views.view_place place.now)) }
 {
     match place {
         Place::Name(_) => 1,
@@ -178,7 +178,7 @@ pub fn place_height(place: &Place) -> u32
 #[cycle(expr_height)]
 #[tactic(auto, unfolding(rp_tree::specs::Heights::capped))]
 pub fn params_height(params: &Params) -> u32
-    ensures { result ≡ capped (h.params_height (v.view_params params.now)) }
+    ensures { result ≡ capped (tree_heights.params_height (views.view_params params.now)) }
 {
     defaults_height(&params.plain)
 }
@@ -186,7 +186,7 @@ pub fn params_height(params: &Params) -> u32
 #[cycle(expr_height)]
 #[tactic(auto, unfolding(rp_tree::specs::Heights::capped))]
 fn defaults_height(plain: &[(Named, Option<Expr>)]) -> u32
-    ensures { result ≡ capped (h.plain_height (v.plain_of (map v.view_plain plain.now))) }
+    ensures { result ≡ capped (tree_heights.plain_height (views.plain_of (map views.view_plain plain.now))) }
 {
     let mut greatest = 0;
     'plain: for param in plain {
@@ -200,7 +200,7 @@ fn defaults_height(plain: &[(Named, Option<Expr>)]) -> u32
 #[cycle(expr_height)]
 #[tactic(auto, unfolding(rp_tree::specs::Heights::capped))]
 fn trailer_height(trailer: &Trailer) -> u32
-    ensures { result ≡ capped (h.trailer_height (v.view_trailer trailer.now)) }
+    ensures { result ≡ capped (tree_heights.trailer_height (views.view_trailer trailer.now)) }
 {
     match trailer {
         Trailer::Attr(_, _) => 0,
@@ -213,8 +213,9 @@ fn trailer_height(trailer: &Trailer) -> u32
 #[cycle(expr_height)]
 #[tactic(auto, unfolding(rp_tree::specs::Heights::capped))]
 fn slice_height(slice: &Slice) -> u32
-    ensures { result ≡ capped (max (h.maybe_height (v.view_slice slice.now).0)
-        (max (h.maybe_height (v.view_slice slice.now).1) (h.maybe_height (v.view_slice slice.now).2))) }
+    ensures { result ≡ capped (max (tree_heights.maybe_height (views.view_slice slice.now).0)
+        (max (tree_heights.maybe_height (views.view_slice slice.now).1)
+        (tree_heights.maybe_height (views.view_slice slice.now).2))) }
 {
     maybe_height(&slice.from).max(maybe_height(&slice.to).max(maybe_height(&slice.step)))
 }
@@ -222,7 +223,7 @@ fn slice_height(slice: &Slice) -> u32
 #[cycle(expr_height)]
 #[tactic(auto, unfolding(rp_tree::specs::Heights::capped))]
 fn trailers_height(trailers: &[Trailer]) -> u32
-    ensures { result ≡ capped (h.trailers_height (v.trailers_of (map v.view_trailer trailers.now))) }
+    ensures { result ≡ capped (tree_heights.trailers_height (views.trailers_of (map views.view_trailer trailers.now))) }
 {
     let mut greatest = 0;
     'trailers: for trailer in trailers {
@@ -233,7 +234,7 @@ fn trailers_height(trailers: &[Trailer]) -> u32
 
 #[cycle(expr_height)]
 fn arg_height(arg: &Arg) -> u32
-    ensures { result ≡ capped (h.arg_height (v.view_arg arg.now)) }
+    ensures { result ≡ capped (tree_heights.arg_height (views.view_arg arg.now)) }
 {
     match arg {
         Arg::Plain(expr) | Arg::Star(expr) | Arg::Key(_, expr) | Arg::Stars(expr) => {
@@ -245,7 +246,7 @@ fn arg_height(arg: &Arg) -> u32
 #[cycle(expr_height)]
 #[tactic(auto, unfolding(rp_tree::specs::Heights::capped))]
 fn args_height(args: &[Arg]) -> u32
-    ensures { result ≡ capped (h.args_height (v.args_of (map v.view_arg args.now))) }
+    ensures { result ≡ capped (tree_heights.args_height (views.args_of (map views.view_arg args.now))) }
 {
     let mut greatest = 0;
     'args: for arg in args {

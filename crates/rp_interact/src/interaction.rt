@@ -19,7 +19,7 @@ use crate::reasons::Reasons;
 use crate::who_fault::WhoFault;
 use lru::LruCache;
 use rp_base::Text;
-use rp_decl::{Decl, Perm, PrincipalDecl};
+use rp_decl::{Decl, Perm, PrincipalDecl, is_public};
 use std::alloc::{AllocError, Global};
 use std::marker::Model;
 use std::num::NonZeroUsize;
@@ -222,12 +222,6 @@ fn public_place(permissions: &[Text]) -> Option<usize>
     ensures { result ≡ position (λ t. same_text t zope_public) permissions.now }
 {
     permissions.iter().position(|id| is_public(id))
-}
-
-fn is_public(id: &Text) -> bool
-    ensures { result ≡ same_text id.now zope_public }
-{
-    id.is("zope.Public")
 }
 
 /// Whether each of them has the permission, where not everybody has it.

@@ -15,7 +15,7 @@ ghost use Rattle.rp_ops.specs.Outcome.{Meets, on_found, state_of};
 ghost use Rattle.rp_items.specs.Items.{changed, content_del, content_set, del_item, entry_put, missing_key, no_items};
 ghost use Rattle.rp_items.specs.Items.{place_named, set_item, without_rock};
 
-use crate::missing::missing_key;
+use crate::key_error::missing_key;
 use crate::places::place_named;
 use rp_base::{Oid, OpEnd, Rock, Value};
 use rp_ops::Refusal;

@@ -11,9 +11,9 @@ ghost use Rattle.rp_ops.specs.Outcome.{Meets, State, gives, on_found, state_of};
 ghost use Rattle.rp_items.specs.Items.{character_at, content_item, elements_item, item, missing_key, no_items};
 ghost use Rattle.rp_items.specs.Items.{place_named, rock_item};
 
+use crate::key_error::missing_key;
 use crate::lending::lent;
 use crate::letters::character_of;
-use crate::missing::missing_key;
 use crate::places::place_named;
 use rp_base::{Oid, OpEnd, Rock, Text, Value};
 use rp_ops::{Refusal, new_character};

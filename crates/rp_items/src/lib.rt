@@ -3,15 +3,15 @@
 
 mod item_writers;
 mod items;
+mod key_error;
 mod lending;
 mod letters;
-mod missing;
 mod places;
 mod slices;
 mod spans;
 
 pub use item_writers::{del_item, set_item};
 pub use items::item;
-pub use missing::missing_key;
+pub use key_error::missing_key;
 pub use slices::slice;
 pub use spans::SliceParts;

@@ -27,7 +27,7 @@ use Rattle.rp_machine.proofs.Places.{position-any}
 use Rattle.rp_machine.specs.Globals.{TellsPlaces, placed_names}
 use Rattle.rp_machine.specs.Store.{global_names}
 use Rattle.rp_store.specs.Key.{same_name}
-use Rattle.rp_load.specs.Load.{Fault, expose, fault_of, is_object_run, is_run, not_yet, unbound}
+use Rattle.rp_load.specs.Load.{Fault, expose, fault_of, is_plain, is_plain_object, not_yet, unbound}
 
 pub map-through : {A B C : Type 0} (f : A → B) (g : B → C) (xs : List A) → map g (map f xs) ≡ map (λ x. g (f x)) xs
 map-through f g [] = refl
@@ -74,14 +74,14 @@ unbound-step names known found next xs i d within unbound lesser =
     ap (λ o. lesser_of o (least tail)) lesser
     ∙ sym (ap (λ l. lesser_of (option_map (name_text names) found) (least l)) front ∙ least-step (option_map (name_text names) found) (word ∷ []) tail)
 
--- what is run of the objects is run of what they stand for
-pub all-run : (names : List (List ℕ)) (os : List ObjectDecl) → list_all (λ o. list_all (λ f. is_run (field_view f.1)) o.fields.items) os ≡ list_all is_object_run (map (object_view names) os)
-all-run names os = sym (list_all-map is_object_run (object_view names) os ∙ alike os)
+-- the fields of the objects are plain where those of what they stand for are
+pub all-plain : (names : List (List ℕ)) (os : List ObjectDecl) → list_all (λ o. list_all (λ f. is_plain (field_view f.1)) o.fields.items) os ≡ list_all is_plain_object (map (object_view names) os)
+all-plain names os = sym (list_all-map is_plain_object (object_view names) os ∙ alike os)
   where
-    alike : (os : List ObjectDecl) → list_all (λ o. is_object_run (object_view names o)) os ≡ list_all (λ o. list_all (λ f. is_run (field_view f.1)) o.fields.items) os
+    alike : (os : List ObjectDecl) → list_all (λ o. is_plain_object (object_view names o)) os ≡ list_all (λ o. list_all (λ f. is_plain (field_view f.1)) o.fields.items) os
     alike [] = refl
     alike (o ∷ os) =
-        let here = list_all-map (λ f. is_run f.1) (λ (f : Name × FieldDecl). (name_text names f.0, field_view f.1)) o.fields.items in
+        let here = list_all-map (λ f. is_plain f.1) (λ (f : Name × FieldDecl). (name_text names f.0, field_view f.1)) o.fields.items in
         let rest = alike os in
         λ k. here k && rest k
 
@@ -115,18 +115,14 @@ empty-chars bs utf8 = by bs (chars bs) (encodes-chars bs utf8)
 
 -- ---- which fault is told
 
+abbrev of_module : Declarations → Bool → Option Fault
+of_module d b = if b then option_map expose (least (unbound d)) else Some not_yet
+
 pub module-fault : (d : Declarations) → (length d.module_text == 0) ≡ false → Some not_yet ≡ fault_of d
-module-fault d h = sym (ap (λ b. if b then option_map_or (λ name. Some (expose name)) (least (unbound d)) (if list_all is_object_run d.objects then None else Some not_yet) else Some not_yet) h)
+module-fault d h = sym (ap (of_module d) h)
 
 pub expose-fault : (d : Declarations) (name : List ℕ) → (length d.module_text == 0) ≡ true → Some name ≡ least (unbound d) → Some (expose name) ≡ fault_of d
-expose-fault d name h found =
-    let rest : Option Fault = if list_all is_object_run d.objects then None else Some not_yet in
-    ap (λ o. option_map_or (λ name. Some (expose name)) o rest) found
-    ∙ sym (ap (λ b. if b then option_map_or (λ name. Some (expose name)) (least (unbound d)) rest else Some not_yet) h)
+expose-fault d name h found = ap (option_map expose) found ∙ sym (ap (of_module d) h)
 
-pub field-fault : (d : Declarations) (b : Bool) → (length d.module_text == 0) ≡ true → None ≡ least (unbound d) → list_all is_object_run d.objects ≡ b → (if b then None else Some not_yet) ≡ fault_of d
-field-fault d b h none runs =
-    let rest : Option Fault = if list_all is_object_run d.objects then None else Some not_yet in
-    sym (ap (λ r. if r then None else Some not_yet) runs)
-    ∙ ap (λ o. option_map_or (λ name. Some (expose name)) o rest) none
-    ∙ sym (ap (λ b. if b then option_map_or (λ name. Some (expose name)) (least (unbound d)) rest else Some not_yet) h)
+pub no-fault : (d : Declarations) → (length d.module_text == 0) ≡ true → None ≡ least (unbound d) → None ≡ fault_of d
+no-fault d h none = ap (option_map expose) none ∙ sym (ap (of_module d) h)

@@ -1,6 +1,6 @@
 //! Why declarations are not run, and the line that tells it.
 
-ghost use Rattle.std.specs.Prelude.{◌≡◌, ◌++◌, IfOk, IfSome, IsTrue, Some, chars, map, nat_lt, option_map};
+ghost use Rattle.std.specs.Prelude.{◌≡◌, ◌++◌, ℕ, IfOk, IfSome, IsTrue, List, Some, chars, map, nat_lt, option_map};
 ghost use Rattle.std.specs.Prelude.{string_bytes};
 ghost use Rattle.std.specs.List.{list_all};
 ghost use Rattle.rp_decl.specs.Consistency.{unknown};
@@ -11,7 +11,7 @@ ghost use Rattle.rp_decl.specs.View.{Placed, declarations_view, field_view, name
 ghost use Rattle.rp_decl.specs.Word.{is_among};
 ghost use Rattle.rp_machine.specs.Globals.{TellsPlaces};
 ghost use Rattle.rp_machine.specs.Store.{global_names};
-ghost use Rattle.rp_load.specs.Load.{fault_line, fault_of, is_run};
+ghost use Rattle.rp_load.specs.Load.{fault_line, fault_of, has_plain_fields, is_plain};
 ghost use Rattle.rp_load.specs.View.{IsFaultHeld, fault_view};
 
 use rp_base::{Memory, Name, Names};
@@ -25,7 +25,7 @@ use std::cmp::Ordering;
 pub enum LoadFault {
     /// An exposed name is that of no declared class or object: the least in byte order.
     Expose(Name),
-    /// There is a module, or a field that is a truth value, a list or a table: these are not run yet.
+    /// There is a module, which is not run yet.
     NotYet,
 }
 
@@ -46,11 +46,7 @@ pub fn load_fault(alloc: Global, decl: &Decl, names: &Names) -> Result<Option<Lo
     if let Some(name) = least_unbound(decl, names, &globals) {
         return Ok(Some(LoadFault::Expose(name)));
     }
-    if are_run(decl.objects()) {
-        Ok(None)
-    } else {
-        Ok(Some(LoadFault::NotYet))
-    }
+    Ok(None)
 }
 
 /// The line that tells a fault: `declarations: expose NAME` or `declarations: not yet`, and a line end.
@@ -121,21 +117,27 @@ fn is_bound(names: &Names, globals: &Globals, name: Name) -> bool
     globals.place(name).is_some()
 }
 
-/// Whether each field of the objects has a form that is run.
-fn are_run(objects: &[ObjectDecl]) -> bool
-    ensures { result ≡ list_all (λ o. list_all (λ f. is_run (field_view f.1)) o.fields.items) objects.now }
+/// Whether the fields of the declared objects are numbers and texts alone.
+pub fn has_plain_fields(decl: &Decl) -> bool
+    ensures { (names : List (List ℕ)) → result ≡ has_plain_fields (declarations_view names decl.now) }
 {
-    objects.iter().all(|object| is_object_run(object))
+    are_plain(decl.objects())
 }
 
-fn is_object_run(object: &ObjectDecl) -> bool
-    ensures { result ≡ list_all (λ f. is_run (field_view f.1)) object.now.fields.items }
+fn are_plain(objects: &[ObjectDecl]) -> bool
+    ensures { result ≡ list_all (λ o. list_all (λ f. is_plain (field_view f.1)) o.fields.items) objects.now }
 {
-    object.fields.iter().all(|field| is_run(&field.1))
+    objects.iter().all(|object| is_plain_object(object))
 }
 
-fn is_run(field: &Field) -> bool
-    ensures { result ≡ is_run (field_view field.now) }
+fn is_plain_object(object: &ObjectDecl) -> bool
+    ensures { result ≡ list_all (λ f. is_plain (field_view f.1)) object.now.fields.items }
+{
+    object.fields.iter().all(|field| is_plain(&field.1))
+}
+
+fn is_plain(field: &Field) -> bool
+    ensures { result ≡ is_plain (field_view field.now) }
 {
     matches!(field, Field::Int(_) | Field::Text(_))
 }

@@ -4,5 +4,5 @@
 mod fault;
 mod loading;
 
-pub use fault::{LoadFault, fault_line, least_unbound, load_fault};
+pub use fault::{LoadFault, fault_line, has_plain_fields, least_unbound, load_fault};
 pub use loading::load;

@@ -1,6 +1,6 @@
 //! Declared classes and objects as objects of a store.
 
-ghost use Rattle.std.specs.Prelude.{◌≡◌, ◌<◌, ◌++◌, [], IfOk, None, OnOk, map};
+ghost use Rattle.std.specs.Prelude.{◌≡◌, ◌<◌, ◌++◌, [], IfOk, None, OnOk, map, true};
 ghost use Rattle.std.specs.List.{All, IsDistinct};
 ghost use Rattle.std.specs.Map.{keys_of};
 ghost use Rattle.rp_base.specs.Names.{first_words};
@@ -9,9 +9,9 @@ ghost use Rattle.rp_decl.specs.InOrder.{AreInOrder};
 ghost use Rattle.rp_decl.specs.Places.{GrowsTo, IsHeldBy};
 ghost use Rattle.rp_decl.specs.View.{Placed, declarations_view};
 ghost use Rattle.rp_interact.specs.Answers.{AnswersAs};
-ghost use Rattle.rp_load.specs.Load.{fault_of};
+ghost use Rattle.rp_load.specs.Load.{fault_of, has_plain_fields};
 ghost use Rattle.rp_load.specs.View.{AreClassed, IsDeclared, class_at, class_owned, field_value, fields_of};
-ghost use Rattle.rp_load.specs.View.{object_owned};
+ghost use Rattle.rp_load.specs.View.{loaded_heap, object_owned};
 ghost use Rattle.rp_machine.specs.Globals.{TellsPlaces};
 ghost use Rattle.rp_machine.specs.World.{IsBegun};
 ghost use Rattle.rp_store.specs.Key.{same_name};
@@ -24,8 +24,8 @@ use rp_proxy::{Running, World};
 use rp_store::{Object, Store};
 use std::alloc::Global;
 
-/// The world of declarations that were read into the names, with their classes and objects in its store, in
-/// which so many cells may be used, and the session that is to run.
+/// The world of declarations that were read into the names, whose fields are numbers and texts, with their classes and
+/// objects in its store, in which so many cells may be used, and the session that is to run.
 ///
 /// # Errors
 /// `Memory` where a growth was refused.
@@ -42,6 +42,7 @@ pub fn load(
     requires ordered { AreInOrder (declarations_view names decl) }
     requires grants { AnswersAs names decl running.interaction }
     requires runs { fault_of (declarations_view names decl) ≡ None }
+    requires plain { has_plain_fields (declarations_view names decl) ≡ true }
     requires unprinted { running.printed ≡ [] }
     requires script { 0 < running.session }
     ensures begun { IfOk result IsBegun }
@@ -49,6 +50,7 @@ pub fn load(
     ensures names { IfOk result (λ w. w.names ≡ names) }
     ensures running { IfOk result (λ w. w.running ≡ running) }
     ensures limit { IfOk result (λ w. w.store.limit ≡ limit) }
+    ensures store { IfOk result (λ w. w.store ≡ record { heap = loaded_heap decl; used = 0; limit = limit }) }
 {
     let mut world = World::new(alloc, decl, names, limit, running)?;
     let seed = world.names.seed();
@@ -121,7 +123,7 @@ fn fields_of(
     Ok(fields)
 }
 
-/// The value of a declared field; a truth value, a list and a table are not run yet.
+/// The value of a declared field that is a number or a text.
 fn value_of(field: &Field) -> Result<Value, Memory>
     ensures { IfOk result (λ value. value ≡ field_value field.now) }
 {

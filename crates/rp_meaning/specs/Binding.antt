@@ -11,7 +11,7 @@ use Rattle.rp_store.specs.Object as object
 use Rattle.rp_store.specs.declared.key.Key.{Key}
 use Rattle.rp_tree.specs.declared.expr.Expr.{Expr}
 use Rattle.rp_tree.specs.Expressions.{Named}
-use Rattle.rp_tree.specs.Expressions as t
+use Rattle.rp_tree.specs.Expressions as tree
 
 -- the arguments of a call: those without a name, in order, and those with one
 pub record Arguments : Type 0 where
@@ -28,20 +28,20 @@ only vs = record { plain = vs; named = [] }
 abbrev pub behind : Value → Arguments → Arguments
 behind v a = record a { plain = v ∷ a.plain }
 
-abbrev pub has_default : t.Maybe → Bool
-has_default t.none = false
-has_default (t.some x) = true
+abbrev pub has_default : tree.Maybe → Bool
+has_default tree.none = false
+has_default (tree.some x) = true
 
 -- the parameters without a star, with what a call offers each of them
-abbrev pub offered : List (List ℕ) → t.Plain → List Value → List Value → List Parameter
-offered names t.no_plain args defaults = []
-offered names (t.plain n x ps) args defaults =
+abbrev pub offered : List (List ℕ) → tree.Plain → List Value → List Value → List Parameter
+offered names tree.no_plain args defaults = []
+offered names (tree.plain n x ps) args defaults =
     parameter names n (has_default x) args defaults ∷ offered names ps (drop 1 args) (defaults_after (has_default x) defaults)
 
 -- their names; what a default is does not matter
-abbrev pub plain_names : t.Plain → List (Named × Option Expr)
-plain_names t.no_plain = []
-plain_names (t.plain n x ps) = (n, None) ∷ plain_names ps
+abbrev pub plain_names : tree.Plain → List (Named × Option Expr)
+plain_names tree.no_plain = []
+plain_names (tree.plain n x ps) = (n, None) ∷ plain_names ps
 
 abbrev pub Entries : Type 0
 Entries = List (Key × (Rock × Value))
@@ -52,8 +52,8 @@ all_made side has_list has_dict values rest es s =
     on_value (slot_made has_list side (object.tuple rest) (map Some values) s) (λ slots s. slot_made has_dict side (object.dict es) slots s)
 
 -- the slots of a call of a function of a side, from the values of its defaults: the causes of an exception first, and then what is made
-abbrev pub bind : Side → List (List ℕ) → t.Params → List Value → Arguments → State → Outcome (List (Option Value))
-bind side names (t.params ps list dict) defaults a s =
+abbrev pub bind : Side → List (List ℕ) → tree.Params → List Value → Arguments → State → Outcome (List (Option Value))
+bind side names (tree.params ps list dict) defaults a s =
     option_map_or (λ rest.
     option_map_or (λ values.
     option_map_or (λ es. all_made side (is_some list) (is_some dict) values rest es s)

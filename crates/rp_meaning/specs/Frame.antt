@@ -16,7 +16,7 @@ use Rattle.rp_base.specs.Names.{word_of}
 use Rattle.rp_proxy.specs.Decide.{Monitor, Decision}
 use Rattle.rp_proxy.specs.Taken.{taken}
 use Rattle.rp_store.specs.Heap.{Owned}
-use Rattle.rp_tree.specs.Statements as s
+use Rattle.rp_tree.specs.Statements as stmt_tree
 use Rattle.rp_meaning.specs.Binding.{Arguments}
 use Rattle.rp_meaning.specs.Blocks.{Code, code_in, of_stmts}
 use Rattle.rp_meaning.specs.State.{State, Outcome, Flow, monitor_of, with_monitor, heap_of, done}
@@ -38,12 +38,12 @@ pub record Natives : Type 0 where
 
 -- a module or a script: its statements, what stands under the number of each of its functions, and the layouts of its code blocks
 pub record Program : Type 0 where
-  pub body : s.Stmts
+  pub body : stmt_tree.Stmts
   pub code : ℕ → Option Code
   pub layouts : Layouts
 
 -- its functions are found by the numbers of their nodes
-abbrev pub program_of : s.Stmts → Layouts → Program
+abbrev pub program_of : stmt_tree.Stmts → Layouts → Program
 program_of body layouts = record { body = body; code = code_in (of_stmts body); layouts = layouts }
 
 -- what stays the same in a run

@@ -8,182 +8,182 @@ use Rattle.rp_base.specs.declared.value.Value.TheVariants as value
 use Rattle.rp_tree.specs.declared.parts.Const.{Const}
 use Rattle.rp_tree.specs.declared.parts.Const.TheVariants as const
 use Rattle.rp_tree.specs.declared.parts.Test.{Test}
-use Rattle.rp_tree.specs.Expressions as t
-use Rattle.rp_tree.specs.Statements as s
+use Rattle.rp_tree.specs.Expressions as tree
+use Rattle.rp_tree.specs.Statements as stmt_tree
 use Rattle.rp_meaning.specs.State.{broke, continued, stepped}
 use Rattle.rp_meaning.specs.Frame.{Meaning, Doing, bind_name, unbind_name}
 use Rattle.rp_meaning.specs.Calls as call
 use Rattle.rp_meaning.specs.Classes as class
 use Rattle.rp_meaning.specs.Exceptions as exception
-use Rattle.rp_meaning.specs.Expressions as e
-use Rattle.rp_meaning.specs.Statements as d
+use Rattle.rp_meaning.specs.Expressions as forms
+use Rattle.rp_meaning.specs.Statements as stmt_forms
 
 -- the literals None, True and False
 abbrev pub constant : Const → Value
-constant const.Nil = e.nil
-constant (const.Truth b) = e.truth b
+constant const.Nil = forms.nil
+constant (const.Truth b) = forms.truth b
 
 abbrev mutual
-  pub eval : t.Expr → Meaning
-  eval (t.node line x) = eval_form x
+  pub eval : tree.Expr → Meaning
+  eval (tree.node line x) = eval_form x
 
-  pub eval_form : t.Form → Meaning
-  eval_form (t.name x) = e.name x
-  eval_form (t.int z) = e.constant (value.Rock (rock.Int z))
-  eval_form (t.text x) = e.constant (value.Rock (rock.Text x))
-  eval_form (t.const c) = e.constant (constant c)
-  eval_form (t.tuple es) = e.tuple (exprs es)
-  eval_form (t.list es) = e.list (exprs es)
-  eval_form (t.dict ps) = e.dict (pairs ps)
-  eval_form (t.list_of n x cs) = e.list_of n (clauses cs) (eval x)
-  eval_form (t.dict_of n k x cs) = e.dict_of n (clauses cs) (eval k) (eval x)
-  eval_form (t.lambda n ps x) = e.lambda n (defaults ps)
-  eval_form (t.cond x a b) = e.cond (eval x) (eval a) (eval b)
-  eval_form (t.or es) = e.or (exprs es)
-  eval_form (t.and es) = e.and (exprs es)
-  eval_form (t.not x) = e.negated (eval x)
-  eval_form (t.compare x ts) = e.compare (eval x) (tests ts)
-  eval_form (t.chain x os) = e.chain (eval x) (ops os)
-  eval_form (t.unary u x) = e.unary u (eval x)
-  eval_form (t.power a b) = e.power (eval a) (eval b)
-  eval_form (t.primary x ts) = e.primary (eval x) (trailers ts)
+  pub eval_form : tree.Form → Meaning
+  eval_form (tree.name x) = forms.name x
+  eval_form (tree.int z) = forms.constant (value.Rock (rock.Int z))
+  eval_form (tree.text x) = forms.constant (value.Rock (rock.Text x))
+  eval_form (tree.const c) = forms.constant (constant c)
+  eval_form (tree.tuple es) = forms.tuple (exprs es)
+  eval_form (tree.list es) = forms.list (exprs es)
+  eval_form (tree.dict ps) = forms.dict (pairs ps)
+  eval_form (tree.list_of n x cs) = forms.list_of n (clauses cs) (eval x)
+  eval_form (tree.dict_of n k x cs) = forms.dict_of n (clauses cs) (eval k) (eval x)
+  eval_form (tree.lambda n ps x) = forms.lambda n (defaults ps)
+  eval_form (tree.cond x a b) = forms.cond (eval x) (eval a) (eval b)
+  eval_form (tree.or es) = forms.or (exprs es)
+  eval_form (tree.and es) = forms.and (exprs es)
+  eval_form (tree.not x) = forms.negated (eval x)
+  eval_form (tree.compare x ts) = forms.compare (eval x) (tests ts)
+  eval_form (tree.chain x os) = forms.chain (eval x) (ops os)
+  eval_form (tree.unary u x) = forms.unary u (eval x)
+  eval_form (tree.power a b) = forms.power (eval a) (eval b)
+  eval_form (tree.primary x ts) = forms.primary (eval x) (trailers ts)
 
-  pub exprs : t.Exprs → List Meaning
-  exprs t.no_exprs = []
-  exprs (t.expr x xs) = eval x ∷ exprs xs
+  pub exprs : tree.Exprs → List Meaning
+  exprs tree.no_exprs = []
+  exprs (tree.expr x xs) = eval x ∷ exprs xs
 
-  pub maybe : t.Maybe → Option Meaning
-  maybe t.none = None
-  maybe (t.some x) = Some (eval x)
+  pub maybe : tree.Maybe → Option Meaning
+  maybe tree.none = None
+  maybe (tree.some x) = Some (eval x)
 
-  pub pairs : t.Pairs → List (Meaning × Meaning)
-  pairs t.no_pairs = []
-  pairs (t.pair k x ps) = (eval k, eval x) ∷ pairs ps
+  pub pairs : tree.Pairs → List (Meaning × Meaning)
+  pairs tree.no_pairs = []
+  pairs (tree.pair k x ps) = (eval k, eval x) ∷ pairs ps
 
-  pub tests : t.Tests → List (Test × Meaning)
-  tests t.no_tests = []
-  tests (t.test o x ts) = (o, eval x) ∷ tests ts
+  pub tests : tree.Tests → List (Test × Meaning)
+  tests tree.no_tests = []
+  tests (tree.test o x ts) = (o, eval x) ∷ tests ts
 
-  pub ops : t.Ops → List (BinOp × Meaning)
-  ops t.no_ops = []
-  ops (t.op o x os) = (o, eval x) ∷ ops os
+  pub ops : tree.Ops → List (BinOp × Meaning)
+  ops tree.no_ops = []
+  ops (tree.op o x os) = (o, eval x) ∷ ops os
 
-  pub clause : t.Clause → e.Clause
-  clause (t.a_clause (t.a_walk p x g) es) = record { of = eval x; bind = target p; tests = exprs es }
+  pub clause : tree.Clause → forms.Clause
+  clause (tree.a_clause (tree.a_walk p x g) es) = record { of = eval x; bind = target p; tests = exprs es }
 
-  pub clauses : t.Clauses → List e.Clause
-  clauses t.no_clauses = []
-  clauses (t.clause c cs) = clause c ∷ clauses cs
+  pub clauses : tree.Clauses → List forms.Clause
+  clauses tree.no_clauses = []
+  clauses (tree.clause c cs) = clause c ∷ clauses cs
 
-  pub target : t.Target → d.Store
-  target (t.to_place p) = place p
-  target (t.group ps) = d.unpack (targets ps)
+  pub target : tree.Target → stmt_forms.Store
+  target (tree.to_place p) = place p
+  target (tree.group ps) = stmt_forms.unpack (targets ps)
 
-  pub targets : t.Targets → List d.Store
-  targets t.no_targets = []
-  targets (t.target p ps) = target p ∷ targets ps
+  pub targets : tree.Targets → List stmt_forms.Store
+  targets tree.no_targets = []
+  targets (tree.target p ps) = target p ∷ targets ps
 
-  pub place : t.Place → d.Store
-  place (t.to_name x) = bind_name x.name
-  place (t.to_attr x a g) = d.store_attribute (eval x) a.name
-  place (t.to_item x i g) = d.store_item (eval x) (eval i)
+  pub place : tree.Place → stmt_forms.Store
+  place (tree.to_name x) = bind_name x.name
+  place (tree.to_attr x a g) = stmt_forms.store_attribute (eval x) a.name
+  place (tree.to_item x i g) = stmt_forms.store_item (eval x) (eval i)
 
-  pub defaults : t.Params → List Meaning
-  defaults (t.params ps l k) = plain ps
+  pub defaults : tree.Params → List Meaning
+  defaults (tree.params ps l k) = plain ps
 
-  pub plain : t.Plain → List Meaning
-  plain t.no_plain = []
-  plain (t.plain x t.none ps) = plain ps
-  plain (t.plain x (t.some y) ps) = eval y ∷ plain ps
+  pub plain : tree.Plain → List Meaning
+  plain tree.no_plain = []
+  plain (tree.plain x tree.none ps) = plain ps
+  plain (tree.plain x (tree.some y) ps) = eval y ∷ plain ps
 
-  pub trailer : t.Trailer → Value → Meaning
-  trailer (t.attr x g) = e.attribute x.name
-  trailer (t.item x g) = e.item (eval x)
-  trailer (t.slice a b c g) = e.slice (maybe a) (maybe b) (maybe c)
-  trailer (t.call as' g) = e.call (args as')
+  pub trailer : tree.Trailer → Value → Meaning
+  trailer (tree.attr x g) = forms.attribute x.name
+  trailer (tree.item x g) = forms.item (eval x)
+  trailer (tree.slice a b c g) = forms.slice (maybe a) (maybe b) (maybe c)
+  trailer (tree.call as' g) = forms.call (args as')
 
-  pub trailers : t.Trailers → List (Value → Meaning)
-  trailers t.no_trailers = []
-  trailers (t.trailer x ts) = trailer x ∷ trailers ts
+  pub trailers : tree.Trailers → List (Value → Meaning)
+  trailers tree.no_trailers = []
+  trailers (tree.trailer x ts) = trailer x ∷ trailers ts
 
-  pub arg : t.Arg → call.Argument
-  arg (t.value x) = call.plain_argument (eval x)
-  arg (t.star x) = call.star_argument (eval x)
-  arg (t.key k x) = call.named_argument k (eval x)
-  arg (t.stars x) = call.stars_argument (eval x)
+  pub arg : tree.Arg → call.Argument
+  arg (tree.value x) = call.plain_argument (eval x)
+  arg (tree.star x) = call.star_argument (eval x)
+  arg (tree.key k x) = call.named_argument k (eval x)
+  arg (tree.stars x) = call.stars_argument (eval x)
 
-  pub args : t.Args → List call.Argument
-  args t.no_args = []
-  args (t.arg x xs) = arg x ∷ args xs
+  pub args : tree.Args → List call.Argument
+  args tree.no_args = []
+  args (tree.arg x xs) = arg x ∷ args xs
 
 -- an expression that may be missing
-abbrev pub option : Option t.Expr → Option Meaning
+abbrev pub option : Option tree.Expr → Option Meaning
 option x = option_map eval x
 
 -- an augmented assignment, by its place
-abbrev pub augment : t.Place → BinOp → Meaning → Doing
-augment (t.to_name x) op m = d.augment_name x.name op m
-augment (t.to_attr x a g) op m = d.augment_attribute (eval x) a.name op m
-augment (t.to_item x i g) op m = d.augment_item (eval x) (eval i) op m
+abbrev pub augment : tree.Place → BinOp → Meaning → Doing
+augment (tree.to_name x) op m = stmt_forms.augment_name x.name op m
+augment (tree.to_attr x a g) op m = stmt_forms.augment_attribute (eval x) a.name op m
+augment (tree.to_item x i g) op m = stmt_forms.augment_item (eval x) (eval i) op m
 
-abbrev pub delete : t.Place → Doing
-delete (t.to_name x) = unbind_name x.name
-delete (t.to_attr x a g) = d.delete_attribute (eval x) a.name
-delete (t.to_item x i g) = d.delete_item (eval x) (eval i)
+abbrev pub delete : tree.Place → Doing
+delete (tree.to_name x) = unbind_name x.name
+delete (tree.to_attr x a g) = stmt_forms.delete_attribute (eval x) a.name
+delete (tree.to_item x i g) = stmt_forms.delete_item (eval x) (eval i)
 
 abbrev mutual
-  pub exec : s.Stmt → Doing
-  exec (s.a_stmt line x) frame s = stepped s (exec_form x frame)
+  pub exec : stmt_tree.Stmt → Doing
+  exec (stmt_tree.a_stmt line x) frame s = stepped s (exec_form x frame)
 
-  pub exec_form : s.StmtForm → Doing
-  exec_form (s.evaluate x) = d.evaluate (eval x)
-  exec_form (s.assign ps x) = d.assign (eval x) (d.store_all (map place ps))
-  exec_form (s.unpack p x g) = d.assign (eval x) (target p)
-  exec_form (s.aug p op at x g) = augment p op (eval x)
-  exec_form (s.del ps) = d.block (map delete ps)
-  exec_form s.pass = d.nothing
-  exec_form s.break = d.leave broke
-  exec_form s.continue = d.leave continued
-  exec_form (s.give_back x) = d.give_back (option x)
-  exec_form (s.raise x) = d.raise (option x)
-  exec_form (s.assert x m) = d.assert (eval x) (option m)
-  exec_form (s.global ns) = d.nothing
-  exec_form (s.choose bs o) = d.choose (branches bs) (maybe_block o)
-  exec_form (s.while x b) = d.while (eval x) (d.block (stmts b))
-  exec_form (s.for (t.a_walk p x g) b) = d.for (eval x) (target p) (d.block (stmts b))
-  exec_form (s.try b hs o l) = exception.try (d.block (stmts b)) (handlers hs) (maybe_block o) (maybe_block l)
-  exec_form (s.define n x ps b) = d.define x.name n (defaults ps)
-  exec_form (s.class x b) = class.class x.name (class_parts b)
+  pub exec_form : stmt_tree.StmtForm → Doing
+  exec_form (stmt_tree.evaluate x) = stmt_forms.evaluate (eval x)
+  exec_form (stmt_tree.assign ps x) = stmt_forms.assign (eval x) (stmt_forms.store_all (map place ps))
+  exec_form (stmt_tree.unpack p x g) = stmt_forms.assign (eval x) (target p)
+  exec_form (stmt_tree.aug p op at x g) = augment p op (eval x)
+  exec_form (stmt_tree.del ps) = stmt_forms.block (map delete ps)
+  exec_form stmt_tree.pass = stmt_forms.nothing
+  exec_form stmt_tree.break = stmt_forms.leave broke
+  exec_form stmt_tree.continue = stmt_forms.leave continued
+  exec_form (stmt_tree.give_back x) = stmt_forms.give_back (option x)
+  exec_form (stmt_tree.raise x) = stmt_forms.raise (option x)
+  exec_form (stmt_tree.assert x m) = stmt_forms.assert (eval x) (option m)
+  exec_form (stmt_tree.global ns) = stmt_forms.nothing
+  exec_form (stmt_tree.choose bs o) = stmt_forms.choose (branches bs) (maybe_block o)
+  exec_form (stmt_tree.while x b) = stmt_forms.while (eval x) (stmt_forms.block (stmts b))
+  exec_form (stmt_tree.for (tree.a_walk p x g) b) = stmt_forms.for (eval x) (target p) (stmt_forms.block (stmts b))
+  exec_form (stmt_tree.try b hs o l) = exception.try (stmt_forms.block (stmts b)) (handlers hs) (maybe_block o) (maybe_block l)
+  exec_form (stmt_tree.define n x ps b) = stmt_forms.define x.name n (defaults ps)
+  exec_form (stmt_tree.class x b) = class.class x.name (class_parts b)
 
-  pub stmts : s.Stmts → List Doing
-  stmts s.no_stmts = []
-  stmts (s.stmt x xs) = exec x ∷ stmts xs
+  pub stmts : stmt_tree.Stmts → List Doing
+  stmts stmt_tree.no_stmts = []
+  stmts (stmt_tree.stmt x xs) = exec x ∷ stmts xs
 
-  pub maybe_block : s.MaybeStmts → Doing
-  maybe_block s.none = d.nothing
-  maybe_block (s.some b) = d.block (stmts b)
+  pub maybe_block : stmt_tree.MaybeStmts → Doing
+  maybe_block stmt_tree.none = stmt_forms.nothing
+  maybe_block (stmt_tree.some b) = stmt_forms.block (stmts b)
 
-  pub branches : s.Branches → List (Meaning × Doing)
-  branches s.no_branches = []
-  branches (s.branch x b bs) = (eval x, d.block (stmts b)) ∷ branches bs
+  pub branches : stmt_tree.Branches → List (Meaning × Doing)
+  branches stmt_tree.no_branches = []
+  branches (stmt_tree.branch x b bs) = (eval x, stmt_forms.block (stmts b)) ∷ branches bs
 
-  pub handler : s.Except → exception.Handler
-  handler (s.an_except x k b) = record { kind = option x; name = option_map (λ k. k.name) k; body = d.block (stmts b) }
+  pub handler : stmt_tree.Except → exception.Handler
+  handler (stmt_tree.an_except x k b) = record { kind = option x; name = option_map (λ k. k.name) k; body = stmt_forms.block (stmts b) }
 
-  pub handlers : s.Excepts → List exception.Handler
-  handlers s.no_excepts = []
-  handlers (s.except x xs) = handler x ∷ handlers xs
+  pub handlers : stmt_tree.Excepts → List exception.Handler
+  handlers stmt_tree.no_excepts = []
+  handlers (stmt_tree.except x xs) = handler x ∷ handlers xs
 
   -- the statements of a class block: functions, `pass` and text literals
-  pub class_part : s.StmtForm → class.Part
-  class_part (s.define n x ps b) = class.method x.name (e.makes_function (Some x.name) n (defaults ps))
-  class_part (s.evaluate x) = class.other (d.evaluate (eval x))
-  class_part _ = class.other d.nothing
+  pub class_part : stmt_tree.StmtForm → class.Part
+  class_part (stmt_tree.define n x ps b) = class.method x.name (forms.makes_function (Some x.name) n (defaults ps))
+  class_part (stmt_tree.evaluate x) = class.other (stmt_forms.evaluate (eval x))
+  class_part _ = class.other stmt_forms.nothing
 
-  pub class_parts : s.Stmts → List class.Part
-  class_parts s.no_stmts = []
-  class_parts (s.stmt (s.a_stmt line x) xs) = class_part x ∷ class_parts xs
+  pub class_parts : stmt_tree.Stmts → List class.Part
+  class_parts stmt_tree.no_stmts = []
+  class_parts (stmt_tree.stmt (stmt_tree.a_stmt line x) xs) = class_part x ∷ class_parts xs
 
 -- the statements of a block
-abbrev pub block : s.Stmts → Doing
-block b = d.block (stmts b)
+abbrev pub block : stmt_tree.Stmts → Doing
+block b = stmt_forms.block (stmts b)

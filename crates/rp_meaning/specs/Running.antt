@@ -11,7 +11,7 @@ use Rattle.rp_proxy.specs.Taken.{taken}
 use Rattle.rp_store.specs.Heap.{Owned, content_at}
 use Rattle.rp_store.specs.Object as object
 use Rattle.rp_store.specs.Object.{Content}
-use Rattle.rp_tree.specs.Expressions as t
+use Rattle.rp_tree.specs.Expressions as tree
 use Rattle.rp_meaning.specs.Blocks.{Code, def, lambda}
 use Rattle.rp_meaning.specs.BuiltIn.{not_called}
 use Rattle.rp_meaning.specs.State.{State, Outcome, Flow, returned, plainly, makes, heap_of}
@@ -20,7 +20,7 @@ use Rattle.rp_meaning.specs.Frame.{Frame, Run, Calls, Meaning}
 use Rattle.rp_meaning.specs.Expressions.{nil, empty_slots}
 use Rattle.rp_meaning.specs.Meaning.{eval, block}
 
-abbrev pub params_of : Code → t.Params
+abbrev pub params_of : Code → tree.Params
 params_of (def ps b) = ps
 params_of (lambda ps x) = ps
 

@@ -8,7 +8,7 @@ use Rattle.rp_ops.specs.Outcome as plain
 use Rattle.rp_ops.specs.Outcome.{End}
 use Rattle.rp_store.specs.Store.{Cells}
 use Rattle.rp_trail.specs.Entry.{Entry}
-use Rattle.rp_tree.specs.Statements as s
+use Rattle.rp_tree.specs.Statements as stmt_tree
 use Rattle.rp_meaning.specs.State.{State, Outcome, Flow}
 use Rattle.rp_meaning.specs.Frame.{Run}
 use Rattle.rp_meaning.specs.Meaning.{exec}
@@ -51,19 +51,19 @@ state_of w k = record {
 }
 
 -- the top-level statement of a number, from 0
-abbrev pub statement_at : ℕ → s.Stmts → Option s.Stmt
-statement_at i s.no_stmts = None
-statement_at zero (s.stmt x xs) = Some x
-statement_at (suc i) (s.stmt x xs) = statement_at i xs
+abbrev pub statement_at : ℕ → stmt_tree.Stmts → Option stmt_tree.Stmt
+statement_at i stmt_tree.no_stmts = None
+statement_at zero (stmt_tree.stmt x xs) = Some x
+statement_at (suc i) (stmt_tree.stmt x xs) = statement_at i xs
 
-abbrev pub count : s.Stmts → ℕ
-count s.no_stmts = 0
-count (s.stmt x xs) = count xs + 1
+abbrev pub count : stmt_tree.Stmts → ℕ
+count stmt_tree.no_stmts = 0
+count (stmt_tree.stmt x xs) = count xs + 1
 
 -- a session with an empty script has ended well from the beginning
-abbrev pub first_end : s.Stmts → Option SessionEnd
-first_end s.no_stmts = Some well
-first_end (s.stmt x xs) = None
+abbrev pub first_end : stmt_tree.Stmts → Option SessionEnd
+first_end stmt_tree.no_stmts = Some well
+first_end (stmt_tree.stmt x xs) = None
 
 -- whether a session has ended with what a statement came to, behind which is that of a number, of so many
 abbrev pub end_after : ℕ → ℕ → Result Flow End → Option SessionEnd
@@ -92,7 +92,7 @@ world_after w statements k o = record w {
 }
 
 -- the next statement of a session
-abbrev pub played : Run → World → Session → Option s.Stmt → World
+abbrev pub played : Run → World → Session → Option stmt_tree.Stmt → World
 played run w k None = w
 played run w k (Some x) = world_after w (count (run.programs k.side).body) k (exec x (program_frame run k.side k.globals) (state_of w k))
 

@@ -7,8 +7,8 @@ use Rattle.rp_base.specs.declared.value.Name.{Name}
 use Rattle.rp_tree.specs.declared.parts.Const.TheVariants as const
 use Rattle.rp_tree.specs.Expressions.{Named}
 use Rattle.rp_tree.specs.declared.parts.Test.{Test}
-use Rattle.rp_tree.specs.Expressions as t
-use Rattle.rp_tree.specs.Statements as s
+use Rattle.rp_tree.specs.Expressions as tree
+use Rattle.rp_tree.specs.Statements as stmt_tree
 use Rattle.rp_meaning_examples.proofs.Words.{print'}
 
 abbrev pub line : Line
@@ -17,218 +17,218 @@ line = record { 0 = 1 }
 abbrev pub named : Name → Named
 named name = record { name = name; line = line }
 
-abbrev pub e : t.Form → t.Expr
-e x = t.node line x
+abbrev pub e : tree.Form → tree.Expr
+e x = tree.node line x
 
 -- expressions
 
-abbrev pub var : Name → t.Expr
-var n = e (t.name n)
+abbrev pub var : Name → tree.Expr
+var n = e (tree.name n)
 
-abbrev pub int : ℕ → t.Expr
-int n = e (t.int (pos n))
+abbrev pub int : ℕ → tree.Expr
+int n = e (tree.int (pos n))
 
-abbrev pub text : List ℕ → t.Expr
-text x = e (t.text x)
+abbrev pub text : List ℕ → tree.Expr
+text x = e (tree.text x)
 
-abbrev pub nil : t.Expr
-nil = e (t.const const.Nil)
+abbrev pub nil : tree.Expr
+nil = e (tree.const const.Nil)
 
-abbrev pub truth : Bool → t.Expr
-truth b = e (t.const (const.Truth b))
+abbrev pub truth : Bool → tree.Expr
+truth b = e (tree.const (const.Truth b))
 
-abbrev pub exprs : List t.Expr → t.Exprs
-exprs [] = t.no_exprs
-exprs (x ∷ xs) = t.expr x (exprs xs)
+abbrev pub exprs : List tree.Expr → tree.Exprs
+exprs [] = tree.no_exprs
+exprs (x ∷ xs) = tree.expr x (exprs xs)
 
-abbrev pub tuple : List t.Expr → t.Expr
-tuple xs = e (t.tuple (exprs xs))
+abbrev pub tuple : List tree.Expr → tree.Expr
+tuple xs = e (tree.tuple (exprs xs))
 
-abbrev pub list : List t.Expr → t.Expr
-list xs = e (t.list (exprs xs))
+abbrev pub list : List tree.Expr → tree.Expr
+list xs = e (tree.list (exprs xs))
 
-abbrev pub pairs : List (t.Expr × t.Expr) → t.Pairs
-pairs [] = t.no_pairs
-pairs (p ∷ ps) = t.pair p.0 p.1 (pairs ps)
+abbrev pub pairs : List (tree.Expr × tree.Expr) → tree.Pairs
+pairs [] = tree.no_pairs
+pairs (p ∷ ps) = tree.pair p.0 p.1 (pairs ps)
 
-abbrev pub dict : List (t.Expr × t.Expr) → t.Expr
-dict ps = e (t.dict (pairs ps))
+abbrev pub dict : List (tree.Expr × tree.Expr) → tree.Expr
+dict ps = e (tree.dict (pairs ps))
 
-abbrev pub or : List t.Expr → t.Expr
-or xs = e (t.or (exprs xs))
+abbrev pub or : List tree.Expr → tree.Expr
+or xs = e (tree.or (exprs xs))
 
-abbrev pub and : List t.Expr → t.Expr
-and xs = e (t.and (exprs xs))
+abbrev pub and : List tree.Expr → tree.Expr
+and xs = e (tree.and (exprs xs))
 
-abbrev pub negated : t.Expr → t.Expr
-negated x = e (t.not x)
+abbrev pub negated : tree.Expr → tree.Expr
+negated x = e (tree.not x)
 
-abbrev pub cond : t.Expr → t.Expr → t.Expr → t.Expr
-cond test this other = e (t.cond test this other)
+abbrev pub cond : tree.Expr → tree.Expr → tree.Expr → tree.Expr
+cond test this other = e (tree.cond test this other)
 
-abbrev pub tests : List (Test × t.Expr) → t.Tests
-tests [] = t.no_tests
-tests (x ∷ xs) = t.test x.0 x.1 (tests xs)
+abbrev pub tests : List (Test × tree.Expr) → tree.Tests
+tests [] = tree.no_tests
+tests (x ∷ xs) = tree.test x.0 x.1 (tests xs)
 
-abbrev pub compare : t.Expr → List (Test × t.Expr) → t.Expr
-compare x xs = e (t.compare x (tests xs))
+abbrev pub compare : tree.Expr → List (Test × tree.Expr) → tree.Expr
+compare x xs = e (tree.compare x (tests xs))
 
-abbrev pub ops : List (BinOp × t.Expr) → t.Ops
-ops [] = t.no_ops
-ops (x ∷ xs) = t.op x.0 x.1 (ops xs)
+abbrev pub ops : List (BinOp × tree.Expr) → tree.Ops
+ops [] = tree.no_ops
+ops (x ∷ xs) = tree.op x.0 x.1 (ops xs)
 
-abbrev pub chain : t.Expr → List (BinOp × t.Expr) → t.Expr
-chain x xs = e (t.chain x (ops xs))
+abbrev pub chain : tree.Expr → List (BinOp × tree.Expr) → tree.Expr
+chain x xs = e (tree.chain x (ops xs))
 
-abbrev pub binary : BinOp → t.Expr → t.Expr → t.Expr
-binary op a b = e (t.chain a (t.op op b t.no_ops))
+abbrev pub binary : BinOp → tree.Expr → tree.Expr → tree.Expr
+binary op a b = e (tree.chain a (tree.op op b tree.no_ops))
 
-abbrev pub unary : UnOp → t.Expr → t.Expr
-unary op x = e (t.unary op x)
+abbrev pub unary : UnOp → tree.Expr → tree.Expr
+unary op x = e (tree.unary op x)
 
-abbrev pub power : t.Expr → t.Expr → t.Expr
-power x y = e (t.power x y)
+abbrev pub power : tree.Expr → tree.Expr → tree.Expr
+power x y = e (tree.power x y)
 
 -- trailers
 
-abbrev pub named_part : Name → t.Trailer
-named_part n = t.attr (named n) None
+abbrev pub named_part : Name → tree.Trailer
+named_part n = tree.attr (named n) None
 
-abbrev pub item_part : t.Expr → t.Trailer
-item_part x = t.item x None
+abbrev pub item_part : tree.Expr → tree.Trailer
+item_part x = tree.item x None
 
-abbrev pub slice_part : t.Maybe → t.Maybe → t.Maybe → t.Trailer
-slice_part a b c = t.slice a b c None
+abbrev pub slice_part : tree.Maybe → tree.Maybe → tree.Maybe → tree.Trailer
+slice_part a b c = tree.slice a b c None
 
-abbrev pub args : List t.Arg → t.Args
-args [] = t.no_args
-args (x ∷ xs) = t.arg x (args xs)
+abbrev pub args : List tree.Arg → tree.Args
+args [] = tree.no_args
+args (x ∷ xs) = tree.arg x (args xs)
 
-abbrev pub call_part : List t.Arg → t.Trailer
-call_part xs = t.call (args xs) None
+abbrev pub call_part : List tree.Arg → tree.Trailer
+call_part xs = tree.call (args xs) None
 
-abbrev pub trailers : List t.Trailer → t.Trailers
-trailers [] = t.no_trailers
-trailers (x ∷ xs) = t.trailer x (trailers xs)
+abbrev pub trailers : List tree.Trailer → tree.Trailers
+trailers [] = tree.no_trailers
+trailers (x ∷ xs) = tree.trailer x (trailers xs)
 
-abbrev pub primary : t.Expr → List t.Trailer → t.Expr
-primary x xs = e (t.primary x (trailers xs))
+abbrev pub primary : tree.Expr → List tree.Trailer → tree.Expr
+primary x xs = e (tree.primary x (trailers xs))
 
-abbrev pub attribute : t.Expr → Name → t.Expr
+abbrev pub attribute : tree.Expr → Name → tree.Expr
 attribute x n = primary x (named_part n ∷ [])
 
-abbrev pub item : t.Expr → t.Expr → t.Expr
+abbrev pub item : tree.Expr → tree.Expr → tree.Expr
 item x i = primary x (item_part i ∷ [])
 
-abbrev pub called : t.Expr → List t.Expr → t.Expr
-called f xs = primary f (call_part (map t.value xs) ∷ [])
+abbrev pub called : tree.Expr → List tree.Expr → tree.Expr
+called f xs = primary f (call_part (map tree.value xs) ∷ [])
 
 -- targets, functions and comprehensions
 
-abbrev pub to_name : Name → t.Place
-to_name n = t.to_name (named n)
+abbrev pub to_name : Name → tree.Place
+to_name n = tree.to_name (named n)
 
-abbrev pub to : Name → t.Target
-to n = t.to_place (to_name n)
+abbrev pub to : Name → tree.Target
+to n = tree.to_place (to_name n)
 
-abbrev pub to_attribute : t.Expr → Name → t.Place
-to_attribute x n = t.to_attr x (named n) None
+abbrev pub to_attribute : tree.Expr → Name → tree.Place
+to_attribute x n = tree.to_attr x (named n) None
 
-abbrev pub to_item : t.Expr → t.Expr → t.Place
-to_item x i = t.to_item x i None
+abbrev pub to_item : tree.Expr → tree.Expr → tree.Place
+to_item x i = tree.to_item x i None
 
-abbrev pub targets : List t.Target → t.Targets
-targets [] = t.no_targets
-targets (x ∷ xs) = t.target x (targets xs)
+abbrev pub targets : List tree.Target → tree.Targets
+targets [] = tree.no_targets
+targets (x ∷ xs) = tree.target x (targets xs)
 
-abbrev pub group : List t.Target → t.Target
-group xs = t.group (targets xs)
+abbrev pub group : List tree.Target → tree.Target
+group xs = tree.group (targets xs)
 
-abbrev pub maybe : Option t.Expr → t.Maybe
-maybe None = t.none
-maybe (Some x) = t.some x
+abbrev pub maybe : Option tree.Expr → tree.Maybe
+maybe None = tree.none
+maybe (Some x) = tree.some x
 
-abbrev pub plain : List (Name × Option t.Expr) → t.Plain
-plain [] = t.no_plain
-plain (p ∷ ps) = t.plain (named p.0) (maybe p.1) (plain ps)
+abbrev pub plain : List (Name × Option tree.Expr) → tree.Plain
+plain [] = tree.no_plain
+plain (p ∷ ps) = tree.plain (named p.0) (maybe p.1) (plain ps)
 
 abbrev pub maybe_named : Option Name → Option Named
 maybe_named None = None
 maybe_named (Some n) = Some (named n)
 
-abbrev pub params : List (Name × Option t.Expr) → Option Name → Option Name → t.Params
-params ps l d = t.params (plain ps) (maybe_named l) (maybe_named d)
+abbrev pub params : List (Name × Option tree.Expr) → Option Name → Option Name → tree.Params
+params ps l d = tree.params (plain ps) (maybe_named l) (maybe_named d)
 
-abbrev pub plain_params : List Name → t.Params
+abbrev pub plain_params : List Name → tree.Params
 plain_params ns = params (map (λ n. (n, None)) ns) None None
 
 -- the number of its block comes first
-abbrev pub lambda : ℕ → t.Params → t.Expr → t.Expr
-lambda n ps x = e (t.lambda n ps x)
+abbrev pub lambda : ℕ → tree.Params → tree.Expr → tree.Expr
+lambda n ps x = e (tree.lambda n ps x)
 
-abbrev pub clause : t.Target → t.Expr → List t.Expr → t.Clause
-clause target x xs = t.a_clause (t.a_walk target x None) (exprs xs)
+abbrev pub clause : tree.Target → tree.Expr → List tree.Expr → tree.Clause
+clause target x xs = tree.a_clause (tree.a_walk target x None) (exprs xs)
 
-abbrev pub clauses : List t.Clause → t.Clauses
-clauses [] = t.no_clauses
-clauses (x ∷ xs) = t.clause x (clauses xs)
+abbrev pub clauses : List tree.Clause → tree.Clauses
+clauses [] = tree.no_clauses
+clauses (x ∷ xs) = tree.clause x (clauses xs)
 
-abbrev pub list_of : ℕ → t.Expr → List t.Clause → t.Expr
-list_of n x cs = e (t.list_of n x (clauses cs))
+abbrev pub list_of : ℕ → tree.Expr → List tree.Clause → tree.Expr
+list_of n x cs = e (tree.list_of n x (clauses cs))
 
-abbrev pub dict_of : ℕ → t.Expr → t.Expr → List t.Clause → t.Expr
-dict_of n k x cs = e (t.dict_of n k x (clauses cs))
+abbrev pub dict_of : ℕ → tree.Expr → tree.Expr → List tree.Clause → tree.Expr
+dict_of n k x cs = e (tree.dict_of n k x (clauses cs))
 
 -- statements
 
-abbrev pub body : List s.StmtForm → s.Stmts
-body [] = s.no_stmts
-body (x ∷ xs) = s.stmt (s.a_stmt line x) (body xs)
+abbrev pub body : List stmt_tree.StmtForm → stmt_tree.Stmts
+body [] = stmt_tree.no_stmts
+body (x ∷ xs) = stmt_tree.stmt (stmt_tree.a_stmt line x) (body xs)
 
-abbrev pub maybe_body : Option (List s.StmtForm) → s.MaybeStmts
-maybe_body None = s.none
-maybe_body (Some xs) = s.some (body xs)
+abbrev pub maybe_body : Option (List stmt_tree.StmtForm) → stmt_tree.MaybeStmts
+maybe_body None = stmt_tree.none
+maybe_body (Some xs) = stmt_tree.some (body xs)
 
-abbrev pub sets : Name → t.Expr → s.StmtForm
-sets n x = s.assign (to_name n ∷ []) x
+abbrev pub sets : Name → tree.Expr → stmt_tree.StmtForm
+sets n x = stmt_tree.assign (to_name n ∷ []) x
 
-abbrev pub prints : List t.Expr → s.StmtForm
-prints xs = s.evaluate (called (var print') xs)
+abbrev pub prints : List tree.Expr → stmt_tree.StmtForm
+prints xs = stmt_tree.evaluate (called (var print') xs)
 
-abbrev pub unpacks : t.Target → t.Expr → s.StmtForm
-unpacks target x = s.unpack target x None
+abbrev pub unpacks : tree.Target → tree.Expr → stmt_tree.StmtForm
+unpacks target x = stmt_tree.unpack target x None
 
-abbrev pub augments : t.Place → BinOp → t.Expr → s.StmtForm
-augments place op x = s.aug place op line x None
+abbrev pub augments : tree.Place → BinOp → tree.Expr → stmt_tree.StmtForm
+augments place op x = stmt_tree.aug place op line x None
 
-abbrev pub declares_global : List Name → s.StmtForm
-declares_global ns = s.global (map named ns)
+abbrev pub declares_global : List Name → stmt_tree.StmtForm
+declares_global ns = stmt_tree.global (map named ns)
 
-abbrev pub branches : List (t.Expr × List s.StmtForm) → s.Branches
-branches [] = s.no_branches
-branches (b ∷ bs) = s.branch b.0 (body b.1) (branches bs)
+abbrev pub branches : List (tree.Expr × List stmt_tree.StmtForm) → stmt_tree.Branches
+branches [] = stmt_tree.no_branches
+branches (b ∷ bs) = stmt_tree.branch b.0 (body b.1) (branches bs)
 
-abbrev pub choose : List (t.Expr × List s.StmtForm) → Option (List s.StmtForm) → s.StmtForm
-choose bs other = s.choose (branches bs) (maybe_body other)
+abbrev pub choose : List (tree.Expr × List stmt_tree.StmtForm) → Option (List stmt_tree.StmtForm) → stmt_tree.StmtForm
+choose bs other = stmt_tree.choose (branches bs) (maybe_body other)
 
-abbrev pub while : t.Expr → List s.StmtForm → s.StmtForm
-while x b = s.while x (body b)
+abbrev pub while : tree.Expr → List stmt_tree.StmtForm → stmt_tree.StmtForm
+while x b = stmt_tree.while x (body b)
 
-abbrev pub for : t.Target → t.Expr → List s.StmtForm → s.StmtForm
-for target x b = s.for (t.a_walk target x None) (body b)
+abbrev pub for : tree.Target → tree.Expr → List stmt_tree.StmtForm → stmt_tree.StmtForm
+for target x b = stmt_tree.for (tree.a_walk target x None) (body b)
 
-abbrev pub handler : Option t.Expr → Option Name → List s.StmtForm → s.Except
-handler kind n b = s.an_except kind (maybe_named n) (body b)
+abbrev pub handler : Option tree.Expr → Option Name → List stmt_tree.StmtForm → stmt_tree.Except
+handler kind n b = stmt_tree.an_except kind (maybe_named n) (body b)
 
-abbrev pub handlers : List s.Except → s.Excepts
-handlers [] = s.no_excepts
-handlers (x ∷ xs) = s.except x (handlers xs)
+abbrev pub handlers : List stmt_tree.Except → stmt_tree.Excepts
+handlers [] = stmt_tree.no_excepts
+handlers (x ∷ xs) = stmt_tree.except x (handlers xs)
 
-abbrev pub try : List s.StmtForm → List s.Except → Option (List s.StmtForm) → Option (List s.StmtForm) → s.StmtForm
-try b hs other last = s.try (body b) (handlers hs) (maybe_body other) (maybe_body last)
+abbrev pub try : List stmt_tree.StmtForm → List stmt_tree.Except → Option (List stmt_tree.StmtForm) → Option (List stmt_tree.StmtForm) → stmt_tree.StmtForm
+try b hs other last = stmt_tree.try (body b) (handlers hs) (maybe_body other) (maybe_body last)
 
-abbrev pub define : ℕ → Name → t.Params → List s.StmtForm → s.StmtForm
-define n name ps b = s.define n (named name) ps (body b)
+abbrev pub define : ℕ → Name → tree.Params → List stmt_tree.StmtForm → stmt_tree.StmtForm
+define n name ps b = stmt_tree.define n (named name) ps (body b)
 
-abbrev pub class : Name → List s.StmtForm → s.StmtForm
-class name b = s.class (named name) (body b)
+abbrev pub class : Name → List stmt_tree.StmtForm → stmt_tree.StmtForm
+class name b = stmt_tree.class (named name) (body b)

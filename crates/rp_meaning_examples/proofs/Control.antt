@@ -7,8 +7,8 @@ use Rattle.rp_base.specs.declared.operator.CmpOp.TheVariants.{Lt, Gt, Eq}
 use Rattle.rp_base.specs.declared.operator.UnOp.TheVariants.{Neg}
 use Rattle.rp_compare.specs.Equality.{within}
 use Rattle.rp_tree.specs.declared.parts.Test.TheVariants as test
-use Rattle.rp_tree.specs.Expressions as t
-use Rattle.rp_tree.specs.Statements as s
+use Rattle.rp_tree.specs.Expressions as tree
+use Rattle.rp_tree.specs.Statements as stmt_tree
 use Rattle.rp_meaning.specs.Sessions.{well, cut_off}
 use Rattle.rp_meaning_examples.proofs.Building.{var, int, text, truth, tuple, list, dict, compare, binary, unary, named_part, slice_part, call_part, primary, called, to_name, to, to_item, group, plain_params, sets, prints, unpacks, augments, choose, while, for, handler, try, define}
 use Rattle.rp_meaning_examples.proofs.Playing.{Seen, seen, plays, program, raises_with}
@@ -35,14 +35,14 @@ loops = plays
     ∷ program
     (sets t' (int 0)
     ∷ for (to i') (list (int 1 ∷ int 2 ∷ int 3 ∷ int 4 ∷ int 5 ∷ []))
-    (choose ((compare (var i') ((test.Order Eq, int 2) ∷ []), s.continue ∷ []) ∷ []) None
-    ∷ choose ((compare (var i') ((test.Order Eq, int 5) ∷ []), s.break ∷ []) ∷ []) None
+    (choose ((compare (var i') ((test.Order Eq, int 2) ∷ []), stmt_tree.continue ∷ []) ∷ []) None
+    ∷ choose ((compare (var i') ((test.Order Eq, int 5) ∷ []), stmt_tree.break ∷ []) ∷ []) None
     ∷ augments (to_name t') Add (var i') ∷ [])
     ∷ prints (compare (var t') ((test.Order Eq, int 8) ∷ []) ∷ [])
     ∷ sets n' (int 0)
     ∷ while (truth true)
     (augments (to_name n') Add (int 1)
-    ∷ choose ((compare (var n') ((test.Order Gt, int 3) ∷ []), s.break ∷ []) ∷ []) None ∷ [])
+    ∷ choose ((compare (var n') ((test.Order Gt, int 3) ∷ []), stmt_tree.break ∷ []) ∷ []) None ∷ [])
     ∷ prints (compare (var n') ((test.Order Eq, int 4) ∷ []) ∷ []) ∷ [])
     ((t' ∷ i' ∷ n' ∷ [], []) ∷ []) ∷ [])
 
@@ -67,7 +67,7 @@ unpacked = plays
     ∷ prints (var a' ∷ var b' ∷ var c' ∷ [])
     ∷ unpacks (group (to a' ∷ to b' ∷ [])) (text (codes "pq"))
     ∷ prints (var a' ∷ var b' ∷ [])
-    ∷ s.assign (to_name x' ∷ to_name y' ∷ []) (text (codes "same"))
+    ∷ stmt_tree.assign (to_name x' ∷ to_name y' ∷ []) (text (codes "same"))
     ∷ prints (var x' ∷ var y' ∷ [])
     ∷ unpacks (group (to a' ∷ to b' ∷ [])) (tuple (var b' ∷ var a' ∷ []))
     ∷ prints (var a' ∷ var b' ∷ []) ∷ [])
@@ -119,7 +119,7 @@ dict_grows = plays
     ∷ program
     (sets d' (dict ((text (codes "a"), text (codes "x")) ∷ []))
     ∷ for (to k') (var d')
-    (s.assign (to_item (var d') (binary Add (text (codes "n")) (var k')) ∷ []) (text (codes "q")) ∷ []) ∷ [])
+    (stmt_tree.assign (to_item (var d') (binary Add (text (codes "n")) (var k')) ∷ []) (text (codes "q")) ∷ []) ∷ [])
     ((d' ∷ k' ∷ [], []) ∷ []) ∷ [])
 
 dict_grows-seen : dict_grows
@@ -145,19 +145,19 @@ list_grows = plays
     (choose
     ((
       compare (called (var len') (var xs' ∷ [])) ((test.Order Lt, int 4) ∷ []),
-      s.evaluate
+      stmt_tree.evaluate
           (primary (var xs')
           (named_part append'
-          ∷ call_part (t.value (binary Add (var x') (var x')) ∷ []) ∷ [])) ∷ [],
+          ∷ call_part (tree.value (binary Add (var x') (var x')) ∷ []) ∷ [])) ∷ [],
     ) ∷ [])
     None ∷ [])
     ∷ prints (var xs' ∷ [])
     ∷ prints
-    (primary (var xs') (slice_part (t.some (int 1)) (t.some (int 3)) t.none ∷ [])
-    ∷ primary (var xs') (slice_part t.none t.none (t.some (unary Neg (int 1))) ∷ [])
-    ∷ primary (text (codes "hello")) (slice_part (t.some (int 1)) (t.some (int 4)) t.none ∷ []) ∷ [])
-    ∷ s.del (to_item (var xs') (int 0) ∷ [])
-    ∷ s.assign (to_item (var xs') (int 0) ∷ []) (text (codes "first"))
+    (primary (var xs') (slice_part (tree.some (int 1)) (tree.some (int 3)) tree.none ∷ [])
+    ∷ primary (var xs') (slice_part tree.none tree.none (tree.some (unary Neg (int 1))) ∷ [])
+    ∷ primary (text (codes "hello")) (slice_part (tree.some (int 1)) (tree.some (int 4)) tree.none ∷ []) ∷ [])
+    ∷ stmt_tree.del (to_item (var xs') (int 0) ∷ [])
+    ∷ stmt_tree.assign (to_item (var xs') (int 0) ∷ []) (text (codes "first"))
     ∷ prints (var xs' ∷ []) ∷ [])
     ((xs' ∷ x' ∷ [], []) ∷ []) ∷ [])
 
@@ -213,19 +213,19 @@ finally_and_else = plays
     (shop_module
     ∷ program
     (define 1 f' (plain_params [])
-    (try (s.give_back (Some (text (codes "a"))) ∷ []) [] None
+    (try (stmt_tree.give_back (Some (text (codes "a"))) ∷ []) [] None
     (Some (prints (text (codes "last") ∷ []) ∷ [])) ∷ [])
     ∷ prints (called (var f') [] ∷ [])
     ∷ define 2 g' (plain_params [])
     (for (to i') (list (int 1 ∷ int 2 ∷ []))
-    (try (s.continue ∷ []) [] None (Some (prints (text (codes "c") ∷ []) ∷ [])) ∷ [])
-    ∷ try (s.raise (Some (called (var ValueError') (text (codes "v") ∷ []))) ∷ []) [] None
-    (Some (s.give_back (Some (text (codes "swallowed"))) ∷ [])) ∷ [])
+    (try (stmt_tree.continue ∷ []) [] None (Some (prints (text (codes "c") ∷ []) ∷ [])) ∷ [])
+    ∷ try (stmt_tree.raise (Some (called (var ValueError') (text (codes "v") ∷ []))) ∷ []) [] None
+    (Some (stmt_tree.give_back (Some (text (codes "swallowed"))) ∷ [])) ∷ [])
     ∷ prints (called (var g') [] ∷ [])
     ∷ try
-    (try (s.raise (Some (called (var KeyError') (text (codes "k") ∷ []))) ∷ [])
+    (try (stmt_tree.raise (Some (called (var KeyError') (text (codes "k") ∷ []))) ∷ [])
     (handler (Some (tuple (var IndexError' ∷ var KeyError' ∷ []))) (Some e')
-    (prints (text (codes "caught") ∷ var e' ∷ []) ∷ s.raise None ∷ []) ∷ [])
+    (prints (text (codes "caught") ∷ var e' ∷ []) ∷ stmt_tree.raise None ∷ []) ∷ [])
     (Some (prints (text (codes "never") ∷ []) ∷ [])) None ∷ [])
     (handler (Some (var LookupError')) (Some e2') (prints (text (codes "again") ∷ var e2' ∷ []) ∷ []) ∷ [])
     None None
@@ -261,14 +261,14 @@ abbrev raised : Seen
 raised = plays
     (shop_module
     ∷ program
-    (try (s.raise (Some (text (codes "text"))) ∷ [])
+    (try (stmt_tree.raise (Some (text (codes "text"))) ∷ [])
     (handler (Some (var TypeError')) (Some e') (prints (var e' ∷ []) ∷ []) ∷ []) None None
     ∷ try
-    (try (s.evaluate (binary FloorDiv (int 1) (int 0)) ∷ [])
+    (try (stmt_tree.evaluate (binary FloorDiv (int 1) (int 0)) ∷ [])
     (handler (Some (text (codes "x"))) None (prints (text (codes "no") ∷ []) ∷ []) ∷ []) None None ∷ [])
     (handler (Some (var TypeError')) (Some e') (prints (var e' ∷ []) ∷ []) ∷ []) None None
-    ∷ s.assert (compare (int 1) ((test.Order Eq, int 1) ∷ [])) None
-    ∷ s.assert (list []) (Some (text (codes "message"))) ∷ [])
+    ∷ stmt_tree.assert (compare (int 1) ((test.Order Eq, int 1) ∷ [])) None
+    ∷ stmt_tree.assert (list []) (Some (text (codes "message"))) ∷ [])
     ((e' ∷ [], []) ∷ []) ∷ [])
 
 raised-seen : raised
@@ -290,7 +290,7 @@ undefined_name-seen = refl
 abbrev exception_of_two : Seen
 exception_of_two = plays
     (shop_module
-    ∷ program (s.evaluate (called (var ValueError') (text (codes "a") ∷ text (codes "b") ∷ [])) ∷ []) (([], []) ∷ []) ∷ [])
+    ∷ program (stmt_tree.evaluate (called (var ValueError') (text (codes "a") ∷ text (codes "b") ∷ [])) ∷ []) (([], []) ∷ []) ∷ [])
 
 exception_of_two-seen : exception_of_two
     ≡ seen 0 [] ((Some (cut_off (raises_with TypeError (codes "arguments"))), 999995, []) ∷ [])
@@ -299,7 +299,7 @@ exception_of_two-seen = refl
 
 -- raise ValueError
 abbrev raised_kind : Seen
-raised_kind = plays (shop_module ∷ program (s.raise (Some (var ValueError')) ∷ []) (([], []) ∷ []) ∷ [])
+raised_kind = plays (shop_module ∷ program (stmt_tree.raise (Some (var ValueError')) ∷ []) (([], []) ∷ []) ∷ [])
 
 raised_kind-seen : raised_kind ≡ seen 0 [] ((Some (cut_off (raises_with ValueError [])), 999998, []) ∷ [])
 unfolding encode within

@@ -7,8 +7,8 @@ use Rattle.rp_base.specs.declared.operator.BinOp.TheVariants.{Add, Sub}
 use Rattle.rp_base.specs.declared.operator.CmpOp.TheVariants.{Eq, Ne}
 use Rattle.rp_compare.specs.Equality.{within}
 use Rattle.rp_tree.specs.declared.parts.Test.TheVariants as test
-use Rattle.rp_tree.specs.Expressions as t
-use Rattle.rp_tree.specs.Statements as s
+use Rattle.rp_tree.specs.Expressions as tree
+use Rattle.rp_tree.specs.Statements as stmt_tree
 use Rattle.rp_meaning.specs.Scopes.{outer}
 use Rattle.rp_meaning.specs.Sessions.{well, cut_off}
 use Rattle.rp_meaning_examples.proofs.Building.{var, int, text, nil, truth, tuple, list, dict, or, cond, compare, binary, item_part, slice_part, call_part, primary, item, called, to_name, to, to_item, group, params, plain_params, lambda, clause, list_of, dict_of, sets, prints, augments, declares_global, choose, while, for, handler, try, define}
@@ -33,21 +33,21 @@ bound_arguments = plays
     (shop_module
     ∷ program
     (define 1 f' (params ((a', None) ∷ (b', Some (text (codes "bb"))) ∷ []) (Some c') (Some d'))
-    (s.give_back (Some (tuple (var a' ∷ var b' ∷ var c' ∷ var d' ∷ []))) ∷ [])
+    (stmt_tree.give_back (Some (tuple (var a' ∷ var b' ∷ var c' ∷ var d' ∷ []))) ∷ [])
     ∷ prints
     (called (var f') (text (codes "x") ∷ [])
     ∷ called (var f') (text (codes "x") ∷ text (codes "y") ∷ text (codes "z") ∷ [])
-    ∷ primary (var f') (call_part (t.key a' (text (codes "1")) ∷ t.key e' (text (codes "2")) ∷ []) ∷ []) ∷ [])
-    ∷ try (s.evaluate (called (var f') []) ∷ [])
+    ∷ primary (var f') (call_part (tree.key a' (text (codes "1")) ∷ tree.key e' (text (codes "2")) ∷ []) ∷ []) ∷ [])
+    ∷ try (stmt_tree.evaluate (called (var f') []) ∷ [])
     (handler (Some (var TypeError')) (Some e') (prints (var e' ∷ []) ∷ []) ∷ []) None None
     ∷ try
-    (s.evaluate
+    (stmt_tree.evaluate
     (primary (var f')
-    (call_part (t.value (text (codes "x")) ∷ t.key a' (text (codes "y")) ∷ []) ∷ [])) ∷ [])
+    (call_part (tree.value (text (codes "x")) ∷ tree.key a' (text (codes "y")) ∷ []) ∷ [])) ∷ [])
     (handler (Some (var TypeError')) (Some e') (prints (var e' ∷ []) ∷ []) ∷ []) None None
-    ∷ s.evaluate
+    ∷ stmt_tree.evaluate
     (primary (lambda 2 (plain_params (x' ∷ [])) (var x'))
-    (call_part (t.key y' (text (codes "1")) ∷ []) ∷ [])) ∷ [])
+    (call_part (tree.key y' (text (codes "1")) ∷ []) ∷ [])) ∷ [])
     ((f' ∷ e' ∷ [], []) ∷ (a' ∷ b' ∷ c' ∷ d' ∷ [], []) ∷ (x' ∷ [], []) ∷ []) ∷ [])
 
 bound_arguments-seen : bound_arguments
@@ -88,21 +88,21 @@ scopes = plays
     (choose
     ((
       compare (var n') ((test.Order Eq, int 0) ∷ []),
-      s.give_back (Some (text (codes "end"))) ∷ [],
+      stmt_tree.give_back (Some (text (codes "end"))) ∷ [],
     ) ∷ []) None
-    ∷ s.give_back (Some (called (var COUNT) (binary Sub (var n') (int 1) ∷ []))) ∷ [])
+    ∷ stmt_tree.give_back (Some (called (var COUNT) (binary Sub (var n') (int 1) ∷ []))) ∷ [])
     ∷ prints (called (var COUNT) (int 5 ∷ []) ∷ [])
     ∷ define 2 outer' (plain_params [])
     (sets x' (text (codes "in"))
-    ∷ define 3 inner' (plain_params []) (s.give_back (Some (var x')) ∷ [])
+    ∷ define 3 inner' (plain_params []) (stmt_tree.give_back (Some (var x')) ∷ [])
     ∷ sets x' (text (codes "changed"))
-    ∷ s.give_back (Some (var inner')) ∷ [])
+    ∷ stmt_tree.give_back (Some (var inner')) ∷ [])
     ∷ prints (primary (var outer') (call_part [] ∷ call_part [] ∷ []) ∷ [])
     ∷ sets y' (text (codes "g"))
     ∷ define 4 h' (plain_params [])
     (declares_global (y' ∷ [])
     ∷ sets y' (binary Add (var y') (text (codes "h")))
-    ∷ s.give_back (Some (var y')) ∷ [])
+    ∷ stmt_tree.give_back (Some (var y')) ∷ [])
     ∷ prints (called (var h') [] ∷ var y' ∷ [])
     ∷ prints
     (called
@@ -142,18 +142,18 @@ unbound_names = plays
     (shop_module
     ∷ program
     (define 1 f' (plain_params []) (prints (var x' ∷ []) ∷ sets x' (int 1) ∷ [])
-    ∷ try (s.evaluate (called (var f') []) ∷ [])
+    ∷ try (stmt_tree.evaluate (called (var f') []) ∷ [])
     (handler (Some (var UnboundLocalError')) (Some e') (prints (text (codes "local") ∷ var e' ∷ []) ∷ []) ∷ [])
     None None
     ∷ define 2 g' (plain_params [])
-    (define 3 k' (plain_params []) (s.give_back (Some (var z')) ∷ [])
+    (define 3 k' (plain_params []) (stmt_tree.give_back (Some (var z')) ∷ [])
     ∷ sets r' (called (var k') [])
     ∷ sets z' (int 1) ∷ [])
-    ∷ try (s.evaluate (called (var g') []) ∷ [])
+    ∷ try (stmt_tree.evaluate (called (var g') []) ∷ [])
     (handler (Some (var NameError')) (Some e') (prints (text (codes "name") ∷ var e' ∷ []) ∷ []) ∷ [])
     None None
-    ∷ s.del (to_name f' ∷ [])
-    ∷ s.evaluate (called (var f') []) ∷ [])
+    ∷ stmt_tree.del (to_name f' ∷ [])
+    ∷ stmt_tree.evaluate (called (var f') []) ∷ [])
     ((f' ∷ e' ∷ g' ∷ [], [])
     ∷ (x' ∷ [], [])
     ∷ (k' ∷ r' ∷ z' ∷ [], [])
@@ -174,8 +174,8 @@ abbrev too_deep : Seen
 too_deep = plays
     (shop_module
     ∷ program
-    (define 1 rec' (plain_params (n' ∷ [])) (s.give_back (Some (called (var rec') (var n' ∷ []))) ∷ [])
-    ∷ try (s.evaluate (called (var rec') (text (codes "x") ∷ [])) ∷ [])
+    (define 1 rec' (plain_params (n' ∷ [])) (stmt_tree.give_back (Some (called (var rec') (var n' ∷ []))) ∷ [])
+    ∷ try (stmt_tree.evaluate (called (var rec') (text (codes "x") ∷ [])) ∷ [])
     (handler (Some (var RecursionError')) (Some e') (prints (var e' ∷ []) ∷ []) ∷ []) None None ∷ [])
     ((rec' ∷ e' ∷ [], []) ∷ (n' ∷ [], []) ∷ []) ∷ [])
 
@@ -193,14 +193,14 @@ default_evaluated = plays
     ∷ program
     (define 1 f'
     (params ((a', None) ∷ (b', Some (called (var print') (text (codes "default") ∷ []))) ∷ []) None None)
-    (s.give_back (Some (var b')) ∷ [])
+    (stmt_tree.give_back (Some (var b')) ∷ [])
     ∷ prints (compare (called (var f') (text (codes "x") ∷ [])) ((test.Is, nil) ∷ []) ∷ [])
-    ∷ s.evaluate
+    ∷ stmt_tree.evaluate
     (primary (var f')
     (call_part
-    (t.value (text (codes "x"))
-    ∷ t.key b' (text (codes "y"))
-    ∷ t.stars (dict ((text (codes "b"), text (codes "z")) ∷ [])) ∷ []) ∷ [])) ∷ [])
+    (tree.value (text (codes "x"))
+    ∷ tree.key b' (text (codes "y"))
+    ∷ tree.stars (dict ((text (codes "b"), text (codes "z")) ∷ [])) ∷ []) ∷ [])) ∷ [])
     ((f' ∷ [], []) ∷ (a' ∷ b' ∷ [], []) ∷ []) ∷ [])
 
 default_evaluated-seen : default_evaluated
@@ -217,16 +217,16 @@ abbrev starred_arguments : Seen
 starred_arguments = plays
     (shop_module
     ∷ program
-    (define 1 f' (params [] (Some a') (Some k')) (s.give_back (Some (list (var a' ∷ var k' ∷ []))) ∷ [])
+    (define 1 f' (params [] (Some a') (Some k')) (stmt_tree.give_back (Some (list (var a' ∷ var k' ∷ []))) ∷ [])
     ∷ prints
     (primary (var f')
     (call_part
-    (t.star (text (codes "ab"))
-    ∷ t.stars (dict ((text (codes "c"), text (codes "d")) ∷ [])) ∷ []) ∷ [])
+    (tree.star (text (codes "ab"))
+    ∷ tree.stars (dict ((text (codes "c"), text (codes "d")) ∷ [])) ∷ []) ∷ [])
     ∷ called (var f') [] ∷ [])
     ∷ prints
     (primary (var f')
-    (call_part (t.star (list (text (codes "2") ∷ [])) ∷ t.key x' (text (codes "1")) ∷ [])
+    (call_part (tree.star (list (text (codes "2") ∷ [])) ∷ tree.key x' (text (codes "1")) ∷ [])
     ∷ item_part (int 0) ∷ []) ∷ []) ∷ [])
     ((f' ∷ [], []) ∷ (a' ∷ k' ∷ [], []) ∷ []) ∷ [])
 
@@ -250,7 +250,7 @@ abbrev many_calls : Seen
 many_calls = plays
     (shop_module
     ∷ program
-    (define 1 f' (plain_params []) (s.give_back (Some (var f')) ∷ [])
+    (define 1 f' (plain_params []) (stmt_tree.give_back (Some (var f')) ∷ [])
     ∷ sets x' (var f')
     ∷ for (to i') (called (var range') (int 3 ∷ [])) (sets x' (called (var x') []) ∷ [])
     ∷ prints (compare (var x') ((test.Order Eq, var f') ∷ []) ∷ [])
@@ -258,9 +258,9 @@ many_calls = plays
     (choose
     ((
       compare (var n') ((test.Order Eq, int 0) ∷ []),
-      s.give_back (Some (text (codes "done"))) ∷ [],
+      stmt_tree.give_back (Some (text (codes "done"))) ∷ [],
     ) ∷ []) None
-    ∷ s.give_back
+    ∷ stmt_tree.give_back
     (Some
     (called (lambda 3 (plain_params (m' ∷ [])) (called (var g') (var m' ∷ [])))
     (binary Sub (var n') (int 1) ∷ []))) ∷ [])
@@ -284,7 +284,7 @@ closures = plays
     ∷ program
     (define 1 f' (plain_params [])
     (sets x' (text (codes "l"))
-    ∷ s.give_back
+    ∷ stmt_tree.give_back
     (Some
     (list_of 2 (binary Add (var x') (var y'))
     (clause (to y') (text (codes "ab"))
@@ -295,7 +295,7 @@ closures = plays
     ∷ prints
     (primary (list_of 4 (lambda 5 (plain_params []) (var z')) (clause (to z') (text (codes "a")) [] ∷ []))
     (item_part (int 0) ∷ call_part [] ∷ []) ∷ [])
-    ∷ s.evaluate (list_of 6 (var q') (clause (to q') (text (codes "a")) [] ∷ []))
+    ∷ stmt_tree.evaluate (list_of 6 (var q') (clause (to q') (text (codes "a")) [] ∷ []))
     ∷ prints (var q' ∷ []) ∷ [])
     ((f' ∷ [], [])
     ∷ (x' ∷ [], [])
@@ -321,10 +321,10 @@ unbound_outside = plays
     (shop_module
     ∷ program
     (define 1 g' (plain_params [])
-    (define 2 k' (plain_params []) (s.give_back (Some (var z')) ∷ [])
+    (define 2 k' (plain_params []) (stmt_tree.give_back (Some (var z')) ∷ [])
     ∷ sets r' (called (var k') [])
     ∷ sets z' (int 1) ∷ [])
-    ∷ s.evaluate (called (var g') []) ∷ [])
+    ∷ stmt_tree.evaluate (called (var g') []) ∷ [])
     ((g' ∷ [], [])
     ∷ (k' ∷ r' ∷ z' ∷ [], [])
     ∷ ([], (k', outer 1 0) ∷ (r', outer 1 1) ∷ (z', outer 1 2) ∷ []) ∷ []) ∷ [])
@@ -384,7 +384,7 @@ lambdas_everywhere = plays
     (lambda 7 (plain_params [])
     (compare (var x') ((test.Order Ne, text (codes "b")) ∷ []))) [] ∷ []) ∷ []) ∷ [])
     ∷ define 8 h' (params ((a', Some (lambda 9 (plain_params []) (text (codes "default")))) ∷ []) None None)
-    (s.give_back (Some (called (var a') [])) ∷ [])
+    (stmt_tree.give_back (Some (called (var a') [])) ∷ [])
     ∷ prints (called (var h') [] ∷ called (var h') (lambda 10 (plain_params []) (text (codes "given")) ∷ []) ∷ [])
     ∷ sets d'
     (dict_of 11 (called (lambda 12 (plain_params []) (var k')) [])
@@ -393,7 +393,7 @@ lambdas_everywhere = plays
     (list_of 14 (tuple (var x' ∷ binary Add (var x') (var x') ∷ []))
     (clause (to x') (text (codes "pq")) [] ∷ [])) [] ∷ []))
     ∷ prints (var d' ∷ [])
-    ∷ try (s.raise (Some (called (lambda 15 (plain_params []) (var ValueError')) [])) ∷ [])
+    ∷ try (stmt_tree.raise (Some (called (lambda 15 (plain_params []) (var ValueError')) [])) ∷ [])
     (handler (Some (called (lambda 16 (plain_params []) (var ValueError')) [])) (Some e')
     (prints (called (lambda 17 (plain_params []) (text (codes "handler"))) [] ∷ []) ∷ []) ∷ [])
     (Some (prints (text (codes "no") ∷ []) ∷ []))
@@ -404,34 +404,34 @@ lambdas_everywhere = plays
     (called (lambda 21 (plain_params []) (int 0)) [])
     ∷ primary (lambda 22 (plain_params []) (text (codes "abc")))
     (call_part []
-    ∷ slice_part (t.some (called (lambda 23 (plain_params []) (int 1)) []))
-    (t.some (called (lambda 24 (plain_params []) (int 2)) [])) t.none ∷ []) ∷ [])
+    ∷ slice_part (tree.some (called (lambda 23 (plain_params []) (int 1)) []))
+    (tree.some (called (lambda 24 (plain_params []) (int 2)) [])) tree.none ∷ []) ∷ [])
     ∷ sets x' (dict ((text (codes "k"), text (codes "v")) ∷ []))
     ∷ augments (to_item (var x') (called (lambda 25 (plain_params []) (text (codes "k"))) [])) Add
     (called (lambda 26 (plain_params []) (text (codes "w"))) [])
     ∷ for
     (group
-    (t.to_place (to_item (var x') (called (lambda 27 (plain_params []) (text (codes "j"))) []))
+    (tree.to_place (to_item (var x') (called (lambda 27 (plain_params []) (text (codes "j"))) []))
     ∷ to y' ∷ []))
     (list
     (tuple (called (lambda 28 (plain_params []) (text (codes "1"))) [] ∷ text (codes "2") ∷ []) ∷ []))
     (prints (var x' ∷ var y' ∷ called (lambda 29 (plain_params []) (text (codes "in for"))) [] ∷ []) ∷ [])
     ∷ while (called (lambda 30 (plain_params []) (truth true)) [])
     (choose
-    ((called (lambda 31 (plain_params []) (truth false)) [], s.pass ∷ [])
+    ((called (lambda 31 (plain_params []) (truth false)) [], stmt_tree.pass ∷ [])
     ∷ (
       called (lambda 32 (plain_params []) (truth true)) [],
       prints (called (lambda 33 (plain_params []) (text (codes "elif"))) [] ∷ [])
-          ∷ s.break ∷ [],
+          ∷ stmt_tree.break ∷ [],
     ) ∷ [])
-    (Some (s.evaluate (called (lambda 34 (plain_params []) (text (codes "else"))) []) ∷ [])) ∷ [])
-    ∷ s.assert (called (lambda 35 (plain_params []) (truth true)) [])
+    (Some (stmt_tree.evaluate (called (lambda 34 (plain_params []) (text (codes "else"))) []) ∷ [])) ∷ [])
+    ∷ stmt_tree.assert (called (lambda 35 (plain_params []) (truth true)) [])
     (Some (called (lambda 36 (plain_params []) (text (codes "m"))) []))
     ∷ prints
     (primary (lambda 37 (params [] (Some a') (Some k')) (tuple (var a' ∷ var k' ∷ [])))
     (call_part
-    (t.star (called (lambda 38 (plain_params []) (text (codes "a"))) [])
-    ∷ t.stars
+    (tree.star (called (lambda 38 (plain_params []) (text (codes "a"))) [])
+    ∷ tree.stars
     (called
     (lambda 39 (plain_params [])
     (dict ((text (codes "z"), text (codes "y")) ∷ []))) []) ∷ []) ∷ []) ∷ [])
@@ -444,7 +444,7 @@ lambdas_everywhere = plays
     ∷ or
     (called (lambda 45 (plain_params []) (text [])) []
     ∷ called (lambda 46 (plain_params []) (text (codes "or"))) [] ∷ []) ∷ [])
-    ∷ s.del
+    ∷ stmt_tree.del
     (to_item (var x') (called (lambda 47 (plain_params []) (text (codes "k"))) [])
     ∷ to_item (var x') (called (lambda 48 (plain_params []) (text (codes "j"))) []) ∷ [])
     ∷ prints (var x' ∷ []) ∷ [])
@@ -518,9 +518,9 @@ abbrev comprehension_calls : Seen
 comprehension_calls = plays
     (shop_module
     ∷ program
-    (define 1 f' (plain_params []) (s.give_back (Some (text (codes "f"))) ∷ [])
+    (define 1 f' (plain_params []) (stmt_tree.give_back (Some (text (codes "f"))) ∷ [])
     ∷ define 2 g' (plain_params [])
-    (s.give_back
+    (stmt_tree.give_back
     (Some
     (list_of 3 (binary Add (called (var f') []) (var x'))
     (clause (to x') (text (codes "ab")) [] ∷ []))) ∷ [])

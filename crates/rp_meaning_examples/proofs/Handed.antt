@@ -7,8 +7,8 @@ use Rattle.rp_base.specs.declared.operator.BinOp.TheVariants.{Add}
 use Rattle.rp_base.specs.declared.operator.CmpOp.TheVariants.{Eq}
 use Rattle.rp_compare.specs.Equality.{within}
 use Rattle.rp_tree.specs.declared.parts.Test.TheVariants as test
-use Rattle.rp_tree.specs.Expressions as t
-use Rattle.rp_tree.specs.Statements as s
+use Rattle.rp_tree.specs.Expressions as tree
+use Rattle.rp_tree.specs.Statements as stmt_tree
 use Rattle.rp_meaning.specs.Scopes.{outer}
 use Rattle.rp_meaning.specs.Sessions.{well, cut_off}
 use Rattle.rp_meaning_examples.proofs.Building.{var, int, text, list, dict, compare, binary, named_part, item_part, slice_part, call_part, primary, attribute, called, to, to_attribute, group, params, plain_params, lambda, clause, list_of, sets, prints, unpacks, for, define, class}
@@ -31,7 +31,7 @@ three_sessions = played
     (shop_module
     ∷ program
     (prints (text (codes "one") ∷ [])
-    ∷ s.assign (to_attribute (var o') n' ∷ []) (list (text (codes "shared") ∷ []))
+    ∷ stmt_tree.assign (to_attribute (var o') n' ∷ []) (list (text (codes "shared") ∷ []))
     ∷ prints (text (codes "two") ∷ primary (var o') (named_part n' ∷ item_part (int 0) ∷ []) ∷ []) ∷ [])
     (([], []) ∷ [])
     ∷ program
@@ -76,8 +76,8 @@ methods_with_defaults = plays
     (params
     ((self', None)
     ∷ (f', Some (lambda 18 (plain_params []) (text (codes "one")))) ∷ []) None None)
-    (s.give_back (Some (called (var f') [])) ∷ [])
-    ∷ s.evaluate (text (codes "text"))
+    (stmt_tree.give_back (Some (called (var f') [])) ∷ [])
+    ∷ stmt_tree.evaluate (text (codes "text"))
     ∷ define 19 b'
     (params
     ((self', None)
@@ -88,19 +88,19 @@ methods_with_defaults = plays
           (called (lambda 21 (plain_params []) (text (codes "two"))) [])),
     ) ∷ [])
     None None)
-    (s.give_back
+    (stmt_tree.give_back
     (Some
     (binary Add (called (var f') [])
     (primary (var self') (named_part a' ∷ call_part [] ∷ [])))) ∷ []) ∷ [])
     ∷ define 22 fun' (plain_params (x' ∷ []))
     (sets l' (called (var Late') [])
-    ∷ s.give_back
+    ∷ stmt_tree.give_back
     (Some
     (list
     (primary (var l') (named_part a' ∷ call_part [] ∷ [])
     ∷ primary (var l')
     (named_part b'
-    ∷ call_part (t.value (lambda 23 (plain_params []) (var x')) ∷ []) ∷ [])
+    ∷ call_part (tree.value (lambda 23 (plain_params []) (var x')) ∷ []) ∷ [])
     ∷ called
     (lambda 24 (plain_params [])
     (primary (var l') (named_part b' ∷ call_part [] ∷ []))) [] ∷ []))) ∷ []) ∷ []))
@@ -138,9 +138,9 @@ instance_called = plays
     (sets y'
     (called (var x')
     (lambda 18 (plain_params (s' ∷ [])) (list (text (codes "l") ∷ [])) ∷ []))
-    ∷ s.evaluate
+    ∷ stmt_tree.evaluate
     (primary (var y')
-    (named_part append' ∷ call_part (t.value (text (codes "z")) ∷ []) ∷ [])) ∷ []) ∷ []))
+    (named_part append' ∷ call_part (tree.value (text (codes "z")) ∷ []) ∷ [])) ∷ []) ∷ []))
     (((Item' ∷ ITEMS ∷ o' ∷ fun' ∷ Box' ∷ Bad' ∷ Plain' ∷ Len' ∷ tries' ∷ make' ∷ [], []) ∷ [])
     ++ shop_blocks
     ++ more_blocks
@@ -167,15 +167,15 @@ item_of_lent = plays
     (program
     (shop
     ++ more_classes
-    ++ (s.assign (to_attribute (var ITEMS) n' ∷ [])
+    ++ (stmt_tree.assign (to_attribute (var ITEMS) n' ∷ [])
     (list (list (text (codes "a") ∷ []) ∷ list (text (codes "b") ∷ []) ∷ []))
     ∷ define 17 fun' (plain_params (x' ∷ []))
-    (s.evaluate
+    (stmt_tree.evaluate
     (primary (var x')
     (named_part n'
     ∷ item_part (int 0)
     ∷ named_part append'
-    ∷ call_part (t.value (text (codes "z")) ∷ []) ∷ [])) ∷ []) ∷ []))
+    ∷ call_part (tree.value (text (codes "z")) ∷ []) ∷ [])) ∷ []) ∷ []))
     (((Item' ∷ ITEMS ∷ o' ∷ fun' ∷ Box' ∷ Bad' ∷ Plain' ∷ Len' ∷ tries' ∷ make' ∷ [], []) ∷ [])
     ++ shop_blocks
     ++ more_blocks
@@ -203,15 +203,15 @@ slice_of_lent = plays
     (program
     (shop
     ++ more_classes
-    ++ (s.assign (to_attribute (var ITEMS) n' ∷ [])
+    ++ (stmt_tree.assign (to_attribute (var ITEMS) n' ∷ [])
     (list (list (text (codes "a") ∷ []) ∷ list (text (codes "b") ∷ []) ∷ []))
     ∷ define 17 fun' (plain_params (x' ∷ []))
-    (s.evaluate
+    (stmt_tree.evaluate
     (primary (var x')
     (named_part n'
-    ∷ slice_part (t.some (int 0)) (t.some (int 1)) t.none
+    ∷ slice_part (tree.some (int 0)) (tree.some (int 1)) tree.none
     ∷ named_part append'
-    ∷ call_part (t.value (text (codes "z")) ∷ []) ∷ [])) ∷ []) ∷ []))
+    ∷ call_part (tree.value (text (codes "z")) ∷ []) ∷ [])) ∷ []) ∷ []))
     (((Item' ∷ ITEMS ∷ o' ∷ fun' ∷ Box' ∷ Bad' ∷ Plain' ∷ Len' ∷ tries' ∷ make' ∷ [], []) ∷ [])
     ++ shop_blocks
     ++ more_blocks
@@ -240,13 +240,13 @@ walk_of_lent = plays
     (program
     (shop
     ++ more_classes
-    ++ (s.assign (to_attribute (var ITEMS) n' ∷ [])
+    ++ (stmt_tree.assign (to_attribute (var ITEMS) n' ∷ [])
     (list (list (text (codes "a") ∷ []) ∷ list (text (codes "b") ∷ []) ∷ []))
     ∷ define 17 fun' (plain_params (x' ∷ []))
     (for (to y') (attribute (var x') n')
-    (s.evaluate
+    (stmt_tree.evaluate
     (primary (var y')
-    (named_part append' ∷ call_part (t.value (text (codes "z")) ∷ []) ∷ [])) ∷ []) ∷ []) ∷ []))
+    (named_part append' ∷ call_part (tree.value (text (codes "z")) ∷ []) ∷ [])) ∷ []) ∷ []) ∷ []))
     (((Item' ∷ ITEMS ∷ o' ∷ fun' ∷ Box' ∷ Bad' ∷ Plain' ∷ Len' ∷ tries' ∷ make' ∷ [], []) ∷ [])
     ++ shop_blocks
     ++ more_blocks
@@ -275,13 +275,13 @@ unpacked_lent = plays
     (program
     (shop
     ++ more_classes
-    ++ (s.assign (to_attribute (var ITEMS) n' ∷ [])
+    ++ (stmt_tree.assign (to_attribute (var ITEMS) n' ∷ [])
     (list (list (text (codes "a") ∷ []) ∷ list (text (codes "b") ∷ []) ∷ []))
     ∷ define 17 fun' (plain_params (x' ∷ []))
     (unpacks (group (to a' ∷ to b' ∷ [])) (attribute (var x') n')
-    ∷ s.evaluate
+    ∷ stmt_tree.evaluate
     (primary (var a')
-    (named_part append' ∷ call_part (t.value (text (codes "z")) ∷ []) ∷ [])) ∷ []) ∷ []))
+    (named_part append' ∷ call_part (tree.value (text (codes "z")) ∷ []) ∷ [])) ∷ []) ∷ []))
     (((Item' ∷ ITEMS ∷ o' ∷ fun' ∷ Box' ∷ Bad' ∷ Plain' ∷ Len' ∷ tries' ∷ make' ∷ [], []) ∷ [])
     ++ shop_blocks
     ++ more_blocks
@@ -309,18 +309,18 @@ spread_lent = plays
     (program
     (shop
     ++ more_classes
-    ++ (s.assign (to_attribute (var ITEMS) n' ∷ [])
+    ++ (stmt_tree.assign (to_attribute (var ITEMS) n' ∷ [])
     (list (list (text (codes "a") ∷ []) ∷ list (text (codes "b") ∷ []) ∷ []))
     ∷ define 17 fun' (plain_params (x' ∷ []))
-    (s.give_back
+    (stmt_tree.give_back
     (Some
     (list
     (list_of 18 (var y') (clause (to y') (attribute (var x') n') [] ∷ [])
     ∷ primary (lambda 19 (params [] (Some a') None) (var a'))
-    (call_part (t.star (attribute (var x') n') ∷ [])
+    (call_part (tree.star (attribute (var x') n') ∷ [])
     ∷ item_part (int 0)
     ∷ named_part append'
-    ∷ call_part (t.value (text (codes "z")) ∷ []) ∷ []) ∷ []))) ∷ []) ∷ []))
+    ∷ call_part (tree.value (text (codes "z")) ∷ []) ∷ []) ∷ []))) ∷ []) ∷ []))
     (((Item' ∷ ITEMS ∷ o' ∷ fun' ∷ Box' ∷ Bad' ∷ Plain' ∷ Len' ∷ tries' ∷ make' ∷ [], []) ∷ [])
     ++ shop_blocks
     ++ more_blocks
@@ -350,18 +350,18 @@ entries_of_lent = plays
     (program
     (shop
     ++ more_classes
-    ++ (s.assign (to_attribute (var ITEMS) n' ∷ [])
+    ++ (stmt_tree.assign (to_attribute (var ITEMS) n' ∷ [])
     (dict ((text (codes "a"), list (text (codes "b") ∷ [])) ∷ []))
     ∷ define 17 fun' (plain_params (x' ∷ []))
-    (s.give_back
+    (stmt_tree.give_back
     (Some
     (primary
     (lambda 18 (params [] None (Some k'))
     (primary (var k')
     (item_part (text (codes "a"))
     ∷ named_part append'
-    ∷ call_part (t.value (text (codes "z")) ∷ []) ∷ [])))
-    (call_part (t.stars (attribute (var x') n') ∷ []) ∷ []))) ∷ []) ∷ []))
+    ∷ call_part (tree.value (text (codes "z")) ∷ []) ∷ [])))
+    (call_part (tree.stars (attribute (var x') n') ∷ []) ∷ []))) ∷ []) ∷ []))
     (((Item' ∷ ITEMS ∷ o' ∷ fun' ∷ Box' ∷ Bad' ∷ Plain' ∷ Len' ∷ tries' ∷ make' ∷ [], []) ∷ [])
     ++ shop_blocks
     ++ more_blocks
@@ -391,17 +391,17 @@ freed = plays
     (program
     (shop
     ++ more_classes
-    ++ (s.assign (to_attribute (var ITEMS) n' ∷ [])
+    ++ (stmt_tree.assign (to_attribute (var ITEMS) n' ∷ [])
     (list (list (text (codes "a") ∷ []) ∷ list (text (codes "b") ∷ []) ∷ []))
     ∷ define 17 fun' (plain_params (x' ∷ []))
     (sets y' (called (var removeSecurityProxy') (var x' ∷ []))
-    ∷ s.evaluate
+    ∷ stmt_tree.evaluate
     (primary (var y')
     (named_part n'
     ∷ item_part (int 0)
     ∷ named_part append'
-    ∷ call_part (t.value (text (codes "z")) ∷ []) ∷ []))
-    ∷ s.give_back (Some (attribute (var y') n')) ∷ []) ∷ []))
+    ∷ call_part (tree.value (text (codes "z")) ∷ []) ∷ []))
+    ∷ stmt_tree.give_back (Some (attribute (var y') n')) ∷ []) ∷ []))
     (((Item' ∷ ITEMS ∷ o' ∷ fun' ∷ Box' ∷ Bad' ∷ Plain' ∷ Len' ∷ tries' ∷ make' ∷ [], []) ∷ [])
     ++ shop_blocks
     ++ more_blocks
@@ -425,10 +425,10 @@ default_not_lent = plays
     (program
     (shop
     ++ more_classes
-    ++ (s.assign (to_attribute (var ITEMS) n' ∷ [])
+    ++ (stmt_tree.assign (to_attribute (var ITEMS) n' ∷ [])
     (list (list (text (codes "a") ∷ []) ∷ list (text (codes "b") ∷ []) ∷ []))
     ∷ define 17 fun' (plain_params (x' ∷ []))
-    (s.give_back
+    (stmt_tree.give_back
     (Some
     (list
     (called (var tries')
@@ -438,11 +438,11 @@ default_not_lent = plays
     (lambda 19 (plain_params []) (attribute (var x') zz') ∷ [])
     ∷ primary (var getattr')
     (call_part
-    (t.value (var x')
-    ∷ t.value (text (codes "zz"))
-    ∷ t.value (list (text (codes "d") ∷ [])) ∷ [])
+    (tree.value (var x')
+    ∷ tree.value (text (codes "zz"))
+    ∷ tree.value (list (text (codes "d") ∷ [])) ∷ [])
     ∷ named_part append'
-    ∷ call_part (t.value (text (codes "e")) ∷ []) ∷ []) ∷ []))) ∷ []) ∷ []))
+    ∷ call_part (tree.value (text (codes "e")) ∷ []) ∷ []) ∷ []))) ∷ []) ∷ []))
     (((Item' ∷ ITEMS ∷ o' ∷ fun' ∷ Box' ∷ Bad' ∷ Plain' ∷ Len' ∷ tries' ∷ make' ∷ [], []) ∷ [])
     ++ shop_blocks
     ++ more_blocks
@@ -466,13 +466,13 @@ abbrev slice_spread : Seen
 slice_spread = plays
     (shop_module
     ∷ program
-    (s.evaluate
+    (stmt_tree.evaluate
     (primary (var print')
     (call_part
-    (t.star
+    (tree.star
     (primary (var fun')
-    (call_part (t.value (list (text (codes "m") ∷ [])) ∷ [])
-    ∷ slice_part (t.some (int 0)) (t.some (int 1)) t.none ∷ [])) ∷ []) ∷ [])) ∷ [])
+    (call_part (tree.value (list (text (codes "m") ∷ [])) ∷ [])
+    ∷ slice_part (tree.some (int 0)) (tree.some (int 1)) tree.none ∷ [])) ∷ []) ∷ [])) ∷ [])
     (([], []) ∷ []) ∷ [])
 
 slice_spread-seen : slice_spread
@@ -492,7 +492,7 @@ abbrev two_sessions : Seen
 two_sessions = played
     (shop_module
     ∷ program
-    (s.assign (to_attribute (var o') n' ∷ []) (list (text (codes "p") ∷ []))
+    (stmt_tree.assign (to_attribute (var o') n' ∷ []) (list (text (codes "p") ∷ []))
     ∷ prints (attribute (var ITEMS) n' ∷ []) ∷ [])
     (([], []) ∷ [])
     ∷ program

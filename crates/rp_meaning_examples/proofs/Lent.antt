@@ -8,8 +8,8 @@ use Rattle.rp_base.specs.declared.operator.CmpOp.TheVariants.{Eq}
 use Rattle.rp_base.specs.declared.operator.UnOp.TheVariants.{Neg}
 use Rattle.rp_compare.specs.Equality.{within}
 use Rattle.rp_tree.specs.declared.parts.Test.TheVariants as test
-use Rattle.rp_tree.specs.Expressions as t
-use Rattle.rp_tree.specs.Statements as s
+use Rattle.rp_tree.specs.Expressions as tree
+use Rattle.rp_tree.specs.Statements as stmt_tree
 use Rattle.rp_meaning.specs.Sessions.{well, cut_off}
 use Rattle.rp_meaning_examples.proofs.Building.{var, int, text, nil, tuple, list, dict, negated, compare, binary, unary, named_part, item_part, slice_part, call_part, primary, attribute, item, called, to_name, to, to_attribute, to_item, group, plain_params, lambda, sets, prints, unpacks, augments, for, handler, try}
 use Rattle.rp_meaning_examples.proofs.Playing.{Seen, seen, read, not_read, set, not_set, plays, played, program, raises_with}
@@ -82,10 +82,10 @@ spread_arguments = plays
     (sets x'
     (primary (var fun')
     (call_part
-    (t.star (list (text (codes "a") ∷ text (codes "b") ∷ []))
-    ∷ t.star (tuple (text (codes "c") ∷ []))
-    ∷ t.key k' (text (codes "v"))
-    ∷ t.stars (dict ((text (codes "w"), text (codes "z")) ∷ [])) ∷ []) ∷ []))
+    (tree.star (list (text (codes "a") ∷ text (codes "b") ∷ []))
+    ∷ tree.star (tuple (text (codes "c") ∷ []))
+    ∷ tree.key k' (text (codes "v"))
+    ∷ tree.stars (dict ((text (codes "w"), text (codes "z")) ∷ [])) ∷ []) ∷ []))
     ∷ prints (item (var x') (int 0) ∷ item (var x') (int 1) ∷ item (var x') (int 2) ∷ item (var x') (int 3) ∷ [])
     ∷ for (to a') (var x') (prints (var a' ∷ []) ∷ []) ∷ [])
     ((x' ∷ a' ∷ [], []) ∷ []) ∷ [])
@@ -131,7 +131,7 @@ methods = plays
     (sets x' (attribute (var o') total')
     ∷ prints (called (var x') [] ∷ [])
     ∷ prints (called (var o') (lambda 1 (plain_params (s' ∷ [])) (attribute (var s') n') ∷ []) ∷ [])
-    ∷ s.assign (to_attribute (var o') n' ∷ []) (text (codes "stored"))
+    ∷ stmt_tree.assign (to_attribute (var o') n' ∷ []) (text (codes "stored"))
     ∷ prints (attribute (var o') n' ∷ [])
     ∷ prints (attribute (var o') m' ∷ []) ∷ [])
     ((x' ∷ [], []) ∷ (s' ∷ [], []) ∷ []) ∷ [])
@@ -160,13 +160,13 @@ abbrev stored : Seen
 stored = plays
     (shop_module
     ∷ program
-    (s.assign (to_attribute (var o') n' ∷ []) (text (codes "x"))
+    (stmt_tree.assign (to_attribute (var o') n' ∷ []) (text (codes "x"))
     ∷ prints (attribute (var o') n' ∷ [])
-    ∷ s.evaluate (called (var setattr') (var o' ∷ text (codes "n") ∷ list (text (codes "mine") ∷ []) ∷ []))
+    ∷ stmt_tree.evaluate (called (var setattr') (var o' ∷ text (codes "n") ∷ list (text (codes "mine") ∷ []) ∷ []))
     ∷ prints (primary (var o') (named_part n' ∷ item_part (int 0) ∷ []) ∷ [])
-    ∷ s.del (to_attribute (var o') n' ∷ [])
+    ∷ stmt_tree.del (to_attribute (var o') n' ∷ [])
     ∷ prints (called (var getattr') (var o' ∷ text (codes "n") ∷ text (codes "gone") ∷ []) ∷ [])
-    ∷ s.assign (to_attribute (var o') q' ∷ []) (int 1) ∷ [])
+    ∷ stmt_tree.assign (to_attribute (var o') q' ∷ []) (int 1) ∷ [])
     (([], []) ∷ []) ∷ [])
 
 stored-seen : stored
@@ -199,12 +199,12 @@ lent_list = plays
     ((test.Order Eq, list (text (codes "a") ∷ text (codes "b") ∷ text (codes "c") ∷ [])) ∷ [])
     ∷ attribute (var o') part' ∷ [])
     ∷ unpacks (group (to a' ∷ to b' ∷ to c' ∷ [])) (attribute (var o') part')
-    ∷ s.evaluate
-    (primary (var print') (call_part (t.value (var a') ∷ t.star (attribute (var o') part') ∷ []) ∷ []))
-    ∷ prints (primary (var o') (named_part part' ∷ slice_part (t.some (int 0)) (t.some (int 2)) t.none ∷ []) ∷ [])
-    ∷ s.evaluate
+    ∷ stmt_tree.evaluate
+    (primary (var print') (call_part (tree.value (var a') ∷ tree.star (attribute (var o') part') ∷ []) ∷ []))
+    ∷ prints (primary (var o') (named_part part' ∷ slice_part (tree.some (int 0)) (tree.some (int 2)) tree.none ∷ []) ∷ [])
+    ∷ stmt_tree.evaluate
     (primary (var o')
-    (named_part part' ∷ named_part append' ∷ call_part (t.value (text (codes "d")) ∷ []) ∷ [])) ∷ [])
+    (named_part part' ∷ named_part append' ∷ call_part (tree.value (text (codes "d")) ∷ []) ∷ [])) ∷ [])
     ((x' ∷ a' ∷ b' ∷ c' ∷ [], []) ∷ []) ∷ [])
 
 lent_list-seen : lent_list
@@ -236,7 +236,7 @@ lent_list-seen = refl
 abbrev item_stored : Seen
 item_stored = plays
     (shop_module
-    ∷ program (s.assign (to_item (var o') (int 0) ∷ []) (text (codes "x")) ∷ []) (([], []) ∷ []) ∷ [])
+    ∷ program (stmt_tree.assign (to_item (var o') (int 0) ∷ []) (text (codes "x")) ∷ []) (([], []) ∷ []) ∷ [])
 
 item_stored-seen : item_stored
     ≡ seen 1 (not_read 1 (codes "Item") (codes "__setitem__") ∷ [])
@@ -247,7 +247,7 @@ item_stored-seen = refl
 -- for x in o:
 --     pass
 abbrev instance_walked : Seen
-instance_walked = plays (shop_module ∷ program (for (to x') (var o') (s.pass ∷ []) ∷ []) ((x' ∷ [], []) ∷ []) ∷ [])
+instance_walked = plays (shop_module ∷ program (for (to x') (var o') (stmt_tree.pass ∷ []) ∷ []) ((x' ∷ [], []) ∷ []) ∷ [])
 
 instance_walked-seen : instance_walked
     ≡ seen 1 (not_read 1 (codes "Item") (codes "__iter__") ∷ [])
@@ -306,7 +306,7 @@ lent_elements = plays
     (shop_module
     ∷ program
     (sets x' (list (var o' ∷ []))
-    ∷ s.evaluate (primary (var x') (item_part (int 0) ∷ named_part n' ∷ []))
+    ∷ stmt_tree.evaluate (primary (var x') (item_part (int 0) ∷ named_part n' ∷ []))
     ∷ augments (to_name x') Add (list (attribute (var o') part' ∷ []))
     ∷ prints (compare (called (var len') (var x' ∷ [])) ((test.Order Eq, int 2) ∷ []) ∷ [])
     ∷ augments (to_name x') Mul (int 2)
@@ -339,10 +339,10 @@ lent_results = plays
     (sets r' (called (var fun') (var o' ∷ var ITEMS ∷ []))
     ∷ prints (primary (var r') (item_part (int 0) ∷ named_part n' ∷ []) ∷ [])
     ∷ sets f' (var fun')
-    ∷ prints (primary (var f') (call_part (t.value (text (codes "a")) ∷ []) ∷ item_part (int 1) ∷ []) ∷ [])
+    ∷ prints (primary (var f') (call_part (tree.value (text (codes "a")) ∷ []) ∷ item_part (int 1) ∷ []) ∷ [])
     ∷ prints
     (primary (var getattr')
-    (call_part (t.value (var o') ∷ t.value (text (codes "total")) ∷ []) ∷ call_part [] ∷ []) ∷ [])
+    (call_part (tree.value (var o') ∷ tree.value (text (codes "total")) ∷ []) ∷ call_part [] ∷ []) ∷ [])
     ∷ prints (called (var getattr') (var o' ∷ text (codes "__len__") ∷ text (codes "d") ∷ []) ∷ []) ∷ [])
     ((r' ∷ f' ∷ [], []) ∷ []) ∷ [])
 
@@ -378,20 +378,20 @@ items_and_keywords = plays
     ∷ prints
     (primary (var fun')
     (call_part
-    (t.key x' (text (codes "1"))
-    ∷ t.key y' (text (codes "2"))
-    ∷ t.key z' (text (codes "3")) ∷ []) ∷ []) ∷ [])
+    (tree.key x' (text (codes "1"))
+    ∷ tree.key y' (text (codes "2"))
+    ∷ tree.key z' (text (codes "3")) ∷ []) ∷ []) ∷ [])
     ∷ prints
     (primary (var fun')
     (call_part
-    (t.value (text (codes "1"))
-    ∷ t.value (text (codes "2"))
-    ∷ t.value (text (codes "3"))
-    ∷ t.value (text (codes "4"))
-    ∷ t.key z' (text (codes "5")) ∷ []) ∷ []) ∷ [])
+    (tree.value (text (codes "1"))
+    ∷ tree.value (text (codes "2"))
+    ∷ tree.value (text (codes "3"))
+    ∷ tree.value (text (codes "4"))
+    ∷ tree.key z' (text (codes "5")) ∷ []) ∷ []) ∷ [])
     ∷ prints
-    (primary (var fun') (call_part (t.stars (dict ((text (codes "x"), text (codes "1")) ∷ [])) ∷ []) ∷ []) ∷ [])
-    ∷ s.evaluate (primary (var fun') (call_part (t.stars (dict ((int 1, text (codes "a")) ∷ [])) ∷ []) ∷ [])) ∷ [])
+    (primary (var fun') (call_part (tree.stars (dict ((text (codes "x"), text (codes "1")) ∷ [])) ∷ []) ∷ []) ∷ [])
+    ∷ stmt_tree.evaluate (primary (var fun') (call_part (tree.stars (dict ((int 1, text (codes "a")) ∷ [])) ∷ []) ∷ [])) ∷ [])
     ((class_' ∷ [], []) ∷ []) ∷ [])
 
 items_and_keywords-seen : items_and_keywords
@@ -421,7 +421,7 @@ abbrev method_arguments : Seen
 method_arguments = plays
     (shop_module
     ∷ program
-    (s.evaluate (primary (var o') (named_part total' ∷ call_part (t.value (text (codes "x")) ∷ []) ∷ [])) ∷ [])
+    (stmt_tree.evaluate (primary (var o') (named_part total' ∷ call_part (tree.value (text (codes "x")) ∷ []) ∷ [])) ∷ [])
     (([], []) ∷ []) ∷ [])
 
 method_arguments-seen : method_arguments

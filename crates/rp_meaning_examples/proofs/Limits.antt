@@ -6,7 +6,7 @@ use Rattle.rp_base.specs.declared.operator.CmpOp.TheVariants.{Lt, Eq}
 use Rattle.rp_compare.specs.Equality.{within}
 use Rattle.rp_ops.specs.Outcome.{no_step, no_cell}
 use Rattle.rp_tree.specs.declared.parts.Test.TheVariants as test
-use Rattle.rp_tree.specs.Statements as s
+use Rattle.rp_tree.specs.Statements as stmt_tree
 use Rattle.rp_meaning.specs.Sessions.{well, cut_off}
 use Rattle.rp_meaning_examples.proofs.Building.{var, int, text, truth, list, compare, binary, attribute, called, to_name, to, plain_params, sets, prints, augments, choose, while, for, handler, try, define}
 use Rattle.rp_meaning_examples.proofs.Playing.{Seen, seen, read, played, program}
@@ -18,7 +18,7 @@ use Rattle.rp_meaning_examples.proofs.Words.{a', b', c', else_', f', i', j', o',
 abbrev no_step_left : Seen
 no_step_left = played
     (shop_module
-    ∷ program (while (truth true) (s.pass ∷ []) ∷ []) (([], []) ∷ []) ∷ []) (codes "p" ∷ []) 100000 50 []
+    ∷ program (while (truth true) (stmt_tree.pass ∷ []) ∷ []) (([], []) ∷ []) ∷ []) (codes "p" ∷ []) 100000 50 []
 
 no_step_left-seen : no_step_left ≡ seen 0 [] ((Some (cut_off no_step), 0, []) ∷ [])
 unfolding encode within
@@ -102,9 +102,9 @@ abbrev cells_of_scopes : Seen
 cells_of_scopes = played
     (shop_module
     ∷ program
-    (define 1 f' (plain_params (a' ∷ b' ∷ [])) (sets c' (var a') ∷ s.give_back (Some (var c')) ∷ [])
+    (define 1 f' (plain_params (a' ∷ b' ∷ [])) (sets c' (var a') ∷ stmt_tree.give_back (Some (var c')) ∷ [])
     ∷ prints (called (var f') (text (codes "x") ∷ text (codes "y") ∷ []) ∷ [])
-    ∷ s.evaluate (called (var f') (text (codes "p") ∷ text (codes "q") ∷ [])) ∷ [])
+    ∷ stmt_tree.evaluate (called (var f') (text (codes "p") ∷ text (codes "q") ∷ [])) ∷ [])
     ((f' ∷ [], []) ∷ (a' ∷ b' ∷ c' ∷ [], []) ∷ []) ∷ []) (codes "p" ∷ []) 9 1000000 []
 
 cells_of_scopes-seen : cells_of_scopes ≡ seen 7 [] ((Some (cut_off no_cell), 999983, codes "x\n") ∷ [])
@@ -140,7 +140,7 @@ steps_of_for = played
     ∷ program
     (for (to i') (called (var range') (int 10 ∷ []))
     (for (to j') (called (var range') (int 10 ∷ []))
-    (choose ((compare (var i') ((test.Order Eq, var j') ∷ []), s.break ∷ []) ∷ []) None ∷ [])
+    (choose ((compare (var i') ((test.Order Eq, var j') ∷ []), stmt_tree.break ∷ []) ∷ []) None ∷ [])
     ∷ sets else_' (int 1) ∷ [])
     ∷ prints (text (codes "end") ∷ []) ∷ [])
     ((i' ∷ j' ∷ else_' ∷ [], []) ∷ []) ∷ []) (codes "p" ∷ []) 100000 400 []

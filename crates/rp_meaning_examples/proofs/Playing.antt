@@ -29,7 +29,7 @@ use Rattle.rp_store.specs.Key.{same_name}
 use Rattle.rp_store.specs.Object as object
 use Rattle.rp_store.specs.Writers.{pushed}
 use Rattle.rp_trail.specs.Entry.{Entry, Verdict, allowed}
-use Rattle.rp_tree.specs.Statements as s
+use Rattle.rp_tree.specs.Statements as stmt_tree
 use Rattle.rp_meaning.specs.Frame.{Run, Program, Natives, program_of}
 use Rattle.rp_meaning.specs.Load.{load, with_new_session, Refused}
 use Rattle.rp_meaning.specs.Scopes.{Place, local, global}
@@ -57,7 +57,7 @@ place_in blocks (suc b) n = own (block_at blocks (suc b)) where
   own : Block → Place
   own block = option_map_or local (position (same_name n) block.0) (around block)
 
-abbrev pub program : List s.StmtForm → List Block → Program
+abbrev pub program : List stmt_tree.StmtForm → List Block → Program
 program statements blocks = program_of (body statements) (record { locals = λ b. (block_at blocks b).0; place = place_in blocks })
 
 -- built-in functions

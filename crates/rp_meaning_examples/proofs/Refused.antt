@@ -8,8 +8,8 @@ use Rattle.rp_base.specs.declared.operator.CmpOp.TheVariants.{Lt, Eq}
 use Rattle.rp_base.specs.declared.operator.UnOp.TheVariants.{Neg}
 use Rattle.rp_compare.specs.Equality.{within}
 use Rattle.rp_tree.specs.declared.parts.Test.TheVariants as test
-use Rattle.rp_tree.specs.Expressions as t
-use Rattle.rp_tree.specs.Statements as s
+use Rattle.rp_tree.specs.Expressions as tree
+use Rattle.rp_tree.specs.Statements as stmt_tree
 use Rattle.rp_meaning.specs.Sessions.{well, cut_off}
 use Rattle.rp_meaning_examples.proofs.Building.{var, int, text, tuple, list, dict, and, negated, compare, binary, unary, named_part, item_part, call_part, primary, attribute, item, called, to_name, to, to_attribute, to_item, params, plain_params, lambda, clause, list_of, sets, prints, augments, choose, while, handler, try, define, class}
 use Rattle.rp_meaning_examples.proofs.Playing.{Seen, seen, read, not_read, set, not_set, plays, program, raises_with}
@@ -27,7 +27,7 @@ lent_method = plays
     (sets x' (attribute (var o') total')
     ∷ prints (var x' ∷ [])
     ∷ prints (compare (var x') ((test.Order Eq, attribute (var o') total') ∷ []) ∷ [])
-    ∷ s.assign (to_attribute (var x') y' ∷ []) (int 1) ∷ [])
+    ∷ stmt_tree.assign (to_attribute (var x') y' ∷ []) (int 1) ∷ [])
     ((x' ∷ [], []) ∷ []) ∷ [])
 
 lent_method-seen : lent_method
@@ -44,7 +44,7 @@ lent_method-seen = refl
 
 -- Item.x
 abbrev class_attribute : Seen
-class_attribute = plays (shop_module ∷ program (s.evaluate (attribute (var Item') x') ∷ []) (([], []) ∷ []) ∷ [])
+class_attribute = plays (shop_module ∷ program (stmt_tree.evaluate (attribute (var Item') x') ∷ []) (([], []) ∷ []) ∷ [])
 
 class_attribute-seen : class_attribute
     ≡ seen 1 (not_read 1 (codes "class") (codes "x") ∷ [])
@@ -71,8 +71,8 @@ lent_within_own = plays
     ∷ var x' ∷ [])
     ∷ sets y' (dict ((text (codes "o"), var o') ∷ []))
     ∷ prints (primary (var y') (item_part (text (codes "o")) ∷ named_part n' ∷ []) ∷ [])
-    ∷ define 1 f' (plain_params (a' ∷ [])) (s.give_back (Some (attribute (var a') n')) ∷ [])
-    ∷ prints (called (var f') (var o' ∷ []) ∷ primary (var f') (call_part (t.key a' (var ITEMS) ∷ []) ∷ []) ∷ [])
+    ∷ define 1 f' (plain_params (a' ∷ [])) (stmt_tree.give_back (Some (attribute (var a') n')) ∷ [])
+    ∷ prints (called (var f') (var o' ∷ []) ∷ primary (var f') (call_part (tree.key a' (var ITEMS) ∷ []) ∷ []) ∷ [])
     ∷ prints (list_of 2 (attribute (var z') n') (clause (to z') (list (var o' ∷ var ITEMS ∷ [])) [] ∷ []) ∷ []) ∷ [])
     ((x' ∷ y' ∷ f' ∷ [], []) ∷ (a' ∷ [], []) ∷ (z' ∷ [], []) ∷ []) ∷ [])
 
@@ -115,24 +115,24 @@ abbrev caught_refusals : Seen
 caught_refusals = plays
     (shop_module
     ∷ program
-    (try (s.evaluate (called (var fun') []) ∷ [])
+    (try (stmt_tree.evaluate (called (var fun') []) ∷ [])
     (handler (Some (var TypeError')) (Some e') (prints (text (codes "t") ∷ var e' ∷ []) ∷ []) ∷ []) None
     None
     ∷ try
-    (s.evaluate
+    (stmt_tree.evaluate
     (primary (var fun')
     (call_part
-    (t.value (text (codes "a"))
-    ∷ t.value (text (codes "b"))
-    ∷ t.key z' (text (codes "c"))
-    ∷ t.key z2' (text (codes "d")) ∷ [])
+    (tree.value (text (codes "a"))
+    ∷ tree.value (text (codes "b"))
+    ∷ tree.key z' (text (codes "c"))
+    ∷ tree.key z2' (text (codes "d")) ∷ [])
     ∷ item_part (text (codes "q")) ∷ [])) ∷ [])
     (handler (Some (var Exception')) (Some e') (prints (text (codes "i") ∷ var e' ∷ []) ∷ []) ∷ []) None
     None
-    ∷ try (s.evaluate (primary (var o') (named_part part' ∷ named_part x' ∷ [])) ∷ [])
+    ∷ try (stmt_tree.evaluate (primary (var o') (named_part part' ∷ named_part x' ∷ [])) ∷ [])
     (handler (Some (var ForbiddenAttribute')) (Some e') (prints (text (codes "f") ∷ var e' ∷ []) ∷ []) ∷ [])
     None None
-    ∷ try (s.evaluate (attribute (var o') m') ∷ [])
+    ∷ try (stmt_tree.evaluate (attribute (var o') m') ∷ [])
     (handler (Some (tuple (var ValueError' ∷ var Unauthorized' ∷ []))) (Some e')
     (prints (text (codes "u") ∷ var e' ∷ []) ∷ []) ∷ []) None None
     ∷ prints (called (var getattr') (var o' ∷ text (codes "m") ∷ []) ∷ []) ∷ [])
@@ -159,7 +159,7 @@ caught_refusals-seen = refl
 abbrev forbidden_store : Seen
 forbidden_store = plays
     (shop_module
-    ∷ program (s.evaluate (called (var setattr') (var o' ∷ text (codes "m") ∷ int 1 ∷ [])) ∷ []) (([], []) ∷ []) ∷ [])
+    ∷ program (stmt_tree.evaluate (called (var setattr') (var o' ∷ text (codes "m") ∷ int 1 ∷ [])) ∷ []) (([], []) ∷ []) ∷ [])
 
 forbidden_store-seen : forbidden_store
     ≡ seen 1 (not_set 1 (codes "Item") (codes "m") ∷ [])
@@ -172,7 +172,7 @@ abbrev forbidden_name : Seen
 forbidden_name = plays
     (shop_module
     ∷ program
-    (s.evaluate (called (var getattr') (var o' ∷ text (codes "_x") ∷ text (codes "d") ∷ [])) ∷ [])
+    (stmt_tree.evaluate (called (var getattr') (var o' ∷ text (codes "_x") ∷ text (codes "d") ∷ [])) ∷ [])
     (([], []) ∷ []) ∷ [])
 
 forbidden_name-seen : forbidden_name
@@ -182,7 +182,7 @@ forbidden_name-seen = refl
 
 -- del o.m
 abbrev attribute_deleted : Seen
-attribute_deleted = plays (shop_module ∷ program (s.del (to_attribute (var o') m' ∷ []) ∷ []) (([], []) ∷ []) ∷ [])
+attribute_deleted = plays (shop_module ∷ program (stmt_tree.del (to_attribute (var o') m' ∷ []) ∷ []) (([], []) ∷ []) ∷ [])
 
 attribute_deleted-seen : attribute_deleted
     ≡ seen 1 (not_set 1 (codes "Item") (codes "m") ∷ [])
@@ -192,7 +192,7 @@ attribute_deleted-seen = refl
 
 -- del o[0]
 abbrev item_deleted : Seen
-item_deleted = plays (shop_module ∷ program (s.del (to_item (var o') (int 0) ∷ []) ∷ []) (([], []) ∷ []) ∷ [])
+item_deleted = plays (shop_module ∷ program (stmt_tree.del (to_item (var o') (int 0) ∷ []) ∷ []) (([], []) ∷ []) ∷ [])
 
 item_deleted-seen : item_deleted
     ≡ seen 1 (not_read 1 (codes "Item") (codes "__delitem__") ∷ [])
@@ -271,9 +271,9 @@ truth_tests = plays
     (shop_module
     ∷ program
     (choose ((var o', prints (text (codes "true") ∷ []) ∷ []) ∷ []) None
-    ∷ while (and (var o' ∷ negated (var o') ∷ [])) (s.pass ∷ [])
-    ∷ s.assert (var o') (Some (attribute (var o') n'))
-    ∷ s.assert (text []) (Some (var o')) ∷ [])
+    ∷ while (and (var o' ∷ negated (var o') ∷ [])) (stmt_tree.pass ∷ [])
+    ∷ stmt_tree.assert (var o') (Some (attribute (var o') n'))
+    ∷ stmt_tree.assert (text []) (Some (var o')) ∷ [])
     (([], []) ∷ []) ∷ [])
 
 truth_tests-seen : truth_tests
@@ -294,7 +294,7 @@ abbrev shown_by_exception : Seen
 shown_by_exception = plays
     (shop_module
     ∷ program
-    (sets x' (called (var Exception') (var o' ∷ [])) ∷ prints (var x' ∷ []) ∷ s.raise (Some (var x')) ∷ [])
+    (sets x' (called (var Exception') (var o' ∷ [])) ∷ prints (var x' ∷ []) ∷ stmt_tree.raise (Some (var x')) ∷ [])
     ((x' ∷ [], []) ∷ []) ∷ [])
 
 shown_by_exception-seen : shown_by_exception
@@ -330,7 +330,7 @@ exposed_names = plays
     (prints (attribute (var ITEMS) n' ∷ var Item' ∷ [])
     ∷ sets ITEMS (text (codes "mine"))
     ∷ prints (var ITEMS ∷ [])
-    ∷ s.del (to_name ITEMS ∷ [])
+    ∷ stmt_tree.del (to_name ITEMS ∷ [])
     ∷ prints (attribute (var ITEMS) n' ∷ []) ∷ [])
     ((ITEMS ∷ [], []) ∷ []) ∷ [])
 
@@ -350,19 +350,19 @@ abbrev all_at_once : Seen
 all_at_once = plays
     (shop_module
     ∷ program
-    (s.evaluate
+    (stmt_tree.evaluate
     (primary (var print')
     (call_part
-    (t.value (primary (var o') (named_part total' ∷ call_part [] ∷ []))
-    ∷ t.value (item (var o') (int 1))
-    ∷ t.value (compare (text (codes "a")) ((test.Within, var o') ∷ []))
-    ∷ t.value
+    (tree.value (primary (var o') (named_part total' ∷ call_part [] ∷ []))
+    ∷ tree.value (item (var o') (int 1))
+    ∷ tree.value (compare (text (codes "a")) ((test.Within, var o') ∷ []))
+    ∷ tree.value
     (called (var o') (lambda 1 (plain_params (s' ∷ [])) (attribute (var s') n') ∷ []))
-    ∷ t.value (compare (var o') ((test.Order Eq, var ITEMS) ∷ []))
-    ∷ t.value (called (var bool') (var o' ∷ []))
-    ∷ t.star (attribute (var o') part') ∷ []) ∷ []))
-    ∷ s.assign (to_attribute (var o') n' ∷ []) (text (codes "z"))
-    ∷ s.evaluate (attribute (var o') m') ∷ [])
+    ∷ tree.value (compare (var o') ((test.Order Eq, var ITEMS) ∷ []))
+    ∷ tree.value (called (var bool') (var o' ∷ []))
+    ∷ tree.star (attribute (var o') part') ∷ []) ∷ []))
+    ∷ stmt_tree.assign (to_attribute (var o') n' ∷ []) (text (codes "z"))
+    ∷ stmt_tree.evaluate (attribute (var o') m') ∷ [])
     (([], []) ∷ (s' ∷ [], []) ∷ []) ∷ [])
 
 all_at_once-seen : all_at_once
@@ -408,23 +408,23 @@ own_classes = plays
     ∷ program
     (class A'
     (define 1 INIT (params ((self', None) ∷ (x', None) ∷ (y', Some (text (codes "d"))) ∷ []) None None)
-    (s.assign (to_attribute (var self') x' ∷ []) (var x')
-    ∷ s.assign (to_attribute (var self') y' ∷ []) (var y') ∷ [])
+    (stmt_tree.assign (to_attribute (var self') x' ∷ []) (var x')
+    ∷ stmt_tree.assign (to_attribute (var self') y' ∷ []) (var y') ∷ [])
     ∷ define 2 both' (plain_params (self' ∷ []))
-    (s.give_back (Some (binary Add (attribute (var self') x') (attribute (var self') y'))) ∷ []) ∷ [])
+    (stmt_tree.give_back (Some (binary Add (attribute (var self') x') (attribute (var self') y'))) ∷ []) ∷ [])
     ∷ sets a' (called (var A') (text (codes "1") ∷ []))
     ∷ prints
     (primary (var a') (named_part both' ∷ call_part [] ∷ [])
     ∷ primary (var A')
-    (call_part (t.key y' (text (codes "q")) ∷ t.key x' (text (codes "p")) ∷ [])
+    (call_part (tree.key y' (text (codes "q")) ∷ tree.key x' (text (codes "p")) ∷ [])
     ∷ named_part both'
     ∷ call_part [] ∷ [])
     ∷ var a'
     ∷ var A' ∷ [])
     ∷ augments (to_attribute (var a') x') Add (text (codes "z"))
-    ∷ s.del (to_attribute (var a') y' ∷ [])
+    ∷ stmt_tree.del (to_attribute (var a') y' ∷ [])
     ∷ prints (attribute (var a') x' ∷ [])
-    ∷ class Item' (s.pass ∷ [])
+    ∷ class Item' (stmt_tree.pass ∷ [])
     ∷ prints (called (var Item') [] ∷ primary (var Item') (call_part [] ∷ named_part x' ∷ []) ∷ []) ∷ [])
     ((A' ∷ a' ∷ Item' ∷ [], []) ∷ (self' ∷ x' ∷ y' ∷ [], []) ∷ (self' ∷ [], []) ∷ []) ∷ [])
 

@@ -8,8 +8,8 @@ use Rattle.rp_base.specs.declared.operator.CmpOp.TheVariants.{Eq}
 use Rattle.rp_base.specs.declared.operator.UnOp.TheVariants.{Neg}
 use Rattle.rp_compare.specs.Equality.{within}
 use Rattle.rp_tree.specs.declared.parts.Test.TheVariants as test
-use Rattle.rp_tree.specs.Expressions as t
-use Rattle.rp_tree.specs.Statements as s
+use Rattle.rp_tree.specs.Expressions as tree
+use Rattle.rp_tree.specs.Statements as stmt_tree
 use Rattle.rp_meaning.specs.Scopes.{outer}
 use Rattle.rp_meaning.specs.Sessions.{well, cut_off}
 use Rattle.rp_meaning_examples.proofs.Building.{var, int, text, nil, truth, tuple, list, dict, compare, binary, unary, named_part, item_part, slice_part, call_part, primary, attribute, item, called, to_name, to, to_attribute, to_item, group, params, plain_params, lambda, clause, list_of, sets, prints, unpacks, augments, declares_global, while, for, handler, try, define, class}
@@ -34,14 +34,14 @@ module_class = plays
     (program
     (shop
     ++ (class Local'
-    (s.evaluate (text (codes "doc"))
+    (stmt_tree.evaluate (text (codes "doc"))
     ∷ define 8 make' (plain_params (self' ∷ []))
-    (s.assign (to_attribute (var self') k' ∷ []) (text (codes "k"))
-    ∷ s.give_back (Some (var self')) ∷ []) ∷ [])
+    (stmt_tree.assign (to_attribute (var self') k' ∷ []) (text (codes "k"))
+    ∷ stmt_tree.give_back (Some (var self')) ∷ []) ∷ [])
     ∷ sets thing' (primary (var Local') (call_part [] ∷ named_part make' ∷ call_part [] ∷ []))
     ∷ augments (to_attribute (var thing') k') Add (text (codes "k"))
     ∷ define 9 fun' (plain_params (a' ∷ []))
-    (s.give_back (Some (list (binary Add (attribute (var thing') k') (var a') ∷ var thing' ∷ []))) ∷ []) ∷ []))
+    (stmt_tree.give_back (Some (list (binary Add (attribute (var thing') k') (var a') ∷ var thing' ∷ []))) ∷ []) ∷ []))
     (((Item' ∷ ITEMS ∷ o' ∷ fun' ∷ Local' ∷ thing' ∷ [], []) ∷ [])
     ++ shop_blocks
     ++ ((self' ∷ [], []) ∷ (a' ∷ [], []) ∷ []))
@@ -63,10 +63,10 @@ proxy_removed = plays
     (program
     (shop
     ++ (define 8 fun' (plain_params (x' ∷ []))
-    (s.give_back
+    (stmt_tree.give_back
     (Some
     (primary (var removeSecurityProxy')
-    (call_part (t.value (var x') ∷ []) ∷ named_part m' ∷ []))) ∷ []) ∷ []))
+    (call_part (tree.value (var x') ∷ []) ∷ named_part m' ∷ []))) ∷ []) ∷ []))
     (((Item' ∷ ITEMS ∷ o' ∷ fun' ∷ [], []) ∷ []) ++ shop_blocks ++ ((x' ∷ [], []) ∷ []))
     ∷ program (prints (called (var fun') (var o' ∷ []) ∷ []) ∷ []) (([], []) ∷ []) ∷ [])
 
@@ -87,11 +87,11 @@ script_list = plays
     (program
     (shop
     ++ (define 8 fun' (plain_params (x' ∷ f' ∷ []))
-    (s.evaluate
+    (stmt_tree.evaluate
     (primary (var x')
-    (named_part append' ∷ call_part (t.value (text (codes "t")) ∷ []) ∷ []))
+    (named_part append' ∷ call_part (tree.value (text (codes "t")) ∷ []) ∷ []))
     ∷ sets y' (called (var f') (var ITEMS ∷ []))
-    ∷ s.give_back (Some (list (var x' ∷ attribute (var y') n' ∷ []))) ∷ []) ∷ []))
+    ∷ stmt_tree.give_back (Some (list (var x' ∷ attribute (var y') n' ∷ []))) ∷ []) ∷ []))
     (((Item' ∷ ITEMS ∷ o' ∷ fun' ∷ [], []) ∷ []) ++ shop_blocks ++ ((x' ∷ f' ∷ y' ∷ [], []) ∷ []))
     ∷ program
     (prints
@@ -125,11 +125,11 @@ special_stores = plays
     ++ more_classes
     ++ (define 17 fun' (plain_params (x' ∷ []))
     (sets b' (called (var Box') [])
-    ∷ s.assign (to_item (var b') (text (codes "k")) ∷ []) (text (codes "v"))
-    ∷ s.assign (to_item (var b') (text (codes "j")) ∷ []) (text (codes "w"))
-    ∷ s.del (to_item (var b') (text (codes "j")) ∷ [])
+    ∷ stmt_tree.assign (to_item (var b') (text (codes "k")) ∷ []) (text (codes "v"))
+    ∷ stmt_tree.assign (to_item (var b') (text (codes "j")) ∷ []) (text (codes "w"))
+    ∷ stmt_tree.del (to_item (var b') (text (codes "j")) ∷ [])
     ∷ augments (to_item (var b') (text (codes "k"))) Add (list (text (codes "z") ∷ []))
-    ∷ s.give_back
+    ∷ stmt_tree.give_back
     (Some
     (list
     (item (var b') (text (codes "k"))
@@ -172,16 +172,16 @@ lengths = plays
     ++ more_classes
     ++ (define 17 fun' (plain_params (x' ∷ []))
     (sets n' (called (var Len') [])
-    ∷ s.assign (to_attribute (var n') n' ∷ []) (unary Neg (int 1))
+    ∷ stmt_tree.assign (to_attribute (var n') n' ∷ []) (unary Neg (int 1))
     ∷ sets r' (list (called (var tries') (var len' ∷ var n' ∷ []) ∷ []))
-    ∷ s.assign (to_attribute (var n') n' ∷ []) (truth true)
+    ∷ stmt_tree.assign (to_attribute (var n') n' ∷ []) (truth true)
     ∷ augments (to_name r') Add
     (list
     (compare (called (var len') (var n' ∷ [])) ((test.Order Eq, int 1) ∷ [])
     ∷ called (var tries')
     (lambda 18 (plain_params [])
     (primary (var n')
-    (slice_part (t.some (int 0)) (t.some (int 1)) t.none ∷ [])) ∷ [])
+    (slice_part (tree.some (int 0)) (tree.some (int 1)) tree.none ∷ [])) ∷ [])
     ∷ called (var tries') (lambda 19 (plain_params []) (item (var n') (int 0)) ∷ [])
     ∷ called (var tries')
     (lambda 20 (plain_params [])
@@ -191,7 +191,7 @@ lengths = plays
     ∷ called (var tries')
     (lambda 21 (plain_params [])
     (list_of 22 (var y') (clause (to y') (var n') [] ∷ [])) ∷ []) ∷ []))
-    ∷ s.give_back (Some (var r')) ∷ []) ∷ []))
+    ∷ stmt_tree.give_back (Some (var r')) ∷ []) ∷ []))
     (((Item' ∷ ITEMS ∷ o' ∷ fun' ∷ Box' ∷ Bad' ∷ Plain' ∷ Len' ∷ tries' ∷ make' ∷ [], []) ∷ [])
     ++ shop_blocks
     ++ more_blocks
@@ -232,18 +232,18 @@ own_list_lent = plays
     ++ (define 17 fun' (plain_params (x' ∷ f' ∷ []))
     (sets r' (list [])
     ∷ for (to y') (var x')
-    (s.evaluate
+    (stmt_tree.evaluate
     (primary (var r')
-    (named_part append' ∷ call_part (t.value (var y') ∷ []) ∷ [])) ∷ [])
+    (named_part append' ∷ call_part (tree.value (var y') ∷ []) ∷ [])) ∷ [])
     ∷ unpacks (group (to a' ∷ to b' ∷ [])) (var x')
     ∷ sets k' (dict ((text (codes "m"), var a') ∷ (text (codes "o"), var b') ∷ []))
-    ∷ s.give_back
+    ∷ stmt_tree.give_back
     (Some
     (list
     (var r'
     ∷ called (var list') (var x' ∷ [])
-    ∷ primary (var f') (call_part (t.stars (var k') ∷ []) ∷ [])
-    ∷ primary (var x') (slice_part (t.some (int 0)) (t.some (int 1)) t.none ∷ [])
+    ∷ primary (var f') (call_part (tree.stars (var k') ∷ []) ∷ [])
+    ∷ primary (var x') (slice_part (tree.some (int 0)) (tree.some (int 1)) tree.none ∷ [])
     ∷ compare (item (var x') (int 1)) ((test.Is, nil) ∷ [])
     ∷ called (var tries')
     (lambda 18 (plain_params []) (binary Add (var x') (var x')) ∷ [])
@@ -288,8 +288,8 @@ entries_spread = plays
     (shop
     ++ more_classes
     ++ (define 17 fun' (plain_params (d' ∷ []))
-    (define 18 g' (params [] None (Some kw')) (s.give_back (Some (var kw')) ∷ [])
-    ∷ s.give_back (Some (list (primary (var g') (call_part (t.stars (var d') ∷ []) ∷ []) ∷ []))) ∷ []) ∷ []))
+    (define 18 g' (params [] None (Some kw')) (stmt_tree.give_back (Some (var kw')) ∷ [])
+    ∷ stmt_tree.give_back (Some (list (primary (var g') (call_part (tree.stars (var d') ∷ []) ∷ []) ∷ []))) ∷ []) ∷ []))
     (((Item' ∷ ITEMS ∷ o' ∷ fun' ∷ Box' ∷ Bad' ∷ Plain' ∷ Len' ∷ tries' ∷ make' ∷ [], []) ∷ [])
     ++ shop_blocks
     ++ more_blocks
@@ -320,7 +320,7 @@ dict_walked = plays
     ++ (define 17 fun' (plain_params (d' ∷ []))
     (for (to k') (var d') (prints (var k' ∷ []) ∷ [])
     ∷ for (to k') (var d')
-    (s.assign (to_item (var d') (binary Add (var k') (text (codes "x"))) ∷ []) (int 1) ∷ []) ∷ []) ∷ []))
+    (stmt_tree.assign (to_item (var d') (binary Add (var k') (text (codes "x"))) ∷ []) (int 1) ∷ []) ∷ []) ∷ []))
     (((Item' ∷ ITEMS ∷ o' ∷ fun' ∷ Box' ∷ Bad' ∷ Plain' ∷ Len' ∷ tries' ∷ make' ∷ [], []) ∷ [])
     ++ shop_blocks
     ++ more_blocks
@@ -353,8 +353,8 @@ module_global = plays
     ∷ define 17 fun' (plain_params (a' ∷ []))
     (declares_global (x' ∷ [])
     ∷ augments (to_name x') Add (var a')
-    ∷ s.del (to_name x' ∷ [])
-    ∷ s.give_back (Some (var x')) ∷ []) ∷ []))
+    ∷ stmt_tree.del (to_name x' ∷ [])
+    ∷ stmt_tree.give_back (Some (var x')) ∷ []) ∷ []))
     (((Item' ∷ ITEMS ∷ o' ∷ fun' ∷ Box' ∷ Bad' ∷ Plain' ∷ Len' ∷ tries' ∷ make' ∷ x' ∷ [], []) ∷ [])
     ++ shop_blocks
     ++ more_blocks
@@ -402,25 +402,25 @@ nested_exceptions = plays
     ++ more_classes
     ++ (define 17 fun' (plain_params (a' ∷ []))
     (try
-    (try (s.raise (Some (called (var ValueError') (text (codes "one") ∷ []))) ∷ [])
+    (try (stmt_tree.raise (Some (called (var ValueError') (text (codes "one") ∷ []))) ∷ [])
     (handler (Some (var ValueError')) (Some e')
     (try
-    (s.raise
+    (stmt_tree.raise
     (Some
     (called (var KeyError') (text (codes "two") ∷ []))) ∷ [])
-    (handler (Some (var KeyError')) None (s.pass ∷ []) ∷ []) None
+    (handler (Some (var KeyError')) None (stmt_tree.pass ∷ []) ∷ []) None
     None
-    ∷ s.raise None ∷ []) ∷ []) None None ∷ [])
+    ∷ stmt_tree.raise None ∷ []) ∷ []) None None ∷ [])
     (handler (Some (var Exception')) (Some e') (prints (var e' ∷ []) ∷ []) ∷ []) None None
     ∷ try
-    (try (s.raise (Some (called (var ValueError') (text (codes "three") ∷ []))) ∷ []) []
+    (try (stmt_tree.raise (Some (called (var ValueError') (text (codes "three") ∷ []))) ∷ []) []
     None
     (Some
-    (s.raise (Some (called (var TypeError') (text (codes "four") ∷ []))) ∷ [])) ∷ [])
+    (stmt_tree.raise (Some (called (var TypeError') (text (codes "four") ∷ []))) ∷ [])) ∷ [])
     (handler (Some (var TypeError')) (Some e') (prints (var e' ∷ []) ∷ []) ∷ []) None None
     ∷ while (truth true)
-    (try (s.give_back (Some (text (codes "r"))) ∷ []) [] None (Some (s.break ∷ [])) ∷ [])
-    ∷ s.give_back (Some (text (codes "after"))) ∷ []) ∷ []))
+    (try (stmt_tree.give_back (Some (text (codes "r"))) ∷ []) [] None (Some (stmt_tree.break ∷ [])) ∷ [])
+    ∷ stmt_tree.give_back (Some (text (codes "after"))) ∷ []) ∷ []))
     (((Item' ∷ ITEMS ∷ o' ∷ fun' ∷ Box' ∷ Bad' ∷ Plain' ∷ Len' ∷ tries' ∷ make' ∷ [], []) ∷ [])
     ++ shop_blocks
     ++ more_blocks
@@ -449,12 +449,12 @@ module_values = plays
     (shop
     ++ more_classes
     ++ (define 17 fun' (plain_params (a' ∷ []))
-    (s.assign (to_name x' ∷ to_name y' ∷ []) (list (var a' ∷ []))
+    (stmt_tree.assign (to_name x' ∷ to_name y' ∷ []) (list (var a' ∷ []))
     ∷ augments (to_name x') Add (text (codes "bc"))
     ∷ augments (to_name y') Mul (int 2)
     ∷ sets t' (tuple (var a' ∷ []))
     ∷ augments (to_name t') Add (tuple (text (codes "z") ∷ []))
-    ∷ s.give_back
+    ∷ stmt_tree.give_back
     (Some
     (list
     (var x'
@@ -490,10 +490,10 @@ script_result = plays
     ++ more_classes
     ++ (define 17 fun' (plain_params (f' ∷ []))
     (sets y' (called (var f') [])
-    ∷ s.evaluate
+    ∷ stmt_tree.evaluate
     (primary (var y')
-    (named_part append' ∷ call_part (t.value (text (codes "z")) ∷ []) ∷ []))
-    ∷ s.give_back (Some (var y')) ∷ []) ∷ []))
+    (named_part append' ∷ call_part (tree.value (text (codes "z")) ∷ []) ∷ []))
+    ∷ stmt_tree.give_back (Some (var y')) ∷ []) ∷ []))
     (((Item' ∷ ITEMS ∷ o' ∷ fun' ∷ Box' ∷ Bad' ∷ Plain' ∷ Len' ∷ tries' ∷ make' ∷ [], []) ∷ [])
     ++ shop_blocks
     ++ more_blocks
@@ -518,11 +518,11 @@ element_of_lent = plays
     (shop
     ++ more_classes
     ++ (define 17 fun' (plain_params (x' ∷ []))
-    (s.evaluate
+    (stmt_tree.evaluate
     (primary (var x')
     (item_part (int 0)
     ∷ named_part append'
-    ∷ call_part (t.value (text (codes "z")) ∷ []) ∷ [])) ∷ []) ∷ []))
+    ∷ call_part (tree.value (text (codes "z")) ∷ []) ∷ [])) ∷ []) ∷ []))
     (((Item' ∷ ITEMS ∷ o' ∷ fun' ∷ Box' ∷ Bad' ∷ Plain' ∷ Len' ∷ tries' ∷ make' ∷ [], []) ∷ [])
     ++ shop_blocks
     ++ more_blocks
@@ -545,11 +545,11 @@ first_of_lent = plays
     (shop
     ++ more_classes
     ++ (define 17 fun' (plain_params (x' ∷ []))
-    (s.evaluate
+    (stmt_tree.evaluate
     (primary (var x')
-    (slice_part (t.some (int 0)) (t.some (int 1)) t.none
+    (slice_part (tree.some (int 0)) (tree.some (int 1)) tree.none
     ∷ named_part append'
-    ∷ call_part (t.value (text (codes "z")) ∷ []) ∷ [])) ∷ []) ∷ []))
+    ∷ call_part (tree.value (text (codes "z")) ∷ []) ∷ [])) ∷ []) ∷ []))
     (((Item' ∷ ITEMS ∷ o' ∷ fun' ∷ Box' ∷ Bad' ∷ Plain' ∷ Len' ∷ tries' ∷ make' ∷ [], []) ∷ [])
     ++ shop_blocks
     ++ more_blocks
@@ -574,9 +574,9 @@ walked_lent = plays
     ++ more_classes
     ++ (define 17 fun' (plain_params (x' ∷ []))
     (for (to y') (var x')
-    (s.evaluate
+    (stmt_tree.evaluate
     (primary (var y')
-    (named_part append' ∷ call_part (t.value (text (codes "z")) ∷ []) ∷ [])) ∷ []) ∷ []) ∷ []))
+    (named_part append' ∷ call_part (tree.value (text (codes "z")) ∷ []) ∷ [])) ∷ []) ∷ []) ∷ []))
     (((Item' ∷ ITEMS ∷ o' ∷ fun' ∷ Box' ∷ Bad' ∷ Plain' ∷ Len' ∷ tries' ∷ make' ∷ [], []) ∷ [])
     ++ shop_blocks
     ++ more_blocks
@@ -599,11 +599,11 @@ argument_by_name = plays
     (shop
     ++ more_classes
     ++ (define 17 fun' (params [] None (Some k'))
-    (s.evaluate
+    (stmt_tree.evaluate
     (primary (var k')
     (item_part (text (codes "a"))
     ∷ named_part append'
-    ∷ call_part (t.value (text (codes "z")) ∷ []) ∷ [])) ∷ []) ∷ []))
+    ∷ call_part (tree.value (text (codes "z")) ∷ []) ∷ [])) ∷ []) ∷ []))
     (((Item' ∷ ITEMS ∷ o' ∷ fun' ∷ Box' ∷ Bad' ∷ Plain' ∷ Len' ∷ tries' ∷ make' ∷ [], []) ∷ [])
     ++ shop_blocks
     ++ more_blocks
@@ -611,7 +611,7 @@ argument_by_name = plays
     ∷ program
     (prints
     (primary (var fun')
-    (call_part (t.stars (dict ((text (codes "a"), list (text (codes "a") ∷ [])) ∷ [])) ∷ []) ∷ []) ∷ []) ∷ [])
+    (call_part (tree.stars (dict ((text (codes "a"), list (text (codes "a") ∷ [])) ∷ [])) ∷ []) ∷ []) ∷ []) ∷ [])
     (([], []) ∷ []) ∷ [])
 
 argument_by_name-seen : argument_by_name

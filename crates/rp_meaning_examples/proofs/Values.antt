@@ -7,7 +7,7 @@ use Rattle.rp_base.specs.declared.operator.CmpOp.TheVariants.{Lt, Gt, Eq, Ne}
 use Rattle.rp_base.specs.declared.operator.UnOp.TheVariants.{Neg, Pos, Invert}
 use Rattle.rp_compare.specs.Equality.{within}
 use Rattle.rp_tree.specs.declared.parts.Test.TheVariants as test
-use Rattle.rp_tree.specs.Statements as s
+use Rattle.rp_tree.specs.Statements as stmt_tree
 use Rattle.rp_meaning.specs.Scopes.{outer}
 use Rattle.rp_meaning.specs.Sessions.{well, cut_off}
 use Rattle.rp_meaning_examples.proofs.Building.{var, int, text, nil, truth, tuple, list, dict, or, and, negated, cond, compare, binary, unary, power, item_part, call_part, primary, attribute, item, called, to_name, to, to_item, group, plain_params, lambda, clause, list_of, dict_of, sets, prints, augments, for, handler, try, define}
@@ -36,8 +36,8 @@ dicts = plays
     ∷ (text (codes "b"), text (codes "y"))
     ∷ (text (codes "a"), text (codes "z")) ∷ []))
     ∷ prints (var d' ∷ item (var d') (text (codes "a")) ∷ [])
-    ∷ s.assign (to_item (var d') (text (codes "c")) ∷ []) (text (codes "w"))
-    ∷ s.del (to_item (var d') (text (codes "b")) ∷ [])
+    ∷ stmt_tree.assign (to_item (var d') (text (codes "c")) ∷ []) (text (codes "w"))
+    ∷ stmt_tree.del (to_item (var d') (text (codes "b")) ∷ [])
     ∷ prints (var d' ∷ [])
     ∷ for (to k') (var d') (prints (var k' ∷ []) ∷ [])
     ∷ sets e'
@@ -53,7 +53,7 @@ dicts = plays
     (clause (to x') (text (codes "ab")) []
     ∷ clause (to y') (list (text (codes "c") ∷ text (codes "d") ∷ []))
     (compare (binary Add (var x') (var y')) ((test.Order Ne, text (codes "bc")) ∷ []) ∷ []) ∷ []) ∷ [])
-    ∷ s.assign (to_item (var d') (list []) ∷ []) (text (codes "q")) ∷ [])
+    ∷ stmt_tree.assign (to_item (var d') (list []) ∷ []) (text (codes "q")) ∷ [])
     ((d' ∷ k' ∷ e' ∷ [], []) ∷ (k' ∷ v' ∷ [], []) ∷ (x' ∷ y' ∷ [], []) ∷ []) ∷ [])
 
 dicts-seen : dicts
@@ -157,7 +157,7 @@ too_many_arguments-seen = refl
 
 -- 'abc'.n
 abbrev no_attribute : Seen
-no_attribute = plays (shop_module ∷ program (s.evaluate (attribute (text (codes "abc")) n') ∷ []) (([], []) ∷ []) ∷ [])
+no_attribute = plays (shop_module ∷ program (stmt_tree.evaluate (attribute (text (codes "abc")) n') ∷ []) (([], []) ∷ []) ∷ [])
 
 no_attribute-seen : no_attribute
     ≡ seen 0 [] ((Some (cut_off (raises_with AttributeError (codes "n"))), 999997, []) ∷ [])
@@ -175,7 +175,7 @@ index_outside-seen = refl
 
 -- None()
 abbrev none_called : Seen
-none_called = plays (shop_module ∷ program (s.evaluate (called nil []) ∷ []) (([], []) ∷ []) ∷ [])
+none_called = plays (shop_module ∷ program (stmt_tree.evaluate (called nil []) ∷ []) (([], []) ∷ []) ∷ [])
 
 none_called-seen : none_called ≡ seen 0 [] ((Some (cut_off (raises_with TypeError (codes "call"))), 999997, []) ∷ [])
 unfolding encode within
@@ -190,10 +190,10 @@ abbrev shown_functions : Seen
 shown_functions = plays
     (shop_module
     ∷ program
-    (define 1 f' (plain_params (x' ∷ [])) (s.give_back (Some (var x')) ∷ [])
+    (define 1 f' (plain_params (x' ∷ [])) (stmt_tree.give_back (Some (var x')) ∷ [])
     ∷ prints (var f' ∷ [])
     ∷ prints (var ValueError' ∷ var len' ∷ list (var f' ∷ []) ∷ [])
-    ∷ s.evaluate (called (var f') (int 1 ∷ int 2 ∷ [])) ∷ [])
+    ∷ stmt_tree.evaluate (called (var f') (int 1 ∷ int 2 ∷ [])) ∷ [])
     ((f' ∷ [], []) ∷ (x' ∷ [], []) ∷ []) ∷ [])
 
 shown_functions-seen : shown_functions
@@ -238,7 +238,7 @@ displays = plays
     ∷ dict []
     ∷ tuple (text (codes "a") ∷ tuple (text (codes "b") ∷ []) ∷ []) ∷ [])
     ∷ sets x' (list (text (codes "a") ∷ []))
-    ∷ s.assign (to_item (var x') (int 0) ∷ []) (var x')
+    ∷ stmt_tree.assign (to_item (var x') (int 0) ∷ []) (var x')
     ∷ prints (var x' ∷ []) ∷ [])
     ((x' ∷ e' ∷ [], []) ∷ (i' ∷ [], []) ∷ (x' ∷ [], []) ∷ []) ∷ [])
 
@@ -252,7 +252,7 @@ displays-seen = refl
 abbrev no_name : Seen
 no_name = plays
     (shop_module
-    ∷ program (s.evaluate (called (var getattr') (var o' ∷ int 1 ∷ [])) ∷ []) (([], []) ∷ []) ∷ [])
+    ∷ program (stmt_tree.evaluate (called (var getattr') (var o' ∷ int 1 ∷ [])) ∷ []) (([], []) ∷ []) ∷ [])
 
 no_name-seen : no_name ≡ seen 0 [] ((Some (cut_off (raises_with TypeError (codes "argument"))), 999995, []) ∷ [])
 unfolding encode within
@@ -265,7 +265,7 @@ list_without_attributes = plays
     (shop_module
     ∷ program
     (sets x' (list (int 1 ∷ []))
-    ∷ s.evaluate (called (var setattr') (var x' ∷ text (codes "a") ∷ int 2 ∷ [])) ∷ [])
+    ∷ stmt_tree.evaluate (called (var setattr') (var x' ∷ text (codes "a") ∷ int 2 ∷ [])) ∷ [])
     ((x' ∷ [], []) ∷ []) ∷ [])
 
 list_without_attributes-seen : list_without_attributes

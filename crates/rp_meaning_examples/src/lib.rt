@@ -1,3 +1,2 @@
-//! Whole runs of small scripts, which the checker computes by the direct meaning and compares with what another
-//! interpreter told of them.
+//! Runs of small scripts by the direct meaning, as the checker computes them, against what another interpreter told.
 #![tactic(auto)]

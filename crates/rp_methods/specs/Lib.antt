@@ -1,6 +1,5 @@
 pub mod Classes
 pub mod Faults
-pub mod Counts
 pub mod Lists
 pub mod Dicts
 pub mod Texts

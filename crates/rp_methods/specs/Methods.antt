@@ -12,12 +12,12 @@ use Rattle.rp_store.specs.Heap.{content_at}
 use Rattle.rp_store.specs.Object as object
 use Rattle.rp_store.specs.Object.{Content}
 use Rattle.rp_ops.specs.Outcome.{State, Outcome}
-use Rattle.rp_methods.specs.Counts.{counts_of, receiver_of, takes}
+use Rattle.rp_attributes.specs.BuiltIns.{counts_of, receiver_of, takes}
+use Rattle.rp_attributes.specs.declared.built_ins.Counts.{Counts}
 use Rattle.rp_methods.specs.Dicts.{dict_method}
 use Rattle.rp_methods.specs.Faults.{no_method, wrong_arguments}
 use Rattle.rp_methods.specs.Lists.{list_method, tuple_method}
 use Rattle.rp_methods.specs.Texts.{text_method}
-use Rattle.rp_methods.specs.declared.counts.Counts.{Counts}
 
 abbrev pub content_method : Oid → Content → NativeId → List Value → State → Outcome Value
 content_method at (object.list xs) id args s = list_method at id args s

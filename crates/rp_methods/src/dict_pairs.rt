@@ -17,9 +17,9 @@ ghost use Rattle.rp_methods.specs.Classes.{AddsNoClass};
 ghost use Rattle.rp_methods.specs.Dicts.{items, new_keys, pairs, pairs_given, pairs_in, put_all, roomed, tuples_listed};
 ghost use Rattle.rp_methods.specs.Dicts.{update};
 
+use crate::contents::dict_at;
 use crate::dict_keys::put;
 use crate::fault::Fault;
-use crate::held::dict_at;
 use rp_base::{Memory, Oid, OpEnd, Rock, Side, Value};
 use rp_dict::Dict;
 use rp_ops::{charge_copies, check_room, handed};

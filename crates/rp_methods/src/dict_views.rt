@@ -17,8 +17,8 @@ ghost use Rattle.rp_items.specs.Slices.{owner_of};
 ghost use Rattle.rp_methods.specs.Classes.{AddsNoClass};
 ghost use Rattle.rp_methods.specs.Dicts.{copy, entries_of, keys, values};
 
+use crate::contents::dict_at;
 use crate::fault::Fault;
-use crate::held::dict_at;
 use rp_base::{Memory, Oid, OpEnd, Rock, Seed, Value};
 use rp_dict::Dict;
 use rp_ops::new_object;

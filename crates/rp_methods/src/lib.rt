@@ -1,12 +1,11 @@
 //! The built-in methods of lists, tuples, dicts and texts, on values whose access decisions have been made.
 #![tactic(auto)]
 
-mod counts;
+mod contents;
 mod dict_keys;
 mod dict_pairs;
 mod dict_views;
 mod fault;
-mod held;
 mod list_changes;
 mod list_takes;
 mod methods;
@@ -18,5 +17,4 @@ mod text_makers;
 mod text_pieces;
 mod text_tests;
 
-pub use counts::{has_method, method_takes};
 pub use methods::call_method;

@@ -16,8 +16,8 @@ ghost use Rattle.rp_methods.specs.Classes.{AddsNoClass};
 ghost use Rattle.rp_methods.specs.Faults.{wrong_argument};
 ghost use Rattle.rp_methods.specs.Lists.{append, extend, grows, insert, insert_at, reversed};
 
+use crate::contents::{copies, list_at, list_length};
 use crate::fault::Fault;
-use crate::held::{copies, list_at, list_length};
 use crate::places::{index_number, place_before};
 use rp_base::{Memory, Meter, Oid, OpEnd, Rock, Value};
 use rp_ops::elements;

@@ -14,8 +14,8 @@ ghost use Rattle.rp_methods.specs.Classes.{AddsNoClass};
 ghost use Rattle.rp_methods.specs.Faults.{wrong_argument};
 ghost use Rattle.rp_methods.specs.Lists.{pop, pop_at, taken_out};
 
+use crate::contents::list_length;
 use crate::fault::Fault;
-use crate::held::list_length;
 use crate::places::{index_number, place_within};
 use rp_base::{Oid, OpEnd, Value};
 use rp_store::Store;

@@ -14,7 +14,6 @@ ghost use Rattle.rp_methods.specs.Lists.{list_method, tuple_method};
 ghost use Rattle.rp_methods.specs.Methods.{method, method_of, object_method};
 ghost use Rattle.rp_methods.specs.Texts.{text_method};
 
-use crate::counts::{counts_of, receiver_of};
 use crate::dict_keys::{get, setdefault};
 use crate::dict_pairs::{items, update};
 use crate::dict_views::{copy, keys, values};
@@ -26,6 +25,7 @@ use crate::text_lists::split;
 use crate::text_makers::{join, replace, strip};
 use crate::text_tests::{endswith, find, isdigit, startswith};
 use crate::{dict_keys, text_pieces};
+use rp_attributes::{counts_of, receiver_of};
 use rp_base::{Meter, NativeId, Oid, OpEnd, Rock, Side, Text, Value};
 use rp_store::{Object, Store};
 use std::alloc::Global;

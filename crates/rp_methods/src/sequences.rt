@@ -13,8 +13,8 @@ ghost use Rattle.rp_ops.specs.Outcome.{Meets, gives, on_value, state_of, with_ch
 ghost use Rattle.rp_methods.specs.Classes.{AddsNoClass};
 ghost use Rattle.rp_methods.specs.Lists.{count, counted, index, none, number, remove, sought};
 
+use crate::contents::list_at;
 use crate::fault::Fault;
-use crate::held::list_at;
 use crate::search::{count_of, place_of};
 use rp_base::{Meter, Oid, OpEnd, Rock, Value};
 use rp_ops::elements_at;

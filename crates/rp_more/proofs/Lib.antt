@@ -4,6 +4,7 @@ pub mod Closings
 pub mod Depth
 pub mod Ends
 pub mod Examples
+pub mod ExpandedWords
 pub mod Expanding
 pub mod FrontPieces
 pub mod Fronts
@@ -12,6 +13,7 @@ pub mod Held
 pub mod Kept
 pub mod KindForms
 pub mod Leading
+pub mod NameWords
 pub mod Places
 pub mod ReadPieces
 pub mod Runs

@@ -1,15 +1,13 @@
 -- Tokens in which no f-literal and no set begins are what they become.
-use Rattle.std.proofs.Common.{◌≡◌, ◌∙◌, refl, sym, ap, ℕ, Bool, true, false, not, ◌&&◌, ◌||◌, if◌then◌else◌, List, [], ◌∷◌, ◌++◌, drop, codes, Result, Ok, Err}
+use Rattle.std.proofs.Common.{◌≡◌, ◌∙◌, refl, sym, ap, ℕ, Bool, true, false, not, ◌&&◌, ◌||◌, if◌then◌else◌, List, [], ◌∷◌, ◌++◌, drop, codes, Ok}
 use Rattle.std.specs.List.{list_any}
 use Rattle.rp_token.specs.Form.{Form, Item}
-use Rattle.rp_token.specs.View.{item_view}
 use Rattle.rp_token.specs.declared.token.Token.{Token}
 use Rattle.rp_more.specs.Forms.{ends_operand, is_mark, is_keyword, opens, closes}
 use Rattle.rp_more.specs.KindSteps.{is_left_brace}
 use Rattle.rp_more.specs.LiteralSteps.{items_of}
-use Rattle.rp_more.specs.Literals.{begins, has_text_at, is_prefix, joined, literal_items, literals, with_front}
+use Rattle.rp_more.specs.Literals.{begins, has_text_at, is_prefix, literals, with_front}
 use Rattle.rp_more.specs.Sets.{Group, group_of, innermost, is_asked, is_set, none_at, opened_behind, other, own, past, sets}
-use Rattle.rp_more.specs.declared.fault.MoreFault.{MoreFault}
 use Rattle.rp_more.proofs.KindForms.{form-left_brace}
 
 first_false : (b c : Bool) → b || c ≡ false → b ≡ false

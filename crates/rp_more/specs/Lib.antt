@@ -4,6 +4,7 @@ pub mod Forms
 pub mod KindSteps
 pub mod LiteralSteps
 pub mod Literals
+pub mod NameSteps
 pub mod PieceSteps
 pub mod Pieces
 pub mod RunSteps

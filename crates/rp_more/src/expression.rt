@@ -4,13 +4,16 @@ ghost use Rattle.std.specs.Prelude.{◌≡◌, ◌++◌, ◌∷◌, [], ℕ, IfO
 ghost use Rattle.std.specs.List.{All};
 ghost use Rattle.std.specs.Option.{option_map};
 ghost use Rattle.rp_base.specs.Identifier.{IsIdentifier};
+ghost use Rattle.rp_base.specs.Names.{with_word, with_words};
 ghost use Rattle.rp_token.specs.Form.{name};
 ghost use Rattle.rp_token.specs.Lexer.{IsGrown};
+ghost use Rattle.rp_token.specs.NameWords.{name_words};
 ghost use Rattle.rp_token.specs.View.{IsHeld, form_view, item_view};
 ghost use Rattle.rp_more.specs.Expression.{closes_own, expression_of, kept};
 ghost use Rattle.rp_more.specs.Literals.{str_call, with_front};
 ghost use Rattle.rp_more.specs.Forms.{placed};
 ghost use Rattle.rp_more.specs.LiteralSteps.{place_item, IsWrongAt, Leads, in_place, items_of, str_front};
+ghost use Rattle.rp_more.specs.NameSteps.{Follow};
 
 use crate::fault::MoreFault;
 use crate::kinds::{is_closing, is_opening, is_outer};
@@ -35,9 +38,10 @@ pub(crate) fn add_expression(
         (in_place place (option_map str_call (expression_of (chars text.now)))))
         (Ok (items_of (names.new ++ more) written.new.items)) result }
     ensures grown { IsGrown names.old names.new }
+    ensures follows { OnOk result (Follow names.old names.new written.old.items written.new.items) }
 {
-    let found = tokens_within(alloc, place, text, names)?;
     begin_call(written, place, names)?;
+    let found = tokens_within(alloc, place, text, names)?;
     add_tokens(written, place, found)?;
     place.end_call(written, TokenKind::RightParen)?;
     Ok(())
@@ -48,6 +52,7 @@ fn begin_call(written: &mut Vec<Token>, place: Place, names: &mut Names) -> Resu
     ensures items { (more : List (List ℕ)) → OnOk result (items_of (names.new ++ more) written.new.items
         ≡ items_of (names.new ++ more) written.old.items ++ map (placed (place_item place)) str_front) }
     ensures grown { IsGrown names.old names.new }
+    ensures follows { OnOk result (Follow names.old names.new written.old.items written.new.items) }
 {
     place.push(written, TokenKind::Name(intern(names, "str")?))?;
     place.push(written, TokenKind::LeftParen)?;
@@ -87,6 +92,8 @@ fn tokens_within(
     ensures tokens { MatchResult result (λ found. expression_of (chars text.now)
         ≡ Some (kept (items_of names.new found.items))) (IsWrongAt place (expression_of (chars text.now))) }
     ensures held { IfOk result (λ found. All (IsHeld names.new) found.items) }
+    ensures words { IfOk result (λ found. names.new
+        ≡ with_words names.old (name_words (items_of names.new found.items))) }
     ensures grown { IsGrown names.old names.new }
 {
     match tokens(alloc, trimmed(text), names) {
@@ -124,6 +131,7 @@ pub(crate) fn intern(names: &mut Names, word: &str) -> Result<Name, Memory>
     requires { IsIdentifier (chars word.now) }
     ensures name { (more : List (List ℕ)) → IfOk result (λ n. form_view (names.new ++ more) (TokenKind.Name n)
         ≡ name (chars word.now)) }
+    ensures word { OnOk result (names.new ≡ with_word names.old (chars word.now)) }
     ensures grown { IsGrown names.old names.new }
 {
     names.intern(word)

@@ -1,10 +1,12 @@
 //! f-literals and sets: the tokens of a script, written out for the grammar.
 #![tactic(auto)]
 
-ghost use Rattle.std.specs.Prelude.{◌≡◌, IfOk, map};
+ghost use Rattle.std.specs.Prelude.{◌≡◌, IfOk, OnOk, map};
 ghost use Rattle.std.specs.List.{All};
+ghost use Rattle.rp_base.specs.Names.{with_words};
 ghost use Rattle.rp_token.specs.Laws.{EndsOnce, IsWithin};
 ghost use Rattle.rp_token.specs.Lexer.{IsGrown};
+ghost use Rattle.rp_token.specs.NameWords.{words_of};
 ghost use Rattle.rp_token.specs.View.{IsHeld, item_view};
 ghost use Rattle.rp_more.specs.Expanded.{expanded};
 ghost use Rattle.rp_more.specs.View.{Gives};
@@ -30,9 +32,9 @@ use std::alloc::Global;
 /// specifications), and each set that is tested by `in` or walked as a dict whose values are None (Python Language
 /// Reference, Set displays).
 ///
-/// The words of the expressions in f-literals are interned among the names, which stay where they are and grow,
-/// whatever is answered. New tokens have the line of the text or of the token that they stand before, and begin and
-/// end where it begins.
+/// The words of the calls that f-literals become are interned among the names, in their order; the names stay where
+/// they are and grow, whatever is answered. New tokens have the line of the text or of the token that they stand
+/// before, and begin and end where it begins.
 ///
 /// # Errors
 /// `Format` with the line of the first f-literal whose text is wrong, or `Memory` where a growth was refused.
@@ -40,6 +42,8 @@ pub fn expand(alloc: Global, tokens: Vec<Token>, names: &mut Names) -> Result<Ve
     requires { All (IsHeld names.old) tokens.items }
     ensures expanded { Gives names.new (expanded (map (item_view names.old) tokens.items)) result }
     ensures names { IsGrown names.old names.new }
+    ensures words { OnOk result (names.new
+        ≡ with_words names.old (words_of (expanded (map (item_view names.old) tokens.items)))) }
     ensures held { IfOk result (λ found. All (IsHeld names.new) found.items) }
     ensures ends { EndsOnce tokens.items → IfOk result (λ found. EndsOnce found.items) }
     // 200 brackets by the text's own, 200 by those of a place in an f-literal, and the four of its call.

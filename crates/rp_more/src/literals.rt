@@ -15,6 +15,7 @@ ghost use Rattle.rp_more.specs.Pieces.{Piece as TextPiece, pieces_of};
 ghost use Rattle.rp_more.specs.PieceSteps.{piece_seen};
 ghost use Rattle.rp_more.specs.View.{Gives};
 ghost use Rattle.rp_more.specs.LiteralSteps.{Leads, comma_before, in_place, items_of, join_front, left, place_item};
+ghost use Rattle.rp_more.specs.NameSteps.{Follow};
 
 use crate::copies::copy;
 use crate::expression::{add_expression, intern};
@@ -40,8 +41,9 @@ struct Literals {
 impl Literals {
     /// Before the first of so many tokens.
     fn new(alloc: Global, count: usize) -> Result<Literals, Memory>
-        ensures { (names : List (List ℕ)) (ts : List Token) → IfOk result (λ l. left names l ts ≡ literals false false
-            (items_of names ts)) }
+        ensures starts { (names : List (List ℕ)) (ts : List Token) → IfOk result (λ l. left names l ts
+            ≡ literals false false (items_of names ts)) }
+        ensures empty { IfOk result (λ l. l.written.items ≡ []) }
     {
         Ok(Literals {
             alloc,
@@ -57,6 +59,7 @@ impl Literals {
         ensures leads { (more : List (List ℕ)) → Leads (left (names.new ++ more) self.old (token.now ∷ behind.now))
             (left (names.new ++ more) self.new behind.now) result }
         ensures grown { IsGrown names.old names.new }
+        ensures follows { OnOk result (Follow names.old names.new self.old.written.items self.new.written.items) }
     {
         if self.inside {
             add_literal(self.alloc, &mut self.written, token, names)?;
@@ -106,6 +109,7 @@ pub(crate) fn written_out(
     ensures literals { (more : List (List ℕ)) → Gives (names.new ++ more) (literals false false
         (items_of (names.new ++ more) tokens.items)) result }
     ensures grown { IsGrown names.old names.new }
+    ensures follows { IfOk result (λ found. Follow names.old names.new [] found.items) }
 {
     if !has_prefix(tokens.as_slice(), names) {
         return Ok(tokens);
@@ -123,6 +127,7 @@ fn each_written_out(
     ensures literals { (more : List (List ℕ)) → Gives (names.new ++ more) (literals false false
         (items_of (names.new ++ more) tokens.now)) result }
     ensures grown { IsGrown names.old names.new }
+    ensures follows { IfOk result (λ found. Follow names.old names.new [] found.items) }
 {
     let mut literals = Literals::new(alloc, tokens.len())?;
     let mut rest = tokens;
@@ -194,6 +199,7 @@ fn add_literal(
         (literal_items (item_view (names.new ++ more) token.now)))
         (Ok (items_of (names.new ++ more) written.new.items)) result }
     ensures grown { IsGrown names.old names.new }
+    ensures follows { OnOk result (Follow names.old names.new written.old.items written.new.items) }
 {
     let place = Place::of(token);
     let Some(pieces) = pieces_of(alloc, &token.kind)? else {
@@ -215,6 +221,7 @@ fn begin_call(
     ensures items { (more : List (List ℕ)) → OnOk result (items_of (names.new ++ more) written.new.items
         ≡ items_of (names.new ++ more) written.old.items ++ map (placed (place_item place)) join_front) }
     ensures grown { IsGrown names.old names.new }
+    ensures follows { OnOk result (Follow names.old names.new written.old.items written.new.items) }
 {
     place.push(written, TokenKind::Text(Text::new(alloc, "")?))?;
     place.push(written, TokenKind::Dot)?;
@@ -247,6 +254,7 @@ fn add_elements(
         (in_place place (elements [] (map piece_seen pieces.now))))
         (Ok (items_of (names.new ++ more) written.new.items)) result }
     ensures grown { IsGrown names.old names.new }
+    ensures follows { OnOk result (Follow names.old names.new written.old.items written.new.items) }
 {
     let mut first = true;
     for piece in pieces {
@@ -271,6 +279,7 @@ fn add_element(
         (with_front (items_of (names.new ++ more) written.new.items) (in_place place
         (elements (comma_before false) ps))) result }
     ensures grown { IsGrown names.old names.new }
+    ensures follows { OnOk result (Follow names.old names.new written.old.items written.new.items) }
 {
     add_comma(written, place, first)?;
     add_piece(alloc, written, place, piece, names)
@@ -297,6 +306,7 @@ fn add_piece(
         (in_place place (piece_forms (piece_seen piece.now))))
         (Ok (items_of (names.new ++ more) written.new.items)) result }
     ensures grown { IsGrown names.old names.new }
+    ensures follows { OnOk result (Follow names.old names.new written.old.items written.new.items) }
 {
     match piece {
         Piece::Run(text) => Ok(place.push(written, TokenKind::Text(text.copy()?))?),

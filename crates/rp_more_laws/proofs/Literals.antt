@@ -7,7 +7,8 @@ use Rattle.std.specs.Option.{option_map, option_map_or}
 use Rattle.std.proofs.lemmas.Cmp.{nat_eq_equiv}
 use lib.Utf8.{encode}
 use Rattle.rp_attributes.specs.Attributes as attributes
-use Rattle.rp_attributes.specs.Attributes.{method_named, text_methods}
+use Rattle.rp_attributes.specs.Attributes.{built_in_method}
+use Rattle.rp_attributes.specs.declared.built_ins.Receiver.TheVariants as kind
 use Rattle.rp_base.specs.Names.{word_of}
 use Rattle.rp_base.specs.declared.native.NativeId.{NativeId}
 use Rattle.rp_base.specs.declared.native.NativeId.TheVariants as native
@@ -197,7 +198,7 @@ pieces_held p (part x ∷ ps) frame s texts reads =
 abbrev join_content : Content
 join_content = object.method (text_value []) (callee.Native native.Join)
 
-join_named : method_named text_methods (codes "join") ≡ Some native.Join
+join_named : built_in_method kind.Text (codes "join") ≡ Some native.Join
 unfolding encode
 join_named = refl
 
@@ -263,7 +264,7 @@ attribute_held n frame s free word =
           (λ s. on_value (plainly (attributes.attribute frame.side (text_value []) n (word_of s.names n)) s)
           (λ v s. got (text_value []) v frame s)))
           (free.rocks (rock.Text []) (reading (word_of s.names n)) (monitor_of s))
-          ∙ ap (λ w. go (bound_by frame w (method_named text_methods w) s.plain)) word
+          ∙ ap (λ w. go (bound_by frame w (built_in_method kind.Text w) s.plain)) word
           ∙ ap (λ id. go (bound_by frame (codes "join") id s.plain)) join_named
 
 -- ---- the list of the pieces

@@ -148,7 +148,7 @@ sought : (q : Rock) (k : Key) (es : List Entry) (vs : List Value) → key_form q
 sought q k es vs hk h e keys =
     (record { rock = q; key = k; is_rock = refl; form = hk }, entry_any q k es vs hk h e keys)
 
-abbrev IsAnswered : Value → List Value → Bool → State → Type 0
+abbrev pub IsAnswered : Value → List Value → Bool → State → Type 0
 IsAnswered a vs r u = IsKey a × (r ≡ list_any (equals a) vs)
 
 dict_tested : (a : Value) (es : List Entry) (vs : List Value) (p : plain.State) → AreKeyed es → rocks_of es
@@ -167,7 +167,7 @@ dict_tested (value.Rock (rock.Truth false)) es vs p h e keys =
 dict_tested (value.Rock (rock.Int n)) es vs p h e keys = sought (rock.Int n) (key.Number n) es vs refl h e keys
 dict_tested (value.Rock (rock.Text t)) es vs p h e keys = sought (rock.Text t) (key.Text t) es vs refl h e keys
 
-within_own : (frame : Frame) (a : Value) (at : Oid) (es : List Entry) (vs : List Value) (s : State)
+pub within_own : (frame : Frame) (a : Value) (at : Oid) (es : List Entry) (vs : List Value) (s : State)
     → DecidesProxiesAlone frame.run
     → content_at (heap_of s) at ≡ Some (object.dict es) → AreKeyed es → rocks_of es ≡ distinct vs → AreKeys vs
     → Holds (is_within a (value.Ref at) frame s) (IsAnswered a vs)
@@ -271,7 +271,7 @@ walk_own frame at es s free there =
     gives) there
     ∙ ap (λ n. gives (keys_from at 0 n) s) (sym (length-map es key_rock))
 
-own_walked : (frame : Frame) (at : Oid) (es : List Entry) (s : State) → DecidesProxiesAlone frame.run
+pub own_walked : (frame : Frame) (at : Oid) (es : List Entry) (s : State) → DecidesProxiesAlone frame.run
     → content_at (heap_of s) at ≡ Some (object.dict es)
     → IsWalked (rocks_of es) at frame s
 own_walked frame at es s free there = record {

@@ -1,2 +1,2 @@
-//! The laws of f-literals and sets: what the trees that they become give by the direct meaning. Definitions and laws alone.
+//! The laws of f-literals and sets: what the trees that they become give by the direct meaning. It has no code.
 #![tactic(auto)]

@@ -102,7 +102,8 @@ fn add_pairs(
 ) -> Result<Vec<Value>, Memory>
     requires sound { AreSound store.old.heap values.items }
     ensures made { OnOk result (store.new ≡ with_tuples side (numbered 0 values.items) store.old) }
-    ensures places { IfOk result (λ v. v.items ≡ references (length store.old.heap) (length (numbered 0 values.items))) }
+    ensures places { IfOk result (λ v. v.items
+        ≡ references (length store.old.heap) (length (numbered 0 values.items))) }
     ensures sound { IfOk result (λ v. AreSound store.new.heap v.items) }
     ensures grown { Gains (IsContainerOf side) store.old.heap store.new.heap }
     ensures counters { KeepsCounters store.old store.new }

@@ -176,8 +176,8 @@ impl Cursor {
     }
 }
 
-/// The element of a list or tuple at the place `next`, handed out plain or through the reference that leads there, and a
-/// step; none at the end. The place goes one on where there is one.
+/// The element of a list or tuple at the place `next`, handed out plain or through the reference that leads there, and
+/// a step; none at the end. The place goes one on where there is one.
 ///
 /// # Errors
 /// Want of steps, and of memory; then the place stays.
@@ -251,8 +251,8 @@ fn entries_at(store: &Store, at: Oid) -> &Dict<Key, (Rock, Value)>
     }
 }
 
-/// The character of a text that begins at the byte `next`, as a text of its own, and a step and its cells; none at the end
-/// of the text. `next` goes to where the character after it begins.
+/// The character of a text that begins at the byte `next`, as a text of its own, and a step and its cells; none at the
+/// end of the text. `next` goes to where the character after it begins.
 ///
 /// # Errors
 /// Want of steps, of cells and of memory; then `next` stays.

@@ -1,12 +1,12 @@
 //! The plain operators of the language, on values whose access decisions have been made.
 #![tactic(auto)]
 
-mod augmented;
+mod augmentation;
 mod binary_operators;
 mod cells;
+mod creation;
 mod cursor;
 mod ends;
-mod made;
 mod numbers;
 mod operand;
 mod refusal;
@@ -17,15 +17,15 @@ mod unary_operators;
 mod walk;
 mod words;
 
-pub use augmented::inplace;
+pub use augmentation::inplace;
 pub use binary_operators::binary;
 pub use cells::{charge, charge_copies, check_room};
 // A crate can name a cursor in a contract only if the types of its fields are exported.
+pub use creation::{new_character, new_object, new_text};
 #[doc(hidden)]
 pub use cursor::Standing;
 pub use cursor::{Cursor, next_element, next_letter, walk_of};
 pub use ends::{raised, step, steps};
-pub use made::{new_character, new_object, new_text};
 pub use operand::{Elements, Operand, elements_at, operand_of};
 pub use refusal::Refusal;
 pub use sequences::{Sequence, add as add_sequence, handed};

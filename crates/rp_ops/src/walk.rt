@@ -14,8 +14,8 @@ ghost use Rattle.rp_ops.specs.View.{elements_of, handed, key_rock};
 ghost use Rattle.rp_ops.specs.Walk.{content_elements, elements, items_of, not_walked, rock_elements, spelled_out};
 ghost use Rattle.rp_ops.specs.Walk.{walked};
 
+use crate::creation::new_character;
 use crate::ends::{step, steps};
-use crate::made::new_character;
 use crate::operand::{Elements, elements_at};
 use crate::refusal::Refusal;
 use crate::sequences::{append, put};

@@ -4,9 +4,9 @@ use Rattle.rp_base.specs.declared.value.Line.{Line}
 use Rattle.rp_base.specs.declared.value.Name.{Name}
 use Rattle.rp_token.specs.declared.token.TokenKind.{TokenKind}
 use Rattle.rp_token.specs.declared.token.TokenKind.TheVariants as kind
-use Rattle.rp_tree.specs.Expressions as t
+use Rattle.rp_tree.specs.Expressions as tree
 use Rattle.rp_tree.specs.Expressions.{Named, Expr, Form, Place}
-use Rattle.rp_tree.specs.Statements as s
+use Rattle.rp_tree.specs.Statements as stmt_tree
 use Rattle.rp_tree.specs.Statements.{Stmt, StmtForm, Stmts, Branches}
 use Rattle.rp_grammar.specs.Kinds.{Tokens, first, skip}
 use Rattle.rp_grammar.specs.Front.{is_comma, starts}
@@ -14,7 +14,7 @@ use Rattle.rp_grammar.specs.ExpressionReading as read
 use Rattle.rp_grammar.specs.ExpressionReading.{Read, Readers, before, alike, all_many, all_listed, at, name_by, ◌>>=◌}
 use Rattle.rp_expr.specs.declared.fault.Fault.{Fault}
 use Rattle.rp_expr.specs.declared.fault.Fault.TheVariants as fault
-use Rattle.rp_grammar.specs.Statements as g
+use Rattle.rp_grammar.specs.Statements as stmt_grammar
 use Rattle.rp_grammar.specs.StatementReading.{Found, ◌>>>◌, place, places, suite, handler, handlers, maybe_suite, is_else, is_finally, block_at}
 use Rattle.rp_parse.specs.declared.context.Context.{Context}
 use Rattle.rp_parse.specs.declared.context.Setting.{Setting}
@@ -58,7 +58,7 @@ stop_of fault.Syntax = stop.Syntax None
 
 -- ---- what the structs of the program stand for
 
-abbrev pub context_of : Context → g.Context
+abbrev pub context_of : Context → stmt_grammar.Context
 context_of c = record { loop = c.in_loop; handler = c.in_handler; class = c.in_class; function = option_map (λ ns. ns.now) c.function }
 
 -- what reads a block
@@ -71,7 +71,7 @@ abbrev pub ahead : {L : Type 0} → (L → L) → Found L → Found L
 ahead items found = found >>> λ xs. Ok (items xs.0, xs.1)
 
 abbrev pub with_branch : Expr × Stmts → Branches → Branches
-with_branch b bs = s.branch b.0 b.1 bs
+with_branch b bs = stmt_tree.branch b.0 b.1 bs
 
 abbrev pub with_places : List Place → List Place × Expr → List Place × Expr
 with_places ps x = (ps ++ x.0, x.1)
@@ -84,7 +84,7 @@ other_names n ts = before (λ ns. n ∷ ns) (all_many [] (λ n ns. n ∷ ns) (at
 
 -- behind `del`
 abbrev pub deleted : Readers → Line → Tokens → Read Stmt
-deleted r line ts = places r ts >>= λ ps. Some (s.a_stmt line (s.del ps.0), ps.1)
+deleted r line ts = places r ts >>= λ ps. Some (stmt_tree.a_stmt line (stmt_tree.del ps.0), ps.1)
 
 -- ---- parts of a compound statement
 
@@ -94,21 +94,21 @@ is_as k = false
 
 -- what reads the block of a handler
 abbrev pub handling_of : Setting → Tokens → Found Stmts
-handling_of x = block_at deep x.height (g.in_handler (context_of x.context)) false
+handling_of x = block_at deep x.height (stmt_grammar.in_handler (context_of x.context)) false
 
 -- behind the first block of `try` and `except`
 abbrev pub handled : ℕ → (Tokens → Found Stmts) → (Tokens → Found Stmts) → Stmts → Tokens → Found StmtForm
 handled h block handling b ts = handler deep h handling ts >>> λ x. handlers deep h handling x.0.1 x.1 >>> λ xs.
-    maybe_suite is_else block xs.1 >>> λ o. maybe_suite is_finally block o.1 >>> λ l. Ok (s.try b (s.except x.0.0 xs.0) o.0 l.0, l.1)
+    maybe_suite is_else block xs.1 >>> λ o. maybe_suite is_finally block o.1 >>> λ l. Ok (stmt_tree.try b (stmt_tree.except x.0.0 xs.0) o.0 l.0, l.1)
 
 -- behind the first block of `try` and `finally`
 abbrev pub finished : (Tokens → Found Stmts) → Stmts → Tokens → Found StmtForm
-finished block b ts = suite block ts >>> λ l. Ok (s.try b s.no_excepts s.none (s.some l.0), l.1)
+finished block b ts = suite block ts >>> λ l. Ok (stmt_tree.try b stmt_tree.no_excepts stmt_tree.none (stmt_tree.some l.0), l.1)
 
 abbrev pub is_text_form : Form → Bool
-is_text_form (t.text cs) = true
+is_text_form (tree.text cs) = true
 is_text_form f = false
 
 -- a statement without parts, where it may stand
 abbrev pub allowed : Bool → Line → StmtForm → Tokens → Read Stmt
-allowed may line form ts = if may then Some (s.a_stmt line form, ts) else None
+allowed may line form ts = if may then Some (stmt_tree.a_stmt line form, ts) else None

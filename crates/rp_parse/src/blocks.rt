@@ -1,13 +1,13 @@
 //! Statements and blocks (Python Language Reference, Compound statements).
 
 ghost use Rattle.std.specs.Prelude.{◌≡◌, Ok, map, length};
-ghost use Rattle.rp_tree.specs.Statements as s;
-ghost use Rattle.rp_tree.specs.StatementViews as w;
+ghost use Rattle.rp_tree.specs.Statements as stmt_tree;
+ghost use Rattle.rp_tree.specs.StatementViews as stmt_views;
 ghost use Rattle.rp_grammar.specs.Kinds.{first};
 ghost use Rattle.rp_parse.specs.Gives.{Gives, ahead, block_of, context_of, deep};
-ghost use Rattle.rp_grammar.specs.StatementReading as p;
+ghost use Rattle.rp_grammar.specs.StatementReading as stmt_reading;
 ghost use Rattle.rp_grammar.specs.StatementReading.{block_at};
-ghost use Rattle.rp_grammar.specs.Statements as g;
+ghost use Rattle.rp_grammar.specs.Statements as stmt_grammar;
 ghost use Rattle.rp_tree.specs.Statements.{StmtForm as Form};
 
 use crate::compound::{
@@ -32,9 +32,9 @@ fn compound<'a>(
     line: Line,
     form: Found<'a, StmtForm>,
 ) -> Result<&'a [Token], Stop<'a>>
-    ensures { (read : p.Found Form) → Gives (λ x. (w.view_stmt_form x.0, x.1.now)) form.entry read
-        → Gives (λ x. (w.view_stmts found.new.items, x.now)) result
-        (ahead (g.joined (w.view_stmts found.old.items)) (p.compound line read)) }
+    ensures { (read : stmt_reading.Found Form) → Gives (λ x. (stmt_views.view_stmt_form x.0, x.1.now)) form.entry read
+        → Gives (λ x. (stmt_views.view_stmts found.new.items, x.now)) result
+        (ahead (stmt_grammar.joined (stmt_views.view_stmts found.old.items)) (stmt_reading.compound line read)) }
 {
     let (form, rest) = form?;
     found.push(stmt(alloc, line, form)?)?;
@@ -50,9 +50,9 @@ fn statement<'a>(
     tokens: &'a [Token],
     setting: Setting<'_>,
 ) -> Result<&'a [Token], Stop<'a>>
-    ensures { Gives (λ x. (w.view_stmts found.new.items, x.now)) result
-        (ahead (g.joined (w.view_stmts found.old.items))
-        (p.statement_at deep setting.entry.height (context_of setting.entry.context) setting.entry.members
+    ensures { Gives (λ x. (stmt_views.view_stmts found.new.items, x.now)) result
+        (ahead (stmt_grammar.joined (stmt_views.view_stmts found.old.items))
+        (stmt_reading.statement_at deep setting.entry.height (context_of setting.entry.context) setting.entry.members
         (block_at deep setting.entry.height) tokens.now)) }
 {
     match tokens {
@@ -111,9 +111,9 @@ fn statements<'a>(
     tokens: &'a [Token],
     setting: Setting<'_>,
 ) -> Result<&'a [Token], Stop<'a>>
-    ensures { Gives (λ x. (w.view_stmts found.new.items, x.now)) result
-        (ahead (g.joined (w.view_stmts found.old.items))
-        (p.statements deep setting.entry.height (context_of setting.entry.context) setting.entry.members
+    ensures { Gives (λ x. (stmt_views.view_stmts found.new.items, x.now)) result
+        (ahead (stmt_grammar.joined (stmt_views.view_stmts found.old.items))
+        (stmt_reading.statements deep setting.entry.height (context_of setting.entry.context) setting.entry.members
         (block_at deep setting.entry.height) tokens.now)) }
 {
     let mut rest = tokens;
@@ -135,8 +135,8 @@ fn statements<'a>(
 #[cycle(statements)]
 #[tactic(auto, unfolding(rp_grammar::specs::StatementReading::indented))]
 fn indented<'a>(alloc: Global, tokens: &'a [Token], setting: Setting<'_>) -> Found<'a, Vec<Stmt>>
-    ensures { Gives (λ x. (w.view_stmts x.0.items, x.1.now)) result
-        (p.indented deep setting.entry.height (context_of setting.entry.context) setting.entry.members
+    ensures { Gives (λ x. (stmt_views.view_stmts x.0.items, x.1.now)) result
+        (stmt_reading.indented deep setting.entry.height (context_of setting.entry.context) setting.entry.members
         (block_at deep setting.entry.height) tokens.now) }
 {
     let mut found = Vec::new(alloc);
@@ -164,8 +164,8 @@ fn block_inside<'a>(
     tokens: &'a [Token],
     setting: Setting<'_>,
 ) -> Found<'a, Vec<Stmt>>
-    ensures { Gives (λ x. (w.view_stmts x.0.items, x.1.now)) result
-        (p.block_by (first tokens.now) deep setting.entry.height
+    ensures { Gives (λ x. (stmt_views.view_stmts x.0.items, x.1.now)) result
+        (stmt_reading.block_by (first tokens.now) deep setting.entry.height
         (context_of setting.entry.context) setting.entry.members (block_at deep setting.entry.height) tokens.now) }
 {
     match tokens {
@@ -192,7 +192,7 @@ fn block_inside<'a>(
 /// A block, behind its colon. Its own height is at most that of the setting.
 #[cycle(statements)]
 pub fn block<'a>(alloc: Global, tokens: &'a [Token], setting: Setting<'_>) -> Found<'a, Vec<Stmt>>
-    ensures { Gives (λ x. (w.view_stmts x.0.items, x.1.now)) result (block_of setting.entry tokens.now) }
+    ensures { Gives (λ x. (stmt_views.view_stmts x.0.items, x.1.now)) result (block_of setting.entry tokens.now) }
 {
     if setting.height == 0 {
         return Err(Stop::Syntax(None));
@@ -206,7 +206,8 @@ pub fn block<'a>(alloc: Global, tokens: &'a [Token], setting: Setting<'_>) -> Fo
 /// A whole script, whose last token is END.
 #[tactic(auto, unfolding(rp_grammar::specs::StatementReading::program_at))]
 pub fn program(alloc: Global, tokens: &[Token]) -> Found<'_, Vec<Stmt>>
-    ensures { Gives (λ x. (w.view_stmts x.0.items, x.1.now)) result (p.program_at deep 199 tokens.now) }
+    ensures { Gives (λ x. (stmt_views.view_stmts x.0.items, x.1.now)) result
+        (stmt_reading.program_at deep 199 tokens.now) }
 {
     let mut found = Vec::new(alloc);
     let rest = statements(alloc, &mut found, tokens, Setting::top())?;

@@ -1,15 +1,15 @@
 //! Compound statements (Python Language Reference, Compound statements).
 
 ghost use Rattle.std.specs.Prelude.{◌≡◌, false, map, option_map};
-ghost use Rattle.rp_tree.specs.StatementViews as w;
+ghost use Rattle.rp_tree.specs.StatementViews as stmt_views;
 ghost use Rattle.rp_parse.specs.Gives.{Gives, ahead, block_of, context_of, deep, handling_of, with_branch};
 ghost use Rattle.rp_parse.specs.Gives as gives;
-ghost use Rattle.rp_grammar.specs.StatementReading as p;
+ghost use Rattle.rp_grammar.specs.StatementReading as stmt_reading;
 ghost use Rattle.rp_grammar.specs.StatementReading.{block_at};
 ghost use Rattle.rp_grammar.specs.Kinds.{first, skip};
-ghost use Rattle.rp_tree.specs.ExpressionViews as v;
-ghost use Rattle.rp_grammar.specs.Statements as g;
-ghost use Rattle.rp_tree.specs.Statements as s;
+ghost use Rattle.rp_tree.specs.ExpressionViews as views;
+ghost use Rattle.rp_grammar.specs.Statements as stmt_grammar;
+ghost use Rattle.rp_tree.specs.Statements as stmt_tree;
 
 use crate::blocks::block;
 use crate::context::{Setting, function_block};
@@ -26,7 +26,8 @@ use std::alloc::Global;
 /// A block behind a colon.
 #[cycle(statements)]
 fn suite<'a>(alloc: Global, tokens: &'a [Token], setting: Setting<'_>) -> Found<'a, Vec<Stmt>>
-    ensures { Gives (λ x. (w.view_stmts x.0.items, x.1.now)) result (p.suite (block_of setting.entry) tokens.now) }
+    ensures { Gives (λ x. (stmt_views.view_stmts x.0.items, x.1.now)) result
+        (stmt_reading.suite (block_of setting.entry) tokens.now) }
 {
     if !is_colon(tokens) {
         return Err(Stop::Syntax(None));
@@ -38,8 +39,8 @@ fn suite<'a>(alloc: Global, tokens: &'a [Token], setting: Setting<'_>) -> Found<
 #[cycle(statements)]
 #[tactic(auto, unfolding(rp_grammar::specs::StatementReading::tested), using(rp_tree::proofs::StatementEquations::variants))]
 fn tested<'a>(alloc: Global, tokens: &'a [Token], setting: Setting<'_>) -> Found<'a, Branch>
-    ensures { Gives (λ x. (w.view_branch x.0, x.1.now)) result
-        (p.tested deep setting.entry.height (block_of setting.entry) tokens.now) }
+    ensures { Gives (λ x. (stmt_views.view_branch x.0, x.1.now)) result
+        (stmt_reading.tested deep setting.entry.height (block_of setting.entry) tokens.now) }
 {
     let (test, rest) = low_expr(alloc, tokens, setting.height)?;
     let (body, rest) = suite(alloc, rest, setting)?;
@@ -54,9 +55,9 @@ fn elifs<'a>(
     tokens: &'a [Token],
     setting: Setting<'_>,
 ) -> Found<'a, Vec<Branch>>
-    ensures { Gives (λ x. (w.branches_of (map w.view_branch x.0.items), x.1.now)) result
-        (ahead (with_branch (w.view_branch first))
-        (p.elifs deep setting.entry.height (block_of setting.entry) tokens.now)) }
+    ensures { Gives (λ x. (stmt_views.branches_of (map stmt_views.view_branch x.0.items), x.1.now)) result
+        (ahead (with_branch (stmt_views.view_branch first))
+        (stmt_reading.elifs deep setting.entry.height (block_of setting.entry) tokens.now)) }
 {
     let mut found = Vec::with_capacity(alloc, 1)?;
     found.push(first)?;
@@ -85,8 +86,8 @@ fn otherwise<'a>(
     tokens: &'a [Token],
     setting: Setting<'_>,
 ) -> Found<'a, Option<Vec<Stmt>>>
-    ensures { Gives (λ x. (w.view_maybe_stmts x.0, x.1.now)) result
-        (p.maybe_suite p.is_else (block_of setting.entry) tokens.now) }
+    ensures { Gives (λ x. (stmt_views.view_maybe_stmts x.0, x.1.now)) result
+        (stmt_reading.maybe_suite stmt_reading.is_else (block_of setting.entry) tokens.now) }
 {
     if !is_else(tokens) {
         return Ok((None, tokens));
@@ -105,8 +106,8 @@ fn finally<'a>(
     tokens: &'a [Token],
     setting: Setting<'_>,
 ) -> Found<'a, Option<Vec<Stmt>>>
-    ensures { Gives (λ x. (w.view_maybe_stmts x.0, x.1.now)) result
-        (p.maybe_suite p.is_finally (block_of setting.entry) tokens.now) }
+    ensures { Gives (λ x. (stmt_views.view_maybe_stmts x.0, x.1.now)) result
+        (stmt_reading.maybe_suite stmt_reading.is_finally (block_of setting.entry) tokens.now) }
 {
     if !is_finally(tokens) {
         return Ok((None, tokens));
@@ -125,8 +126,8 @@ pub fn if_statement<'a>(
     tokens: &'a [Token],
     setting: Setting<'_>,
 ) -> Found<'a, StmtForm>
-    ensures { Gives (λ x. (w.view_stmt_form x.0, x.1.now)) result
-        (p.if_statement deep setting.entry.height (block_of setting.entry) tokens.now) }
+    ensures { Gives (λ x. (stmt_views.view_stmt_form x.0, x.1.now)) result
+        (stmt_reading.if_statement deep setting.entry.height (block_of setting.entry) tokens.now) }
 {
     let (first, rest) = tested(alloc, tokens, setting)?;
     let (branches, rest) = elifs(alloc, first, rest, setting)?;
@@ -142,8 +143,8 @@ pub fn while_statement<'a>(
     tokens: &'a [Token],
     setting: Setting<'_>,
 ) -> Found<'a, StmtForm>
-    ensures { Gives (λ x. (w.view_stmt_form x.0, x.1.now)) result
-        (p.while_statement deep setting.entry.height (block_of setting.entry) tokens.now) }
+    ensures { Gives (λ x. (stmt_views.view_stmt_form x.0, x.1.now)) result
+        (stmt_reading.while_statement deep setting.entry.height (block_of setting.entry) tokens.now) }
 {
     let (Branch { test, body }, rest) = tested(alloc, tokens, setting)?;
     Ok((StmtForm::While(test, body), rest))
@@ -157,8 +158,8 @@ pub fn for_statement<'a>(
     tokens: &'a [Token],
     setting: Setting<'_>,
 ) -> Found<'a, StmtForm>
-    ensures { Gives (λ x. (w.view_stmt_form x.0, x.1.now)) result
-        (p.for_statement deep setting.entry.height (block_of setting.entry) tokens.now) }
+    ensures { Gives (λ x. (stmt_views.view_stmt_form x.0, x.1.now)) result
+        (stmt_reading.for_statement deep setting.entry.height (block_of setting.entry) tokens.now) }
 {
     let (target, rest) = low_target(alloc, tokens, setting.height)?;
     if !is_in(rest) {
@@ -183,9 +184,9 @@ fn named_handler<'a>(
     tokens: &'a [Token],
     setting: Setting<'_>,
 ) -> Found<'a, (Except, bool)>
-    ensures { Gives (λ x. ((w.view_except x.0.0, x.0.1), x.1.now)) result
-        (p.named_handler (first tokens.now) (first (skip tokens.now)) (block_of setting.entry)
-        (v.view_expr kind) tokens.now) }
+    ensures { Gives (λ x. ((stmt_views.view_except x.0.0, x.0.1), x.1.now)) result
+        (stmt_reading.named_handler (first tokens.now) (first (skip tokens.now)) (block_of setting.entry)
+        (views.view_expr kind) tokens.now) }
 {
     if !is_as(tokens) {
         let (body, rest) = suite(alloc, tokens, setting)?;
@@ -214,8 +215,8 @@ fn handler<'a>(
     tokens: &'a [Token],
     setting: Setting<'_>,
 ) -> Found<'a, (Except, bool)>
-    ensures { Gives (λ x. ((w.view_except x.0.0, x.0.1), x.1.now)) result
-        (p.handler deep setting.entry.height (block_of setting.entry) tokens.now) }
+    ensures { Gives (λ x. ((stmt_views.view_except x.0.0, x.0.1), x.1.now)) result
+        (stmt_reading.handler deep setting.entry.height (block_of setting.entry) tokens.now) }
 {
     if is_colon(tokens) {
         let (body, rest) = suite(alloc, tokens, setting)?;
@@ -239,9 +240,9 @@ fn handlers<'a>(
     tokens: &'a [Token],
     setting: Setting<'_>,
 ) -> Found<'a, Vec<Except>>
-    ensures { Gives (λ x. (w.excepts_of (map w.view_except x.0.items), x.1.now)) result
-        (ahead (s.except (w.view_except first))
-        (p.handlers deep setting.entry.height (block_of setting.entry) handles_all tokens.now)) }
+    ensures { Gives (λ x. (stmt_views.excepts_of (map stmt_views.view_except x.0.items), x.1.now)) result
+        (ahead (stmt_tree.except (stmt_views.view_except first))
+        (stmt_reading.handlers deep setting.entry.height (block_of setting.entry) handles_all tokens.now)) }
 {
     let mut found = Vec::with_capacity(alloc, 1)?;
     found.push(first)?;
@@ -273,9 +274,9 @@ fn handled<'a>(
     tokens: &'a [Token],
     setting: Setting<'_>,
 ) -> Found<'a, StmtForm>
-    ensures { Gives (λ x. (w.view_stmt_form x.0, x.1.now)) result
+    ensures { Gives (λ x. (stmt_views.view_stmt_form x.0, x.1.now)) result
         (gives.handled setting.entry.height (block_of setting.entry) (handling_of setting.entry)
-        (w.view_stmts body.items) tokens.now) }
+        (stmt_views.view_stmts body.items) tokens.now) }
 {
     let handling = setting.block(setting.context.with_handler());
     let ((first, handles_all), rest) = handler(alloc, tokens, handling)?;
@@ -300,8 +301,8 @@ fn finished<'a>(
     tokens: &'a [Token],
     setting: Setting<'_>,
 ) -> Found<'a, StmtForm>
-    ensures { Gives (λ x. (w.view_stmt_form x.0, x.1.now)) result
-        (gives.finished (block_of setting.entry) (w.view_stmts body.items) tokens.now) }
+    ensures { Gives (λ x. (stmt_views.view_stmt_form x.0, x.1.now)) result
+        (gives.finished (block_of setting.entry) (stmt_views.view_stmts body.items) tokens.now) }
 {
     let (last, rest) = suite(alloc, tokens, setting)?;
     let form = StmtForm::Try {
@@ -321,9 +322,10 @@ fn behind_try<'a>(
     tokens: &'a [Token],
     setting: Setting<'_>,
 ) -> Found<'a, StmtForm>
-    ensures { Gives (λ x. (w.view_stmt_form x.0, x.1.now)) result
-        (p.behind_try (first tokens.now) deep setting.entry.height (block_of setting.entry) (handling_of setting.entry)
-        (w.view_stmts body.items) tokens.now) }
+    ensures { Gives (λ x. (stmt_views.view_stmt_form x.0, x.1.now)) result
+        (stmt_reading.behind_try (first tokens.now) deep setting.entry.height (block_of setting.entry)
+        (handling_of setting.entry)
+        (stmt_views.view_stmts body.items) tokens.now) }
 {
     match tokens {
         [
@@ -352,8 +354,9 @@ pub fn try_statement<'a>(
     tokens: &'a [Token],
     setting: Setting<'_>,
 ) -> Found<'a, StmtForm>
-    ensures { Gives (λ x. (w.view_stmt_form x.0, x.1.now)) result
-        (p.try_statement deep setting.entry.height (block_of setting.entry) (handling_of setting.entry) tokens.now) }
+    ensures { Gives (λ x. (stmt_views.view_stmt_form x.0, x.1.now)) result
+        (stmt_reading.try_statement deep setting.entry.height (block_of setting.entry)
+        (handling_of setting.entry) tokens.now) }
 {
     let (body, rest) = match suite(alloc, tokens, setting) {
         Ok(found) => found,
@@ -370,10 +373,10 @@ pub fn def_statement<'a>(
     tokens: &'a [Token],
     setting: Setting<'_>,
 ) -> Found<'a, StmtForm>
-    ensures { Gives (λ x. (w.view_stmt_form x.0, x.1.now)) result
-        (p.def_statement deep setting.entry.height
+    ensures { Gives (λ x. (stmt_views.view_stmt_form x.0, x.1.now)) result
+        (stmt_reading.def_statement deep setting.entry.height
         (λ ps. block_at deep setting.entry.height
-        (g.in_function ps (context_of setting.entry.context)) false) tokens.now) }
+        (stmt_grammar.in_function ps (context_of setting.entry.context)) false) tokens.now) }
 {
     let (name, rest) = name(tokens)?;
     if !is_left_paren(rest) {
@@ -392,7 +395,7 @@ pub fn def_statement<'a>(
 /// `()`, where it comes.
 #[tactic(auto, unfolding(rp_grammar::specs::StatementReading::bases))]
 fn bases(tokens: &[Token]) -> Result<&[Token], Stop<'_>>
-    ensures { Gives (λ x. (tt, x.now)) result (p.bases tokens.now) }
+    ensures { Gives (λ x. (tt, x.now)) result (stmt_reading.bases tokens.now) }
 {
     if !is_left_paren(tokens) {
         return Ok(tokens);
@@ -412,8 +415,8 @@ pub fn class_statement<'a>(
     tokens: &'a [Token],
     setting: Setting<'_>,
 ) -> Found<'a, StmtForm>
-    ensures { Gives (λ x. (w.view_stmt_form x.0, x.1.now)) result
-        (p.class_statement (block_of setting.entry) tokens.now) }
+    ensures { Gives (λ x. (stmt_views.view_stmt_form x.0, x.1.now)) result
+        (stmt_reading.class_statement (block_of setting.entry) tokens.now) }
 {
     let (name, rest) = name(tokens)?;
     let rest = bases(rest)?;

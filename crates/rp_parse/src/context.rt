@@ -2,7 +2,7 @@
 
 ghost use Rattle.std.specs.Prelude.{◌≡◌, ◌≢◌, ◌-◌, IfErr, IfOk, None, Some, false, true};
 ghost use Rattle.std.specs.List.{list_all};
-ghost use Rattle.rp_grammar.specs.Statements as g;
+ghost use Rattle.rp_grammar.specs.Statements as stmt_grammar;
 ghost use Rattle.rp_parse.specs.Gives.{context_of};
 
 use crate::fault::Stop;
@@ -25,7 +25,7 @@ pub struct Context<'c> {
 impl<'c> Context<'c> {
     /// No block at all.
     pub fn top() -> Self
-        ensures { context_of result ≡ g.top }
+        ensures { context_of result ≡ stmt_grammar.top }
     {
         Context {
             in_loop: false,
@@ -37,7 +37,7 @@ impl<'c> Context<'c> {
 
     /// The block of a loop.
     pub fn with_loop(self) -> Self
-        ensures { context_of result ≡ g.in_loop (context_of self.entry) }
+        ensures { context_of result ≡ stmt_grammar.in_loop (context_of self.entry) }
     {
         Context {
             in_loop: true,
@@ -47,7 +47,7 @@ impl<'c> Context<'c> {
 
     /// The block of a handler.
     pub fn with_handler(self) -> Self
-        ensures { context_of result ≡ g.in_handler (context_of self.entry) }
+        ensures { context_of result ≡ stmt_grammar.in_handler (context_of self.entry) }
     {
         Context {
             in_handler: true,
@@ -57,7 +57,7 @@ impl<'c> Context<'c> {
 
     /// The block of a class.
     pub fn with_class(self) -> Self
-        ensures { context_of result ≡ g.in_class (context_of self.entry) }
+        ensures { context_of result ≡ stmt_grammar.in_class (context_of self.entry) }
     {
         Context {
             in_class: true,
@@ -85,7 +85,7 @@ pub fn function_block<'n>(parameters: &'n Parameters, context: Context<'_>) -> C
 
 /// Whether `global` may name this: it is no parameter of the function.
 fn is_free(context: &Context<'_>, named: &Named) -> bool
-    ensures { result ≡ g.is_free (context_of context.now).function named.now }
+    ensures { result ≡ stmt_grammar.is_free (context_of context.now).function named.now }
 {
     match context.function {
         None => true,
@@ -95,7 +95,7 @@ fn is_free(context: &Context<'_>, named: &Named) -> bool
 
 /// Whether `global` may name all of these.
 pub fn are_free(context: &Context<'_>, names: &[Named]) -> bool
-    ensures { result ≡ list_all (g.is_free (context_of context.now).function) names.now }
+    ensures { result ≡ list_all (stmt_grammar.is_free (context_of context.now).function) names.now }
 {
     let mut rest = names;
     'names: while let [named, others @ ..] = rest {
@@ -121,7 +121,7 @@ pub struct Setting<'c> {
 impl<'c> Setting<'c> {
     /// The statements of a script, which have height at most 200.
     pub fn top() -> Self
-        ensures { (result.height ≡ 199) × (context_of result.context ≡ g.top) × (result.members ≡ false) }
+        ensures { (result.height ≡ 199) × (context_of result.context ≡ stmt_grammar.top) × (result.members ≡ false) }
     {
         Setting {
             height: 199,

@@ -1,16 +1,16 @@
 //! Lines of simple statements, and what of limited height stands in statements.
 
 ghost use Rattle.std.specs.Prelude.{◌≡◌, ◌<◌, ◌-◌, ◌^◌, ℕ, suc, nat_le, map, option_map, length};
-ghost use Rattle.rp_tree.specs.Heights as h;
+ghost use Rattle.rp_tree.specs.Heights as tree_heights;
 ghost use Rattle.rp_tree.specs.Heights.{capped};
-ghost use Rattle.rp_tree.specs.ExpressionViews as v;
-ghost use Rattle.rp_tree.specs.StatementViews as w;
+ghost use Rattle.rp_tree.specs.ExpressionViews as views;
+ghost use Rattle.rp_tree.specs.StatementViews as stmt_views;
 ghost use Rattle.rp_expr.specs.Gives as exprs;
 ghost use Rattle.rp_grammar.specs.ExpressionReading as read;
 ghost use Rattle.rp_parse.specs.Gives.{Gives, ahead, context_of, deep, is_text_form};
-ghost use Rattle.rp_tree.specs.Statements as s;
-ghost use Rattle.rp_grammar.specs.StatementReading as p;
-ghost use Rattle.rp_grammar.specs.Statements as g;
+ghost use Rattle.rp_tree.specs.Statements as stmt_tree;
+ghost use Rattle.rp_grammar.specs.StatementReading as stmt_reading;
+ghost use Rattle.rp_grammar.specs.Statements as stmt_grammar;
 
 use crate::context::Setting;
 use crate::fault::Stop;
@@ -37,7 +37,8 @@ fn fits(height: u32, most: u32) -> bool
 
 /// An expression of height at most so many.
 pub fn low_expr(alloc: Global, tokens: &[Token], most: u8) -> Found<'_, Expr>
-    ensures { Gives (λ x. (v.view_expr x.0, x.1.now)) result (p.within h.expr_height most (read.expr deep tokens.now)) }
+    ensures { Gives (λ x. (views.view_expr x.0, x.1.now)) result
+        (stmt_reading.within tree_heights.expr_height most (read.expr deep tokens.now)) }
 {
     let (found, rest) = expr(alloc, tokens, DEPTH)?;
     if !fits(expr_height(&found), u32::from(most)) {
@@ -48,8 +49,8 @@ pub fn low_expr(alloc: Global, tokens: &[Token], most: u8) -> Found<'_, Expr>
 
 /// An expression list of height at most so many.
 pub fn low_list(alloc: Global, tokens: &[Token], most: u8) -> Found<'_, Expr>
-    ensures { Gives (λ x. (v.view_expr x.0, x.1.now)) result
-        (p.within h.expr_height most (read.expr_list deep tokens.now)) }
+    ensures { Gives (λ x. (views.view_expr x.0, x.1.now)) result
+        (stmt_reading.within tree_heights.expr_height most (read.expr_list deep tokens.now)) }
 {
     let (found, rest) = expr_list(alloc, tokens, DEPTH)?;
     if !fits(expr_height(&found), u32::from(most)) {
@@ -60,8 +61,8 @@ pub fn low_list(alloc: Global, tokens: &[Token], most: u8) -> Found<'_, Expr>
 
 /// A target of height at most so many.
 pub fn low_target(alloc: Global, tokens: &[Token], most: u8) -> Found<'_, Target>
-    ensures { Gives (λ x. (v.view_target x.0, x.1.now)) result
-        (p.within h.target_height most (read.target deep tokens.now)) }
+    ensures { Gives (λ x. (views.view_target x.0, x.1.now)) result
+        (stmt_reading.within tree_heights.target_height most (read.target deep tokens.now)) }
 {
     let (found, rest) = target(alloc, tokens, DEPTH)?;
     if !fits(target_height(&found), u32::from(most)) {
@@ -73,7 +74,7 @@ pub fn low_target(alloc: Global, tokens: &[Token], most: u8) -> Found<'_, Target
 /// Parameters whose names differ.
 #[tactic(auto, unfolding(rp_grammar::specs::StatementReading::parameters))]
 fn parameters(alloc: Global, tokens: &[Token]) -> Read<'_, Params>
-    ensures { exprs.Gives (λ x. (v.view_params x.0, x.1.now)) result (p.parameters deep tokens.now) }
+    ensures { exprs.Gives (λ x. (views.view_params x.0, x.1.now)) result (stmt_reading.parameters deep tokens.now) }
 {
     let (found, rest) = params(alloc, tokens, DEPTH)?;
     if !has_distinct_names(alloc, &found)? {
@@ -84,8 +85,8 @@ fn parameters(alloc: Global, tokens: &[Token]) -> Read<'_, Params>
 
 /// Parameters whose names differ and whose defaults have height at most so many.
 pub fn low_parameters(alloc: Global, tokens: &[Token], most: u8) -> Found<'_, Params>
-    ensures { Gives (λ x. (v.view_params x.0, x.1.now)) result
-        (p.within h.params_height most (p.parameters deep tokens.now)) }
+    ensures { Gives (λ x. (views.view_params x.0, x.1.now)) result
+        (stmt_reading.within tree_heights.params_height most (stmt_reading.parameters deep tokens.now)) }
 {
     let (found, rest) = parameters(alloc, tokens)?;
     if !fits(params_height(&found), u32::from(most)) {
@@ -96,9 +97,9 @@ pub fn low_parameters(alloc: Global, tokens: &[Token], most: u8) -> Found<'_, Pa
 
 /// A simple statement of height at most so many.
 fn low_simple<'a>(alloc: Global, tokens: &'a [Token], setting: Setting<'_>) -> Found<'a, Stmt>
-    ensures { Gives (λ x. (w.view_stmt x.0, x.1.now)) result
-        (p.within h.stmt_height (suc setting.entry.height)
-        (p.simple deep (context_of setting.entry.context) tokens.now)) }
+    ensures { Gives (λ x. (stmt_views.view_stmt x.0, x.1.now)) result
+        (stmt_reading.within tree_heights.stmt_height (suc setting.entry.height)
+        (stmt_reading.simple deep (context_of setting.entry.context) tokens.now)) }
 {
     let (found, rest) = simple(alloc, tokens, setting.context)?;
     if !fits(stmt_height(&found), u32::from(setting.height) + 1) {
@@ -109,14 +110,15 @@ fn low_simple<'a>(alloc: Global, tokens: &'a [Token], setting: Setting<'_>) -> F
 
 #[tactic(auto, using(rp_tree::proofs::ExpressionEquations::variants))]
 fn is_text(form: &ExprForm) -> bool
-    ensures { result ≡ is_text_form (v.view_form form.now) }
+    ensures { result ≡ is_text_form (views.view_form form.now) }
 {
     matches!(form, ExprForm::Text(_))
 }
 
 #[tactic(auto, using(rp_tree::proofs::StatementEquations::variants))]
 fn is_member_form(form: &StmtForm) -> bool
-    ensures { (line : _) → result ≡ g.is_member (s.a_stmt line (w.view_stmt_form form.now)) }
+    ensures { (line : _) → result
+        ≡ stmt_grammar.is_member (stmt_tree.a_stmt line (stmt_views.view_stmt_form form.now)) }
 {
     match form {
         StmtForm::Def(..) | StmtForm::Pass => true,
@@ -127,7 +129,7 @@ fn is_member_form(form: &StmtForm) -> bool
 
 /// Whether a statement is a member of a class: a function definition, `pass` or a text literal.
 fn is_member(stmt: &Stmt) -> bool
-    ensures { result ≡ g.is_member (w.view_stmt stmt.now) }
+    ensures { result ≡ stmt_grammar.is_member (stmt_views.view_stmt stmt.now) }
 {
     is_member_form(&stmt.form)
 }
@@ -135,8 +137,9 @@ fn is_member(stmt: &Stmt) -> bool
 /// A simple statement; in the block of a class, a member.
 #[tactic(auto, unfolding(rp_grammar::specs::StatementReading::simple_at))]
 fn simple_at<'a>(alloc: Global, tokens: &'a [Token], setting: Setting<'_>) -> Found<'a, Stmt>
-    ensures { Gives (λ x. (w.view_stmt x.0, x.1.now)) result
-        (p.simple_at deep setting.entry.height (context_of setting.entry.context) setting.entry.members tokens.now) }
+    ensures { Gives (λ x. (stmt_views.view_stmt x.0, x.1.now)) result
+        (stmt_reading.simple_at deep setting.entry.height
+        (context_of setting.entry.context) setting.entry.members tokens.now) }
 {
     let (found, rest) = low_simple(alloc, tokens, setting)?;
     if setting.members && !is_member(&found) {
@@ -148,8 +151,9 @@ fn simple_at<'a>(alloc: Global, tokens: &'a [Token], setting: Setting<'_>) -> Fo
 /// A simple statement, and whether another follows on its line.
 #[tactic(auto, unfolding(rp_grammar::specs::StatementReading::item_at))]
 fn item<'a>(alloc: Global, tokens: &'a [Token], setting: Setting<'_>) -> Found<'a, (Stmt, bool)>
-    ensures { Gives (λ x. ((w.view_stmt x.0.0, x.0.1), x.1.now)) result
-        (p.item_at deep setting.entry.height (context_of setting.entry.context) setting.entry.members tokens.now) }
+    ensures { Gives (λ x. ((stmt_views.view_stmt x.0.0, x.0.1), x.1.now)) result
+        (stmt_reading.item_at deep setting.entry.height
+        (context_of setting.entry.context) setting.entry.members tokens.now) }
 {
     let (found, rest) = simple_at(alloc, tokens, setting)?;
     match rest {
@@ -183,9 +187,10 @@ pub fn line<'a>(
     tokens: &'a [Token],
     setting: Setting<'_>,
 ) -> Result<&'a [Token], Stop<'a>>
-    ensures { Gives (λ x. (w.view_stmts found.new.items, x.now)) result
-        (ahead (g.joined (w.view_stmts found.old.items))
-        (p.line deep setting.entry.height (context_of setting.entry.context) setting.entry.members tokens.now)) }
+    ensures { Gives (λ x. (stmt_views.view_stmts found.new.items, x.now)) result
+        (ahead (stmt_grammar.joined (stmt_views.view_stmts found.old.items))
+        (stmt_reading.line deep setting.entry.height
+        (context_of setting.entry.context) setting.entry.members tokens.now)) }
 {
     let mut rest = tokens;
     let mut turns = tokens.len() + 1;

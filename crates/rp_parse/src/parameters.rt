@@ -2,7 +2,7 @@
 
 ghost use Rattle.std.specs.Prelude.{◌≡◌, IfOk, Some, map};
 ghost use Rattle.std.specs.List.{list_any};
-ghost use Rattle.rp_tree.specs.ExpressionViews as v;
+ghost use Rattle.rp_tree.specs.ExpressionViews as views;
 ghost use Rattle.rp_grammar.specs.Expressions.{parameter_names, same_name};
 ghost use Rattle.rp_expr.specs.Gives.{Gives};
 
@@ -39,7 +39,7 @@ impl Parameters {
     /// # Errors
     /// `Memory` where a growth was refused.
     pub fn of(alloc: Global, params: &Params) -> Result<Parameters, Fault>
-        ensures { Gives (λ p. p) result (Some (parameter_names (v.view_params params.now))) }
+        ensures { Gives (λ p. p) result (Some (parameter_names (views.view_params params.now))) }
     {
         let names = rp_expr::parameter_names(alloc, params)?;
         let mut sorted = places(alloc, &names)?;

@@ -1,14 +1,14 @@
 //! Simple statements (Python Language Reference, Simple statements).
 
 ghost use Rattle.std.specs.Prelude.{◌≡◌, None, Some, map, option_map};
-ghost use Rattle.rp_tree.specs.ExpressionViews as v;
-ghost use Rattle.rp_tree.specs.Statements as s;
-ghost use Rattle.rp_tree.specs.StatementViews as w;
+ghost use Rattle.rp_tree.specs.ExpressionViews as views;
+ghost use Rattle.rp_tree.specs.Statements as stmt_tree;
+ghost use Rattle.rp_tree.specs.StatementViews as stmt_views;
 ghost use Rattle.rp_expr.specs.Gives.{Gives};
 ghost use Rattle.rp_grammar.specs.Kinds.{augmented_of, first};
 ghost use Rattle.rp_grammar.specs.ExpressionReading.{before};
 ghost use Rattle.rp_parse.specs.Gives.{allowed, context_of, deep, deleted, other_names, other_places, with_places};
-ghost use Rattle.rp_grammar.specs.StatementReading as p;
+ghost use Rattle.rp_grammar.specs.StatementReading as stmt_reading;
 
 use crate::context::{Context, are_free};
 use rp_base::{BinOp, Line};
@@ -23,7 +23,7 @@ pub const DEPTH: usize = 650;
 
 /// A statement of this form.
 pub fn stmt(alloc: Global, line: Line, form: StmtForm) -> Result<Stmt, Fault>
-    ensures { Gives w.view_stmt result (Some (s.a_stmt line (w.view_stmt_form form))) }
+    ensures { Gives stmt_views.view_stmt result (Some (stmt_tree.a_stmt line (stmt_views.view_stmt_form form))) }
 {
     let form = Box::new(alloc, form)?;
     Ok(Stmt { line, form })
@@ -32,7 +32,7 @@ pub fn stmt(alloc: Global, line: Line, form: StmtForm) -> Result<Stmt, Fault>
 /// A place.
 #[tactic(auto, unfolding(rp_grammar::specs::StatementReading::place))]
 fn place(alloc: Global, tokens: &[Token]) -> Read<'_, Place>
-    ensures { Gives (λ x. (v.view_place x.0, x.1.now)) result (p.place deep tokens.now) }
+    ensures { Gives (λ x. (views.view_place x.0, x.1.now)) result (stmt_reading.place deep tokens.now) }
 {
     let (found, rest) = primary(alloc, tokens, DEPTH)?;
     Ok((place_of(alloc, found)?, rest))
@@ -40,8 +40,8 @@ fn place(alloc: Global, tokens: &[Token]) -> Read<'_, Place>
 
 /// A place, and those behind it and a comma.
 fn other_places(alloc: Global, first: Place, tokens: &[Token]) -> Read<'_, Vec<Place>>
-    ensures { Gives (λ x. (map v.view_place x.0.items, x.1.now)) result
-        (other_places deep (v.view_place first) tokens.now) }
+    ensures { Gives (λ x. (map views.view_place x.0.items, x.1.now)) result
+        (other_places deep (views.view_place first) tokens.now) }
 {
     let mut found = Vec::with_capacity(alloc, 1)?;
     found.push(first)?;
@@ -60,7 +60,7 @@ fn other_places(alloc: Global, first: Place, tokens: &[Token]) -> Read<'_, Vec<P
 /// Places with commas between them, and a comma behind the last or not.
 #[tactic(auto, unfolding(rp_grammar::specs::StatementReading::places))]
 fn places(alloc: Global, tokens: &[Token]) -> Read<'_, Vec<Place>>
-    ensures { Gives (λ x. (map v.view_place x.0.items, x.1.now)) result (p.places deep tokens.now) }
+    ensures { Gives (λ x. (map views.view_place x.0.items, x.1.now)) result (stmt_reading.places deep tokens.now) }
 {
     let (first, rest) = place(alloc, tokens)?;
     if is_comma(rest) {
@@ -89,7 +89,7 @@ fn other_names(alloc: Global, first: Named, tokens: &[Token]) -> Read<'_, Vec<Na
 /// Names with commas between them.
 #[tactic(auto, unfolding(rp_grammar::specs::StatementReading::names))]
 fn names(alloc: Global, tokens: &[Token]) -> Read<'_, Vec<Named>>
-    ensures { Gives (λ x. (x.0.items, x.1.now)) result (p.names tokens.now) }
+    ensures { Gives (λ x. (x.0.items, x.1.now)) result (stmt_reading.names tokens.now) }
 {
     let (first, rest) = name(tokens)?;
     other_names(alloc, first, rest)
@@ -98,7 +98,7 @@ fn names(alloc: Global, tokens: &[Token]) -> Read<'_, Vec<Named>>
 /// An expression list, where one begins.
 #[tactic(auto, unfolding(rp_grammar::specs::StatementReading::maybe_exprs))]
 fn maybe_exprs(alloc: Global, tokens: &[Token]) -> Read<'_, Option<Expr>>
-    ensures { Gives (λ x. (option_map v.view_expr x.0, x.1.now)) result (p.maybe_exprs deep tokens.now) }
+    ensures { Gives (λ x. (option_map views.view_expr x.0, x.1.now)) result (stmt_reading.maybe_exprs deep tokens.now) }
 {
     if !starts(tokens) {
         return Ok((None, tokens));
@@ -110,7 +110,7 @@ fn maybe_exprs(alloc: Global, tokens: &[Token]) -> Read<'_, Option<Expr>>
 /// An expression, where one begins.
 #[tactic(auto, unfolding(rp_grammar::specs::StatementReading::maybe_expr))]
 fn maybe_expr(alloc: Global, tokens: &[Token]) -> Read<'_, Option<Expr>>
-    ensures { Gives (λ x. (option_map v.view_expr x.0, x.1.now)) result (p.maybe_expr deep tokens.now) }
+    ensures { Gives (λ x. (option_map views.view_expr x.0, x.1.now)) result (stmt_reading.maybe_expr deep tokens.now) }
 {
     if !starts(tokens) {
         return Ok((None, tokens));
@@ -127,8 +127,8 @@ fn return_statement<'a>(
     tokens: &'a [Token],
     context: Context<'_>,
 ) -> Read<'a, Stmt>
-    ensures { Gives (λ x. (w.view_stmt x.0, x.1.now)) result
-        (p.return deep (context_of context.entry) line tokens.now) }
+    ensures { Gives (λ x. (stmt_views.view_stmt x.0, x.1.now)) result
+        (stmt_reading.return deep (context_of context.entry) line tokens.now) }
 {
     if context.function.is_none() {
         return Err(Fault::Syntax);
@@ -145,7 +145,8 @@ fn raise_statement<'a>(
     tokens: &'a [Token],
     context: Context<'_>,
 ) -> Read<'a, Stmt>
-    ensures { Gives (λ x. (w.view_stmt x.0, x.1.now)) result (p.raise deep (context_of context.entry) line tokens.now) }
+    ensures { Gives (λ x. (stmt_views.view_stmt x.0, x.1.now)) result
+        (stmt_reading.raise deep (context_of context.entry) line tokens.now) }
 {
     let (value, rest) = maybe_expr(alloc, tokens)?;
     if value.is_none() && !context.in_handler {
@@ -157,7 +158,7 @@ fn raise_statement<'a>(
 /// Behind `assert`.
 #[tactic(auto, unfolding(rp_grammar::specs::StatementReading::assert), using(rp_tree::proofs::StatementEquations::variants))]
 fn assert_statement(alloc: Global, line: Line, tokens: &[Token]) -> Read<'_, Stmt>
-    ensures { Gives (λ x. (w.view_stmt x.0, x.1.now)) result (p.assert deep line tokens.now) }
+    ensures { Gives (λ x. (stmt_views.view_stmt x.0, x.1.now)) result (stmt_reading.assert deep line tokens.now) }
 {
     let (test, rest) = expr(alloc, tokens, DEPTH)?;
     if !is_comma(rest) {
@@ -176,7 +177,8 @@ fn global_statement<'a>(
     tokens: &'a [Token],
     context: Context<'_>,
 ) -> Read<'a, Stmt>
-    ensures { Gives (λ x. (w.view_stmt x.0, x.1.now)) result (p.global (context_of context.entry) line tokens.now) }
+    ensures { Gives (λ x. (stmt_views.view_stmt x.0, x.1.now)) result
+        (stmt_reading.global (context_of context.entry) line tokens.now) }
 {
     if context.in_class {
         return Err(Fault::Syntax);
@@ -191,7 +193,7 @@ fn global_statement<'a>(
 /// Behind `del`.
 #[tactic(auto, using(rp_tree::proofs::StatementEquations::variants))]
 fn del_statement(alloc: Global, line: Line, tokens: &[Token]) -> Read<'_, Stmt>
-    ensures { Gives (λ x. (w.view_stmt x.0, x.1.now)) result (deleted deep line tokens.now) }
+    ensures { Gives (λ x. (stmt_views.view_stmt x.0, x.1.now)) result (deleted deep line tokens.now) }
 {
     let (places, rest) = places(alloc, tokens)?;
     Ok((stmt(alloc, line, StmtForm::Del(places))?, rest))
@@ -199,8 +201,8 @@ fn del_statement(alloc: Global, line: Line, tokens: &[Token]) -> Read<'_, Stmt>
 
 /// Behind places, each with `=` behind it: further ones, and the value.
 fn assigned(alloc: Global, places: Vec<Place>, tokens: &[Token]) -> Read<'_, (Vec<Place>, Expr)>
-    ensures { Gives (λ x. ((map v.view_place x.0.0.items, v.view_expr x.0.1), x.1.now)) result
-        (before (with_places (map v.view_place places.items)) (p.assigned deep tokens.now)) }
+    ensures { Gives (λ x. ((map views.view_place x.0.0.items, views.view_expr x.0.1), x.1.now)) result
+        (before (with_places (map views.view_place places.items)) (stmt_reading.assigned deep tokens.now)) }
 {
     let mut places = places;
     let mut rest = tokens;
@@ -220,7 +222,8 @@ fn assigned(alloc: Global, places: Vec<Place>, tokens: &[Token]) -> Read<'_, (Ve
 /// Behind an expression list and `=`.
 #[tactic(auto, unfolding(rp_grammar::specs::StatementReading::assignment), using(rp_tree::proofs::StatementEquations::variants))]
 fn assignment(alloc: Global, left: Expr, tokens: &[Token]) -> Read<'_, Stmt>
-    ensures { Gives (λ x. (w.view_stmt x.0, x.1.now)) result (p.assignment deep (v.view_expr left) tokens.now) }
+    ensures { Gives (λ x. (stmt_views.view_stmt x.0, x.1.now)) result
+        (stmt_reading.assignment deep (views.view_expr left) tokens.now) }
 {
     let line = left.line;
     match target_of(alloc, left)? {
@@ -243,7 +246,8 @@ fn assignment(alloc: Global, left: Expr, tokens: &[Token]) -> Read<'_, Stmt>
 /// Behind an expression list, where a mark of augmented assignment comes.
 #[tactic(auto, unfolding(rp_grammar::specs::StatementReading::augmented), using(rp_tree::proofs::StatementEquations::variants))]
 fn augmented(alloc: Global, op: BinOp, left: Expr, tokens: &[Token]) -> Read<'_, Stmt>
-    ensures { Gives (λ x. (w.view_stmt x.0, x.1.now)) result (p.augmented deep op (v.view_expr left) tokens.now) }
+    ensures { Gives (λ x. (stmt_views.view_stmt x.0, x.1.now)) result
+        (stmt_reading.augmented deep op (views.view_expr left) tokens.now) }
 {
     let line = left.line;
     let place = place_of(alloc, left)?;
@@ -261,8 +265,9 @@ fn augmented(alloc: Global, op: BinOp, left: Expr, tokens: &[Token]) -> Read<'_,
 /// Behind an expression list.
 #[tactic(auto, using(rp_tree::proofs::StatementEquations::variants))]
 fn behind_exprs(alloc: Global, left: Expr, tokens: &[Token]) -> Read<'_, Stmt>
-    ensures { Gives (λ x. (w.view_stmt x.0, x.1.now)) result
-        (p.behind_exprs (first tokens.now) (augmented_of (first tokens.now)) deep (v.view_expr left) tokens.now) }
+    ensures { Gives (λ x. (stmt_views.view_stmt x.0, x.1.now)) result
+        (stmt_reading.behind_exprs (first tokens.now) (augmented_of (first tokens.now)) deep
+        (views.view_expr left) tokens.now) }
 {
     if let Some(op) = augmented_op(tokens) {
         return augmented(alloc, op, left, tokens);
@@ -277,7 +282,8 @@ fn behind_exprs(alloc: Global, left: Expr, tokens: &[Token]) -> Read<'_, Stmt>
 /// A statement that begins with an expression list.
 #[tactic(auto, unfolding(rp_grammar::specs::StatementReading::expression_statement))]
 fn expression_statement(alloc: Global, tokens: &[Token]) -> Read<'_, Stmt>
-    ensures { Gives (λ x. (w.view_stmt x.0, x.1.now)) result (p.expression_statement deep tokens.now) }
+    ensures { Gives (λ x. (stmt_views.view_stmt x.0, x.1.now)) result
+        (stmt_reading.expression_statement deep tokens.now) }
 {
     let (left, rest) = expr_list(alloc, tokens, DEPTH)?;
     behind_exprs(alloc, left, rest)
@@ -286,7 +292,8 @@ fn expression_statement(alloc: Global, tokens: &[Token]) -> Read<'_, Stmt>
 /// A simple statement.
 #[tactic(auto, unfolding(rp_grammar::specs::StatementReading::simple), using(rp_tree::proofs::StatementEquations::variants))]
 pub fn simple<'a>(alloc: Global, tokens: &'a [Token], context: Context<'_>) -> Read<'a, Stmt>
-    ensures { Gives (λ x. (w.view_stmt x.0, x.1.now)) result (p.simple deep (context_of context.entry) tokens.now) }
+    ensures { Gives (λ x. (stmt_views.view_stmt x.0, x.1.now)) result
+        (stmt_reading.simple deep (context_of context.entry) tokens.now) }
 {
     match tokens {
         [] => expression_statement(alloc, tokens),
@@ -314,8 +321,8 @@ fn loop_statement<'a>(
     rest: &'a [Token],
     context: Context<'_>,
 ) -> Read<'a, Stmt>
-    ensures { Gives (λ x. (w.view_stmt x.0, x.1.now)) result
-        (allowed context.entry.in_loop line (w.view_stmt_form form) rest.now) }
+    ensures { Gives (λ x. (stmt_views.view_stmt x.0, x.1.now)) result
+        (allowed context.entry.in_loop line (stmt_views.view_stmt_form form) rest.now) }
 {
     if !context.in_loop {
         return Err(Fault::Syntax);

@@ -2,8 +2,8 @@
 
 ghost use Rattle.std.specs.Prelude.{◌≡◌, OnOk, map, option_map};
 ghost use Rattle.rp_policy.specs.CollectionSteps as steps;
-ghost use Rattle.rp_policy.specs.Spots as p;
-ghost use Rattle.rp_tree.specs.ExpressionViews as v;
+ghost use Rattle.rp_policy.specs.Spots as tree_spots;
+ghost use Rattle.rp_tree.specs.ExpressionViews as views;
 
 use crate::collector::Collector;
 use crate::spot::Spot;
@@ -15,7 +15,7 @@ use rp_tree::{
 impl<'a> Collector<'a> {
     #[cycle(expr)]
     pub(crate) fn expr(&mut self, expr: &Expr) -> Result<(), Memory>
-        ensures { OnOk result (self.new ≡ steps.with_expr (v.view_expr expr.now) self.old) }
+        ensures { OnOk result (self.new ≡ steps.with_expr (views.view_expr expr.now) self.old) }
     {
         self.form(expr.line, &expr.form)
     }
@@ -23,7 +23,7 @@ impl<'a> Collector<'a> {
     #[cycle(expr)]
     #[tactic(auto, using(rp_tree::proofs::ExpressionEquations::variants))]
     fn form(&mut self, line: Line, form: &ExprForm) -> Result<(), Memory>
-        ensures { OnOk result (self.new ≡ steps.with_form line (v.view_form form.now) self.old) }
+        ensures { OnOk result (self.new ≡ steps.with_form line (views.view_form form.now) self.old) }
     {
         match form {
             ExprForm::Name(name) => self.see(Spot::Reads(Named { name: *name, line })),
@@ -76,7 +76,7 @@ impl<'a> Collector<'a> {
     #[cycle(expr)]
     fn atom(&mut self, atom: &Expr, called: Option<Named>) -> Result<(), Memory>
         ensures { OnOk result (self.new
-            ≡ steps.with_atom called (steps.with_expr (v.view_expr atom.now) self.old) self.old) }
+            ≡ steps.with_atom called (steps.with_expr (views.view_expr atom.now) self.old) self.old) }
     {
         match called {
             Some(name) => self.see(Spot::Calls(name)),
@@ -86,7 +86,7 @@ impl<'a> Collector<'a> {
 
     #[cycle(expr)]
     fn exprs(&mut self, exprs: &[Expr]) -> Result<(), Memory>
-        ensures { OnOk result (self.new ≡ steps.with_exprs (v.exprs_of (map v.view_expr exprs.now)) self.old) }
+        ensures { OnOk result (self.new ≡ steps.with_exprs (views.exprs_of (map views.view_expr exprs.now)) self.old) }
     {
         'exprs: for expr in exprs {
             self.expr(expr)?;
@@ -96,7 +96,8 @@ impl<'a> Collector<'a> {
 
     #[cycle(expr)]
     fn maybe(&mut self, expr: &Option<Expr>) -> Result<(), Memory>
-        ensures { OnOk result (self.new ≡ steps.with_maybe (v.maybe_of (option_map v.view_expr expr.now)) self.old) }
+        ensures { OnOk result (self.new
+            ≡ steps.with_maybe (views.maybe_of (option_map views.view_expr expr.now)) self.old) }
     {
         match expr {
             None => Ok(()),
@@ -106,7 +107,7 @@ impl<'a> Collector<'a> {
 
     #[cycle(expr)]
     fn pairs(&mut self, pairs: &[(Expr, Expr)]) -> Result<(), Memory>
-        ensures { OnOk result (self.new ≡ steps.with_pairs (v.pairs_of (map v.view_pair pairs.now)) self.old) }
+        ensures { OnOk result (self.new ≡ steps.with_pairs (views.pairs_of (map views.view_pair pairs.now)) self.old) }
     {
         'pairs: for pair in pairs {
             self.expr(&pair.0)?;
@@ -117,7 +118,7 @@ impl<'a> Collector<'a> {
 
     #[cycle(expr)]
     fn tests(&mut self, tests: &[(Test, Expr)]) -> Result<(), Memory>
-        ensures { OnOk result (self.new ≡ steps.with_tests (v.tests_of (map v.view_test tests.now)) self.old) }
+        ensures { OnOk result (self.new ≡ steps.with_tests (views.tests_of (map views.view_test tests.now)) self.old) }
     {
         'tests: for test in tests {
             self.expr(&test.1)?;
@@ -127,7 +128,7 @@ impl<'a> Collector<'a> {
 
     #[cycle(expr)]
     fn operands(&mut self, operands: &[(BinOp, Expr)]) -> Result<(), Memory>
-        ensures { OnOk result (self.new ≡ steps.with_ops (v.ops_of (map v.view_op operands.now)) self.old) }
+        ensures { OnOk result (self.new ≡ steps.with_ops (views.ops_of (map views.view_op operands.now)) self.old) }
     {
         'operands: for operand in operands {
             self.expr(&operand.1)?;
@@ -137,7 +138,8 @@ impl<'a> Collector<'a> {
 
     #[cycle(expr)]
     fn clauses(&mut self, clauses: &[Clause]) -> Result<(), Memory>
-        ensures { OnOk result (self.new ≡ steps.with_clauses (v.clauses_of (map v.view_clause clauses.now)) self.old) }
+        ensures { OnOk result (self.new
+            ≡ steps.with_clauses (views.clauses_of (map views.view_clause clauses.now)) self.old) }
     {
         'clauses: for clause in clauses {
             self.clause(clause)?;
@@ -147,7 +149,7 @@ impl<'a> Collector<'a> {
 
     #[cycle(expr)]
     fn clause(&mut self, clause: &Clause) -> Result<(), Memory>
-        ensures { OnOk result (self.new ≡ steps.with_clause (v.view_clause clause.now) self.old) }
+        ensures { OnOk result (self.new ≡ steps.with_clause (views.view_clause clause.now) self.old) }
     {
         self.walk(&clause.walk)?;
         self.exprs(&clause.tests)
@@ -155,7 +157,7 @@ impl<'a> Collector<'a> {
 
     #[cycle(expr)]
     pub(crate) fn walk(&mut self, walk: &Walk) -> Result<(), Memory>
-        ensures { OnOk result (self.new ≡ steps.with_walk (v.view_walk walk.now) self.old) }
+        ensures { OnOk result (self.new ≡ steps.with_walk (views.view_walk walk.now) self.old) }
     {
         self.target(&walk.target)?;
         self.expr(&walk.of)
@@ -163,7 +165,7 @@ impl<'a> Collector<'a> {
 
     #[cycle(expr)]
     pub(crate) fn target(&mut self, target: &Target) -> Result<(), Memory>
-        ensures { OnOk result (self.new ≡ steps.with_target (v.view_target target.now) self.old) }
+        ensures { OnOk result (self.new ≡ steps.with_target (views.view_target target.now) self.old) }
     {
         match target {
             Target::Place(place) => self.place(place),
@@ -173,7 +175,8 @@ impl<'a> Collector<'a> {
 
     #[cycle(expr)]
     fn targets(&mut self, targets: &[Target]) -> Result<(), Memory>
-        ensures { OnOk result (self.new ≡ steps.with_targets (v.targets_of (map v.view_target targets.now)) self.old) }
+        ensures { OnOk result (self.new
+            ≡ steps.with_targets (views.targets_of (map views.view_target targets.now)) self.old) }
     {
         'targets: for target in targets {
             self.target(target)?;
@@ -183,7 +186,7 @@ impl<'a> Collector<'a> {
 
     #[cycle(expr)]
     pub(crate) fn place(&mut self, place: &Place) -> Result<(), Memory>
-        ensures { OnOk result (self.new ≡ steps.with_place (v.view_place place.now) self.old) }
+        ensures { OnOk result (self.new ≡ steps.with_place (views.view_place place.now) self.old) }
     {
         match place {
             Place::Name(named) => self.see(Spot::Binds(*named)),
@@ -200,7 +203,7 @@ impl<'a> Collector<'a> {
 
     #[cycle(expr)]
     pub(crate) fn params(&mut self, params: &Params) -> Result<(), Memory>
-        ensures { OnOk result (self.new ≡ steps.with_params (v.view_params params.now) self.old) }
+        ensures { OnOk result (self.new ≡ steps.with_params (views.view_params params.now) self.old) }
     {
         self.plain(&params.plain)?;
         self.bind_option(params.list)?;
@@ -209,7 +212,7 @@ impl<'a> Collector<'a> {
 
     #[cycle(expr)]
     fn plain(&mut self, plain: &[(Named, Option<Expr>)]) -> Result<(), Memory>
-        ensures { OnOk result (self.new ≡ steps.with_plain (v.plain_of (map v.view_plain plain.now)) self.old) }
+        ensures { OnOk result (self.new ≡ steps.with_plain (views.plain_of (map views.view_plain plain.now)) self.old) }
     {
         'plain: for param in plain {
             self.see(Spot::Binds(param.0))?;
@@ -222,7 +225,7 @@ impl<'a> Collector<'a> {
 
     #[cycle(expr)]
     fn trailer(&mut self, trailer: &Trailer) -> Result<(), Memory>
-        ensures { OnOk result (self.new ≡ steps.with_trailer (v.view_trailer trailer.now) self.old) }
+        ensures { OnOk result (self.new ≡ steps.with_trailer (views.view_trailer trailer.now) self.old) }
     {
         match trailer {
             Trailer::Attr(named, _) => self.see(Spot::Attribute(*named)),
@@ -234,7 +237,7 @@ impl<'a> Collector<'a> {
 
     #[cycle(expr)]
     fn slice(&mut self, slice: &Slice) -> Result<(), Memory>
-        ensures { let parts = v.view_slice slice.now in
+        ensures { let parts = views.view_slice slice.now in
             OnOk result (self.new
             ≡ steps.with_maybe parts.2 (steps.with_maybe parts.1 (steps.with_maybe parts.0 self.old))) }
     {
@@ -246,7 +249,7 @@ impl<'a> Collector<'a> {
     #[cycle(expr)]
     fn trailers(&mut self, trailers: &[Trailer]) -> Result<(), Memory>
         ensures { OnOk result (self.new
-            ≡ steps.with_trailers (v.trailers_of (map v.view_trailer trailers.now)) self.old) }
+            ≡ steps.with_trailers (views.trailers_of (map views.view_trailer trailers.now)) self.old) }
     {
         'trailers: for trailer in trailers {
             self.trailer(trailer)?;
@@ -256,7 +259,7 @@ impl<'a> Collector<'a> {
 
     #[cycle(expr)]
     fn arg(&mut self, arg: &Arg) -> Result<(), Memory>
-        ensures { OnOk result (self.new ≡ steps.with_arg (v.view_arg arg.now) self.old) }
+        ensures { OnOk result (self.new ≡ steps.with_arg (views.view_arg arg.now) self.old) }
     {
         match arg {
             Arg::Plain(expr) | Arg::Star(expr) | Arg::Key(_, expr) | Arg::Stars(expr) => {
@@ -267,7 +270,7 @@ impl<'a> Collector<'a> {
 
     #[cycle(expr)]
     fn args(&mut self, args: &[Arg]) -> Result<(), Memory>
-        ensures { OnOk result (self.new ≡ steps.with_args (v.args_of (map v.view_arg args.now)) self.old) }
+        ensures { OnOk result (self.new ≡ steps.with_args (views.args_of (map views.view_arg args.now)) self.old) }
     {
         'arguments: for arg in args {
             self.arg(arg)?;
@@ -278,7 +281,8 @@ impl<'a> Collector<'a> {
 
 /// The name that is called directly: an atom that is a name, where a call is the first to trail it.
 fn called_name(atom: &Expr, trailers: &[Trailer]) -> Option<Named>
-    ensures { result ≡ p.called_name (v.view_expr atom.now) (v.trailers_of (map v.view_trailer trailers.now)) }
+    ensures { result
+        ≡ tree_spots.called_name (views.view_expr atom.now) (views.trailers_of (map views.view_trailer trailers.now)) }
 {
     if begins_with_call(trailers) {
         name_of(atom)
@@ -288,14 +292,14 @@ fn called_name(atom: &Expr, trailers: &[Trailer]) -> Option<Named>
 }
 
 fn name_of(expr: &Expr) -> Option<Named>
-    ensures { result ≡ p.name_of (v.view_expr expr.now) }
+    ensures { result ≡ tree_spots.name_of (views.view_expr expr.now) }
 {
     form_name(expr.line, &expr.form)
 }
 
 #[tactic(auto, using(rp_tree::proofs::ExpressionEquations::variants))]
 fn form_name(line: Line, form: &ExprForm) -> Option<Named>
-    ensures { result ≡ p.form_name line (v.view_form form.now) }
+    ensures { result ≡ tree_spots.form_name line (views.view_form form.now) }
 {
     match form {
         ExprForm::Name(name) => Some(Named { name: *name, line }),
@@ -304,7 +308,7 @@ fn form_name(line: Line, form: &ExprForm) -> Option<Named>
 }
 
 fn begins_with_call(trailers: &[Trailer]) -> bool
-    ensures { result ≡ p.begins_with_call (v.trailers_of (map v.view_trailer trailers.now)) }
+    ensures { result ≡ tree_spots.begins_with_call (views.trailers_of (map views.view_trailer trailers.now)) }
 {
     match trailers {
         [first, ..] => is_call(first),
@@ -314,7 +318,7 @@ fn begins_with_call(trailers: &[Trailer]) -> bool
 
 #[tactic(auto, using(rp_tree::proofs::ExpressionEquations::variants))]
 fn is_call(trailer: &Trailer) -> bool
-    ensures { result ≡ p.is_call (v.view_trailer trailer.now) }
+    ensures { result ≡ tree_spots.is_call (views.view_trailer trailer.now) }
 {
     match trailer {
         Trailer::Call(_, _) => true,

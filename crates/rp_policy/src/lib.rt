@@ -3,11 +3,11 @@
 
 mod collector;
 mod expressions;
-mod forbidden;
+mod forbidden_words;
 mod offence;
 mod spot;
 mod statements;
 
-pub use forbidden::is_forbidden_attribute;
+pub use forbidden_words::is_forbidden_attribute;
 pub use offence::{Offence, What, offence_text};
 pub use statements::offences;

@@ -8,7 +8,7 @@ ghost use Rattle.rp_base.specs.Names.{word_of};
 ghost use Rattle.rp_policy.specs.Offences.{at_line, offence, offence_named, offence_text};
 ghost use Rattle.rp_policy.specs.Offences.{wrong_attribute, wrong_binding, wrong_call, wrong_method, wrong_reading};
 
-use crate::forbidden::{
+use crate::forbidden_words::{
     is_forbidden_attribute, is_forbidden_name, is_initializer, is_reserved, is_uncallable,
 };
 use crate::spot::Spot;

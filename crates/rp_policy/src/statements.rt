@@ -4,11 +4,11 @@ ghost use Rattle.std.specs.Prelude.{◌≡◌, [], IfOk, OnOk, map, option_map};
 ghost use Rattle.rp_policy.specs.CollectionSteps as steps;
 ghost use Rattle.rp_base.specs.Names.{word_of};
 ghost use Rattle.rp_policy.specs.Offences.{offence_named, offences, offences_by};
-ghost use Rattle.rp_policy.specs.Spots as p;
+ghost use Rattle.rp_policy.specs.Spots as tree_spots;
 ghost use Rattle.rp_tree.specs.Augmented.{AugmentsNames};
 ghost use Rattle.rp_tree.specs.ExpressionViews.{view_expr, view_place};
 ghost use Rattle.rp_tree.specs.Maps.{named};
-ghost use Rattle.rp_tree.specs.StatementViews as v;
+ghost use Rattle.rp_tree.specs.StatementViews as stmt_views;
 
 use crate::collector::Collector;
 use crate::offence::Offence;
@@ -24,10 +24,11 @@ use std::alloc::Global;
 /// # Errors
 /// `Memory` where a growth was refused.
 pub fn offences(alloc: Global, tree: &Tree, names: &Names) -> Result<Vec<Offence>, Memory>
-    ensures found { IfOk result (λ found. found.items ≡ offences_by (word_of names.now) (v.view_tree tree.now)) }
-    ensures unaugmented { IfOk result (λ found. found.items ≡ [] → AugmentsNames (v.view_tree tree.now)) }
+    ensures found { IfOk result (λ found. found.items
+        ≡ offences_by (word_of names.now) (stmt_views.view_tree tree.now)) }
+    ensures unaugmented { IfOk result (λ found. found.items ≡ [] → AugmentsNames (stmt_views.view_tree tree.now)) }
     ensures told { IfOk result (λ found. map (offence_named (word_of names.now)) found.items
-        ≡ offences (named (word_of names.now) (v.view_tree tree.now))) }
+        ≡ offences (named (word_of names.now) (stmt_views.view_tree tree.now))) }
 {
     let mut collector = Collector::new(alloc, names);
     collector.block(Suite::Other, &tree.body)?;
@@ -86,7 +87,7 @@ impl<'a> Collector<'a> {
 
     /// The name of a function that is defined directly in such a block.
     fn function(&mut self, suite: Suite, name: Named) -> Result<(), Memory>
-        ensures { OnOk result (self.new ≡ steps.seen self.old (p.function_spot suite name)) }
+        ensures { OnOk result (self.new ≡ steps.seen self.old (tree_spots.function_spot suite name)) }
     {
         match suite {
             Suite::OfClass => self.see(Spot::Method(name)),
@@ -96,7 +97,7 @@ impl<'a> Collector<'a> {
 
     #[cycle(stmt)]
     fn stmt(&mut self, suite: Suite, stmt: &Stmt) -> Result<(), Memory>
-        ensures { OnOk result (self.new ≡ steps.with_stmt suite (v.view_stmt stmt.now) self.old) }
+        ensures { OnOk result (self.new ≡ steps.with_stmt suite (stmt_views.view_stmt stmt.now) self.old) }
     {
         self.stmt_form(suite, &stmt.form)
     }
@@ -104,7 +105,7 @@ impl<'a> Collector<'a> {
     #[cycle(stmt)]
     #[tactic(auto, using(rp_tree::proofs::StatementEquations::variants))]
     fn stmt_form(&mut self, suite: Suite, form: &StmtForm) -> Result<(), Memory>
-        ensures { OnOk result (self.new ≡ steps.with_stmt_form suite (v.view_stmt_form form.now) self.old) }
+        ensures { OnOk result (self.new ≡ steps.with_stmt_form suite (stmt_views.view_stmt_form form.now) self.old) }
     {
         match form {
             StmtForm::Expr(expr) => self.expr(expr),
@@ -165,7 +166,7 @@ impl<'a> Collector<'a> {
 
     #[cycle(stmt)]
     fn block(&mut self, suite: Suite, stmts: &[Stmt]) -> Result<(), Memory>
-        ensures { OnOk result (self.new ≡ steps.with_stmts suite (v.view_stmts stmts.now) self.old) }
+        ensures { OnOk result (self.new ≡ steps.with_stmts suite (stmt_views.view_stmts stmts.now) self.old) }
     {
         'stmts: for stmt in stmts {
             self.stmt(suite, stmt)?;
@@ -176,7 +177,7 @@ impl<'a> Collector<'a> {
     #[cycle(stmt)]
     fn branches(&mut self, branches: &[Branch]) -> Result<(), Memory>
         ensures { OnOk result (self.new
-            ≡ steps.with_branches (v.branches_of (map v.view_branch branches.now)) self.old) }
+            ≡ steps.with_branches (stmt_views.branches_of (map stmt_views.view_branch branches.now)) self.old) }
     {
         'branches: for branch in branches {
             self.branch(branch)?;
@@ -186,7 +187,7 @@ impl<'a> Collector<'a> {
 
     #[cycle(stmt)]
     fn branch(&mut self, branch: &Branch) -> Result<(), Memory>
-        ensures { let parts = v.view_branch branch.now in
+        ensures { let parts = stmt_views.view_branch branch.now in
             OnOk result (self.new ≡ steps.with_stmts Suite.Other parts.1 (steps.with_expr parts.0 self.old)) }
     {
         self.expr(&branch.test)?;
@@ -195,7 +196,7 @@ impl<'a> Collector<'a> {
 
     #[cycle(stmt)]
     fn handler(&mut self, handler: &Except) -> Result<(), Memory>
-        ensures { OnOk result (self.new ≡ steps.with_except (v.view_except handler.now) self.old) }
+        ensures { OnOk result (self.new ≡ steps.with_except (stmt_views.view_except handler.now) self.old) }
     {
         self.option(&handler.kind)?;
         self.bind_option(handler.name)?;
@@ -204,7 +205,8 @@ impl<'a> Collector<'a> {
 
     #[cycle(stmt)]
     fn handlers(&mut self, handlers: &[Except]) -> Result<(), Memory>
-        ensures { OnOk result (self.new ≡ steps.with_excepts (v.excepts_of (map v.view_except handlers.now)) self.old) }
+        ensures { OnOk result (self.new
+            ≡ steps.with_excepts (stmt_views.excepts_of (map stmt_views.view_except handlers.now)) self.old) }
     {
         'handlers: for handler in handlers {
             self.handler(handler)?;

@@ -4,9 +4,9 @@ use Rattle.std.proofs.Common.{◌∙◌}
 use Rattle.rp_base.specs.declared.operator.BinOp.{BinOp}
 use Rattle.rp_tree.specs.declared.parts.Guard.{Guard}
 use Rattle.rp_tree.specs.declared.parts.Named.{Named}
-use Rattle.rp_tree.specs.ExpressionTrees as t
+use Rattle.rp_tree.specs.ExpressionTrees as trees
 use Rattle.rp_tree.specs.ExpressionTrees.{Expr, Target, Place}
-use Rattle.rp_tree.specs.StatementTrees as s
+use Rattle.rp_tree.specs.StatementTrees as stmt_trees
 use Rattle.rp_tree.specs.StatementTrees.{Stmt, StmtForm, Stmts, MaybeStmts, Branches, Except, Excepts}
 use Rattle.rp_print.specs.Texts.{further, indentation, joined, line}
 use Rattle.rp_print.specs.Expressions.{expr_text}
@@ -25,8 +25,8 @@ use Rattle.rp_print.proofs.Written.{statement_iterable_written, target_written, 
 
 unpacked_written : {A : Type 0} (x : Target A) (e page : List ℕ) {q : List ℕ} → q ≡ written (open_unpacking x page) e
     → close_unpacking x q ≡ written page (unpacked x e)
-unpacked_written (t.to_place p) e page h = h
-unpacked_written (t.group ps) e page h = dealing_written ps page (codes "_unpack_sequence_") e h
+unpacked_written (trees.to_place p) e page h = h
+unpacked_written (trees.group ps) e page h = dealing_written ps page (codes "_unpack_sequence_") e h
 
 module _ {A : Type 0} (word : A → List ℕ) where
   assigned_written : (ps : List (Place A)) (page : List ℕ) → put_assigned word ps page ≡ written page
@@ -72,26 +72,26 @@ module _ {A : Type 0} (word : A → List ℕ) where
       (expr_written word e _)) ∙ simp (written_beside, written_nil)
 
   simple_written : (x : StmtForm A) (page : List ℕ) → put_simple word x page ≡ written page (simple_text word x)
-  simple_written (s.evaluate e) page = expr_written word e page
-  simple_written (s.assign ps e) page = then_part _ _ _ (assigned_written ps page) (expr_written word e _)
-  simple_written (s.unpack p e g) page = then_part _ _ _ (then_text _ _ _ (target_written word p page))
+  simple_written (stmt_trees.evaluate e) page = expr_written word e page
+  simple_written (stmt_trees.assign ps e) page = then_part _ _ _ (assigned_written ps page) (expr_written word e _)
+  simple_written (stmt_trees.unpack p e g) page = then_part _ _ _ (then_text _ _ _ (target_written word p page))
       (value_written g p e _)
-  simple_written (s.aug p o at e g) page = aug_written g p o e page
-  simple_written (s.del ps) page = then_part _ _ _ refl (places_written true ps _)
-  simple_written s.pass page = refl
-  simple_written s.break page = refl
-  simple_written s.continue page = refl
-  simple_written (s.give_back e) page = then_part _ _ _ refl (behind_written (codes " ") e _)
-  simple_written (s.raise e) page = then_part _ _ _ refl (behind_written (codes " ") e _)
-  simple_written (s.assert e m) page = then_part _ _ _ (then_part _ _ _ refl (expr_written word e _)) (behind_written
+  simple_written (stmt_trees.aug p o at e g) page = aug_written g p o e page
+  simple_written (stmt_trees.del ps) page = then_part _ _ _ refl (places_written true ps _)
+  simple_written stmt_trees.pass page = refl
+  simple_written stmt_trees.break page = refl
+  simple_written stmt_trees.continue page = refl
+  simple_written (stmt_trees.give_back e) page = then_part _ _ _ refl (behind_written (codes " ") e _)
+  simple_written (stmt_trees.raise e) page = then_part _ _ _ refl (behind_written (codes " ") e _)
+  simple_written (stmt_trees.assert e m) page = then_part _ _ _ (then_part _ _ _ refl (expr_written word e _)) (behind_written
       (codes ", ") m _)
-  simple_written (s.global ns) page = then_part _ _ _ refl (names_written true ns _)
-  simple_written (s.choose bs o) page = sym (written_nil page)
-  simple_written (s.while e b) page = sym (written_nil page)
-  simple_written (s.for w b) page = sym (written_nil page)
-  simple_written (s.try b hs o l) page = sym (written_nil page)
-  simple_written (s.define k n ps b) page = sym (written_nil page)
-  simple_written (s.class n b) page = sym (written_nil page)
+  simple_written (stmt_trees.global ns) page = then_part _ _ _ refl (names_written true ns _)
+  simple_written (stmt_trees.choose bs o) page = sym (written_nil page)
+  simple_written (stmt_trees.while e b) page = sym (written_nil page)
+  simple_written (stmt_trees.for w b) page = sym (written_nil page)
+  simple_written (stmt_trees.try b hs o l) page = sym (written_nil page)
+  simple_written (stmt_trees.define k n ps b) page = sym (written_nil page)
+  simple_written (stmt_trees.class n b) page = sym (written_nil page)
 
   line_written : (d : ℕ) (x : StmtForm A) (page : List ℕ) → put_line word d x page ≡ written page (line d
       (simple_text word x))
@@ -99,64 +99,64 @@ module _ {A : Type 0} (word : A → List ℕ) where
 
   mutual
     stmt_written : (d : ℕ) (x : Stmt A) (page : List ℕ) → put_stmt word d x page ≡ written page (stmt_lines word d x)
-    stmt_written d (s.a_stmt l x) page = stmt_form_written d x page
+    stmt_written d (stmt_trees.a_stmt l x) page = stmt_form_written d x page
 
     stmt_form_written : (d : ℕ) (x : StmtForm A) (page : List ℕ) → put_stmt_form word d x page ≡ written page
         (stmt_form_lines word d x)
-    stmt_form_written d (s.choose bs o) page = then_part _ _ _ (branches_written d true bs page) (block_written d
+    stmt_form_written d (stmt_trees.choose bs o) page = then_part _ _ _ (branches_written d true bs page) (block_written d
         (codes "else:") o _)
-    stmt_form_written d (s.while e b) page = then_part _ _ _ (then_text _ _ _ (then_part _ _ _ refl (then_text _ _ _
+    stmt_form_written d (stmt_trees.while e b) page = then_part _ _ _ (then_text _ _ _ (then_part _ _ _ refl (then_text _ _ _
         (then_part _ _ _ refl (expr_written word e _))))) (stmts_written (suc d) b _)
-    stmt_form_written d (s.for w b) page = then_part _ _ _ (then_text _ _ _ (then_part _ _ _ refl (then_text _ _ _
+    stmt_form_written d (stmt_trees.for w b) page = then_part _ _ _ (then_text _ _ _ (then_part _ _ _ refl (then_text _ _ _
         (then_part _ _ _ (walk_written word w (written page (indentation d)))
         (statement_iterable_written word w _))))) (stmts_written (suc d) b _)
-    stmt_form_written d (s.try b hs o l) page = then_part _ _ _ (then_part _ _ _ (then_part _ _ _ (then_part _ _ _
+    stmt_form_written d (stmt_trees.try b hs o l) page = then_part _ _ _ (then_part _ _ _ (then_part _ _ _ (then_part _ _ _
         (then_text _ _ _ (then_text _ _ _ refl)) (stmts_written (suc d) b _)) (excepts_written d hs _))
         (block_written d (codes "else:") o _)) (block_written d (codes "finally:") l _)
-    stmt_form_written d (s.define k n ps b) page = then_part _ _ _ (then_text _ _ _ (then_part _ _ _ refl
+    stmt_form_written d (stmt_trees.define k n ps b) page = then_part _ _ _ (then_text _ _ _ (then_part _ _ _ refl
         (then_text _ _ _ (then_part _ _ _ (then_text _ _ _ (then_text _ _ _ refl)) (params_written word ps _)))))
         (stmts_written (suc d) b _)
-    stmt_form_written d (s.class n b) page = then_part _ _ _ (then_text _ _ _ (then_part _ _ _ refl (then_text _ _ _
+    stmt_form_written d (stmt_trees.class n b) page = then_part _ _ _ (then_text _ _ _ (then_part _ _ _ refl (then_text _ _ _
         (then_text _ _ _ refl)))) (stmts_written (suc d) b _)
-    stmt_form_written d (s.evaluate e) page = line_written d (s.evaluate e) page
-    stmt_form_written d (s.assign ps e) page = line_written d (s.assign ps e) page
-    stmt_form_written d (s.unpack p e g) page = line_written d (s.unpack p e g) page
-    stmt_form_written d (s.aug p o at e g) page = line_written d (s.aug p o at e g) page
-    stmt_form_written d (s.del ps) page = line_written d (s.del ps) page
-    stmt_form_written d s.pass page = line_written d s.pass page
-    stmt_form_written d s.break page = line_written d s.break page
-    stmt_form_written d s.continue page = line_written d s.continue page
-    stmt_form_written d (s.give_back e) page = line_written d (s.give_back e) page
-    stmt_form_written d (s.raise e) page = line_written d (s.raise e) page
-    stmt_form_written d (s.assert e m) page = line_written d (s.assert e m) page
-    stmt_form_written d (s.global ns) page = line_written d (s.global ns) page
+    stmt_form_written d (stmt_trees.evaluate e) page = line_written d (stmt_trees.evaluate e) page
+    stmt_form_written d (stmt_trees.assign ps e) page = line_written d (stmt_trees.assign ps e) page
+    stmt_form_written d (stmt_trees.unpack p e g) page = line_written d (stmt_trees.unpack p e g) page
+    stmt_form_written d (stmt_trees.aug p o at e g) page = line_written d (stmt_trees.aug p o at e g) page
+    stmt_form_written d (stmt_trees.del ps) page = line_written d (stmt_trees.del ps) page
+    stmt_form_written d stmt_trees.pass page = line_written d stmt_trees.pass page
+    stmt_form_written d stmt_trees.break page = line_written d stmt_trees.break page
+    stmt_form_written d stmt_trees.continue page = line_written d stmt_trees.continue page
+    stmt_form_written d (stmt_trees.give_back e) page = line_written d (stmt_trees.give_back e) page
+    stmt_form_written d (stmt_trees.raise e) page = line_written d (stmt_trees.raise e) page
+    stmt_form_written d (stmt_trees.assert e m) page = line_written d (stmt_trees.assert e m) page
+    stmt_form_written d (stmt_trees.global ns) page = line_written d (stmt_trees.global ns) page
 
     stmts_written : (d : ℕ) (x : Stmts A) (page : List ℕ) → put_stmts word d x page ≡ written page
         (stmts_lines word d x)
-    stmts_written d s.no_stmts page = sym (written_nil page)
-    stmts_written d (s.stmt x xs) page = then_part _ _ _ (stmt_written d x page) (stmts_written d xs _)
+    stmts_written d stmt_trees.no_stmts page = sym (written_nil page)
+    stmts_written d (stmt_trees.stmt x xs) page = then_part _ _ _ (stmt_written d x page) (stmts_written d xs _)
 
     block_written : (d : ℕ) (keyword : List ℕ) (x : MaybeStmts A) (page : List ℕ) → put_block word d keyword x page
         ≡ written page (maybe_block word d keyword x)
-    block_written d keyword s.none page = sym (written_nil page)
-    block_written d keyword (s.some b) page = then_part _ _ _ (then_text _ _ _ (then_text _ _ _ refl)) (stmts_written
+    block_written d keyword stmt_trees.none page = sym (written_nil page)
+    block_written d keyword (stmt_trees.some b) page = then_part _ _ _ (then_text _ _ _ (then_text _ _ _ refl)) (stmts_written
         (suc d) b _)
 
     branches_written : (d : ℕ) (first : Bool) (x : Branches A) (page : List ℕ) → put_branches word d first x page
         ≡ written page (branches_lines word d first x)
-    branches_written d first s.no_branches page = sym (written_nil page)
-    branches_written d first (s.branch e b bs) page = then_part _ _ _ (then_part _ _ _ (then_text _ _ _
+    branches_written d first stmt_trees.no_branches page = sym (written_nil page)
+    branches_written d first (stmt_trees.branch e b bs) page = then_part _ _ _ (then_part _ _ _ (then_text _ _ _
         (then_part _ _ _ refl (then_text _ _ _ (then_part _ _ _ refl (expr_written word e _))))) (stmts_written
         (suc d) b _)) (branches_written d false bs _)
 
     excepts_written : (d : ℕ) (x : Excepts A) (page : List ℕ) → put_excepts word d x page ≡ written page
         (excepts_lines word d x)
-    excepts_written d s.no_excepts page = sym (written_nil page)
-    excepts_written d (s.except x xs) page = then_part _ _ _ (except_written d x page) (excepts_written d xs _)
+    excepts_written d stmt_trees.no_excepts page = sym (written_nil page)
+    excepts_written d (stmt_trees.except x xs) page = then_part _ _ _ (except_written d x page) (excepts_written d xs _)
 
     except_written : (d : ℕ) (x : Except A) (page : List ℕ) → put_except word d x page ≡ written page
         (except_lines word d x)
-    except_written d (s.an_except k n b) page = then_part _ _ _ (then_text _ _ _ (then_part _ _ _ refl
+    except_written d (stmt_trees.an_except k n b) page = then_part _ _ _ (then_text _ _ _ (then_part _ _ _ refl
         (then_text _ _ _ (then_part _ _ _ (then_part _ _ _ refl (behind_written (codes " ") k _))
         (bound_name_written n _))))) (stmts_written (suc d) b _)
 

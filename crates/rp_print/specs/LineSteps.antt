@@ -6,9 +6,9 @@ use Rattle.rp_base.specs.declared.operator.BinOp.{BinOp}
 use Rattle.rp_tree.specs.declared.parts.Guard.{Guard}
 use Rattle.rp_tree.specs.declared.parts.Named.{Named}
 use Rattle.rp_tree.specs.declared.stmt.Stmt as program_stmt
-use Rattle.rp_tree.specs.ExpressionTrees as t
+use Rattle.rp_tree.specs.ExpressionTrees as trees
 use Rattle.rp_tree.specs.ExpressionTrees.{Expr, Params, Place, Target, Walk}
-use Rattle.rp_tree.specs.StatementTrees as s
+use Rattle.rp_tree.specs.StatementTrees as stmt_trees
 use Rattle.rp_tree.specs.StatementTrees.{Stmt, StmtForm, Stmts, MaybeStmts, Branches, Except, Excepts}
 use Rattle.rp_print.specs.Texts.{indentation}
 use Rattle.rp_print.specs.Operators.{binary_text}
@@ -19,12 +19,12 @@ use Rattle.rp_print.specs.WritingSteps.{put_target, put_walk}
 
 -- what stands before and behind a value that is handed to a guard
 abbrev pub open_unpacking : {A : Type 0} → Target A → List ℕ → List ℕ
-open_unpacking (t.to_place p) page = page
-open_unpacking (t.group ps) page = opened (codes "_unpack_sequence_") page
+open_unpacking (trees.to_place p) page = page
+open_unpacking (trees.group ps) page = opened (codes "_unpack_sequence_") page
 
 abbrev pub close_unpacking : {A : Type 0} → Target A → List ℕ → List ℕ
-close_unpacking (t.to_place p) page = page
-close_unpacking (t.group ps) page = put_dealing ps page
+close_unpacking (trees.to_place p) page = page
+close_unpacking (trees.group ps) page = put_dealing ps page
 
 -- the end of the line before a block
 abbrev pub end_head : List ℕ → List ℕ
@@ -87,18 +87,18 @@ module _ {A : Type 0} (word : A → List ℕ) where
 
   -- a simple statement
   abbrev pub put_simple : StmtForm A → List ℕ → List ℕ
-  put_simple (s.evaluate e) page = put_expr word e page
-  put_simple (s.assign ps e) page = put_expr word e (put_assigned ps page)
-  put_simple (s.unpack p e g) page = put_value g p e (written (put_target word p page) (codes " = "))
-  put_simple (s.aug p o at e g) page = put_aug g p o e page
-  put_simple (s.del ps) page = put_places true ps (written page (codes "del "))
-  put_simple s.pass page = written page (codes "pass")
-  put_simple s.break page = written page (codes "break")
-  put_simple s.continue page = written page (codes "continue")
-  put_simple (s.give_back e) page = put_behind (codes " ") e (written page (codes "return"))
-  put_simple (s.raise e) page = put_behind (codes " ") e (written page (codes "raise"))
-  put_simple (s.assert e m) page = put_behind (codes ", ") m (put_expr word e (written page (codes "assert ")))
-  put_simple (s.global ns) page = put_names true ns (written page (codes "global "))
+  put_simple (stmt_trees.evaluate e) page = put_expr word e page
+  put_simple (stmt_trees.assign ps e) page = put_expr word e (put_assigned ps page)
+  put_simple (stmt_trees.unpack p e g) page = put_value g p e (written (put_target word p page) (codes " = "))
+  put_simple (stmt_trees.aug p o at e g) page = put_aug g p o e page
+  put_simple (stmt_trees.del ps) page = put_places true ps (written page (codes "del "))
+  put_simple stmt_trees.pass page = written page (codes "pass")
+  put_simple stmt_trees.break page = written page (codes "break")
+  put_simple stmt_trees.continue page = written page (codes "continue")
+  put_simple (stmt_trees.give_back e) page = put_behind (codes " ") e (written page (codes "return"))
+  put_simple (stmt_trees.raise e) page = put_behind (codes " ") e (written page (codes "raise"))
+  put_simple (stmt_trees.assert e m) page = put_behind (codes ", ") m (put_expr word e (written page (codes "assert ")))
+  put_simple (stmt_trees.global ns) page = put_names true ns (written page (codes "global "))
   put_simple _ page = page
 
   abbrev pub put_line : ℕ → StmtForm A → List ℕ → List ℕ
@@ -107,21 +107,21 @@ module _ {A : Type 0} (word : A → List ℕ) where
   -- statements within so many blocks
   abbrev mutual
     pub put_stmt : ℕ → Stmt A → List ℕ → List ℕ
-    put_stmt d (s.a_stmt l x) page = put_stmt_form d x page
+    put_stmt d (stmt_trees.a_stmt l x) page = put_stmt_form d x page
 
     pub put_stmt_form : ℕ → StmtForm A → List ℕ → List ℕ
-    put_stmt_form d (s.choose bs o) page = put_block d (codes "else:") o (put_branches d true bs page)
-    put_stmt_form d (s.while e b) page =
+    put_stmt_form d (stmt_trees.choose bs o) page = put_block d (codes "else:") o (put_branches d true bs page)
+    put_stmt_form d (stmt_trees.while e b) page =
         put_stmts (suc d) b (end_head (put_expr word e (written (written page (indentation d)) (codes "while "))))
-    put_stmt_form d (s.for w b) page =
+    put_stmt_form d (stmt_trees.for w b) page =
         put_stmts (suc d) b
         (end_head (put_statement_iterable word w (put_walk word w (written page (indentation d)))))
-    put_stmt_form d (s.try b hs o l) page =
+    put_stmt_form d (stmt_trees.try b hs o l) page =
         put_block d (codes "finally:") l
         (put_block d (codes "else:") o
         (put_excepts d hs
         (put_stmts (suc d) b (put_head d (codes "try:") page))))
-    put_stmt_form d (s.define k n ps b) page =
+    put_stmt_form d (stmt_trees.define k n ps b) page =
         put_stmts (suc d) b
         (written
         (written
@@ -129,33 +129,33 @@ module _ {A : Type 0} (word : A → List ℕ) where
         (written (written (written (written page (indentation d)) (codes "def ")) (word n.name)) (codes "(")))
         (codes "):"))
         (codes "\n"))
-    put_stmt_form d (s.class n b) page =
+    put_stmt_form d (stmt_trees.class n b) page =
         put_stmts (suc d) b
         (end_head (written (written (written page (indentation d)) (codes "class ")) (word n.name)))
     put_stmt_form d x page = put_line d x page
 
     pub put_stmts : ℕ → Stmts A → List ℕ → List ℕ
-    put_stmts d s.no_stmts page = page
-    put_stmts d (s.stmt x xs) page = put_stmts d xs (put_stmt d x page)
+    put_stmts d stmt_trees.no_stmts page = page
+    put_stmts d (stmt_trees.stmt x xs) page = put_stmts d xs (put_stmt d x page)
 
     -- a block behind its keyword, where there is one
     pub put_block : ℕ → List ℕ → MaybeStmts A → List ℕ → List ℕ
-    put_block d keyword s.none page = page
-    put_block d keyword (s.some b) page = put_stmts (suc d) b (put_head d keyword page)
+    put_block d keyword stmt_trees.none page = page
+    put_block d keyword (stmt_trees.some b) page = put_stmts (suc d) b (put_head d keyword page)
 
     pub put_branches : ℕ → Bool → Branches A → List ℕ → List ℕ
-    put_branches d first s.no_branches page = page
-    put_branches d first (s.branch e b bs) page =
+    put_branches d first stmt_trees.no_branches page = page
+    put_branches d first (stmt_trees.branch e b bs) page =
         put_branches d false bs
         (put_stmts (suc d) b
         (end_head (put_expr word e (written (written page (indentation d)) (branch_keyword first)))))
 
     pub put_excepts : ℕ → Excepts A → List ℕ → List ℕ
-    put_excepts d s.no_excepts page = page
-    put_excepts d (s.except x xs) page = put_excepts d xs (put_except d x page)
+    put_excepts d stmt_trees.no_excepts page = page
+    put_excepts d (stmt_trees.except x xs) page = put_excepts d xs (put_except d x page)
 
     pub put_except : ℕ → Except A → List ℕ → List ℕ
-    put_except d (s.an_except k n b) page =
+    put_except d (stmt_trees.an_except k n b) page =
         put_stmts (suc d) b
         (end_head
         (put_bound_name n (put_behind (codes " ") k (written (written page (indentation d)) (codes "except")))))

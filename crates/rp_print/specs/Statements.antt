@@ -4,9 +4,9 @@ use Rattle.std.specs.Prelude.{ℕ, suc, Bool, true, false, List, [], ◌∷◌, 
 use Rattle.rp_base.specs.declared.operator.BinOp.{BinOp}
 use Rattle.rp_tree.specs.declared.parts.Guard.{Guard}
 use Rattle.rp_tree.specs.declared.parts.Named.{Named}
-use Rattle.rp_tree.specs.ExpressionTrees as t
+use Rattle.rp_tree.specs.ExpressionTrees as trees
 use Rattle.rp_tree.specs.ExpressionTrees.{Expr, Target, Place}
-use Rattle.rp_tree.specs.StatementTrees as s
+use Rattle.rp_tree.specs.StatementTrees as stmt_trees
 use Rattle.rp_tree.specs.StatementTrees.{Stmt, StmtForm, Stmts, MaybeStmts, Branches, Except, Excepts}
 use Rattle.rp_print.specs.Texts.{◌⧺◌, call_text, line, listed}
 use Rattle.rp_print.specs.Operators.{binary_text}
@@ -15,8 +15,8 @@ use Rattle.rp_print.specs.Expressions.{target_text, walk_text}
 
 -- a value that is handed to a guard, by the list of targets over which it is dealt out
 abbrev pub unpacked : {A : Type 0} → Target A → List ℕ → List ℕ
-unpacked (t.to_place p) e = e
-unpacked (t.group ps) e = call_text (codes "_unpack_sequence_") (e ∷ spec_text ps ∷ codes "_getiter_" ∷ [])
+unpacked (trees.to_place p) e = e
+unpacked (trees.group ps) e = call_text (codes "_unpack_sequence_") (e ∷ spec_text ps ∷ codes "_getiter_" ∷ [])
 
 -- the mark of an augmented assignment
 abbrev pub augmented_text : BinOp → List ℕ
@@ -65,64 +65,64 @@ module _ {A : Type 0} (word : A → List ℕ) where
 
   -- a simple statement
   abbrev pub simple_text : StmtForm A → List ℕ
-  simple_text (s.evaluate e) = expr_text word e
-  simple_text (s.assign ps e) = assigned_text ps ⧺ expr_text word e
-  simple_text (s.unpack p e g) = target_text word p ⧺ codes " = " ⧺ value_text g p e
-  simple_text (s.aug p o at e g) = aug_text g p o e
-  simple_text (s.del ps) = codes "del " ⧺ listed (places_texts ps)
-  simple_text s.pass = codes "pass"
-  simple_text s.break = codes "break"
-  simple_text s.continue = codes "continue"
-  simple_text (s.give_back e) = codes "return" ⧺ behind (codes " ") e
-  simple_text (s.raise e) = codes "raise" ⧺ behind (codes " ") e
-  simple_text (s.assert e m) = codes "assert " ⧺ expr_text word e ⧺ behind (codes ", ") m
-  simple_text (s.global ns) = codes "global " ⧺ listed (names_texts ns)
+  simple_text (stmt_trees.evaluate e) = expr_text word e
+  simple_text (stmt_trees.assign ps e) = assigned_text ps ⧺ expr_text word e
+  simple_text (stmt_trees.unpack p e g) = target_text word p ⧺ codes " = " ⧺ value_text g p e
+  simple_text (stmt_trees.aug p o at e g) = aug_text g p o e
+  simple_text (stmt_trees.del ps) = codes "del " ⧺ listed (places_texts ps)
+  simple_text stmt_trees.pass = codes "pass"
+  simple_text stmt_trees.break = codes "break"
+  simple_text stmt_trees.continue = codes "continue"
+  simple_text (stmt_trees.give_back e) = codes "return" ⧺ behind (codes " ") e
+  simple_text (stmt_trees.raise e) = codes "raise" ⧺ behind (codes " ") e
+  simple_text (stmt_trees.assert e m) = codes "assert " ⧺ expr_text word e ⧺ behind (codes ", ") m
+  simple_text (stmt_trees.global ns) = codes "global " ⧺ listed (names_texts ns)
   simple_text _ = []
 
   -- statements within so many blocks
   abbrev mutual
     pub stmt_lines : ℕ → Stmt A → List ℕ
-    stmt_lines d (s.a_stmt l x) = stmt_form_lines d x
+    stmt_lines d (stmt_trees.a_stmt l x) = stmt_form_lines d x
 
     pub stmt_form_lines : ℕ → StmtForm A → List ℕ
-    stmt_form_lines d (s.choose bs o) = branches_lines d true bs ⧺ maybe_block d (codes "else:") o
-    stmt_form_lines d (s.while e b) = line d (codes "while " ⧺ expr_text word e ⧺ codes ":") ⧺ stmts_lines (suc d) b
-    stmt_form_lines d (s.for w b) =
+    stmt_form_lines d (stmt_trees.choose bs o) = branches_lines d true bs ⧺ maybe_block d (codes "else:") o
+    stmt_form_lines d (stmt_trees.while e b) = line d (codes "while " ⧺ expr_text word e ⧺ codes ":") ⧺ stmts_lines (suc d) b
+    stmt_form_lines d (stmt_trees.for w b) =
         line d (walk_text word w ⧺ statement_iterable word w ⧺ codes ":") ⧺ stmts_lines (suc d) b
-    stmt_form_lines d (s.try b hs o l) =
+    stmt_form_lines d (stmt_trees.try b hs o l) =
         line d (codes "try:")
         ⧺ stmts_lines (suc d) b
         ⧺ excepts_lines d hs
         ⧺ maybe_block d (codes "else:") o
         ⧺ maybe_block d (codes "finally:") l
-    stmt_form_lines d (s.define k n ps b) =
+    stmt_form_lines d (stmt_trees.define k n ps b) =
         line d (codes "def " ⧺ word n.name ⧺ codes "(" ⧺ listed (params_texts word ps) ⧺ codes "):")
         ⧺ stmts_lines (suc d) b
-    stmt_form_lines d (s.class n b) = line d (codes "class " ⧺ word n.name ⧺ codes ":") ⧺ stmts_lines (suc d) b
+    stmt_form_lines d (stmt_trees.class n b) = line d (codes "class " ⧺ word n.name ⧺ codes ":") ⧺ stmts_lines (suc d) b
     stmt_form_lines d x = line d (simple_text x)
 
     pub stmts_lines : ℕ → Stmts A → List ℕ
-    stmts_lines d s.no_stmts = []
-    stmts_lines d (s.stmt x xs) = stmt_lines d x ⧺ stmts_lines d xs
+    stmts_lines d stmt_trees.no_stmts = []
+    stmts_lines d (stmt_trees.stmt x xs) = stmt_lines d x ⧺ stmts_lines d xs
 
     -- a block behind its keyword, where there is one
     pub maybe_block : ℕ → List ℕ → MaybeStmts A → List ℕ
-    maybe_block d keyword s.none = []
-    maybe_block d keyword (s.some b) = line d keyword ⧺ stmts_lines (suc d) b
+    maybe_block d keyword stmt_trees.none = []
+    maybe_block d keyword (stmt_trees.some b) = line d keyword ⧺ stmts_lines (suc d) b
 
     pub branches_lines : ℕ → Bool → Branches A → List ℕ
-    branches_lines d first s.no_branches = []
-    branches_lines d first (s.branch e b bs) =
+    branches_lines d first stmt_trees.no_branches = []
+    branches_lines d first (stmt_trees.branch e b bs) =
         line d (branch_keyword first ⧺ expr_text word e ⧺ codes ":")
         ⧺ stmts_lines (suc d) b
         ⧺ branches_lines d false bs
 
     pub excepts_lines : ℕ → Excepts A → List ℕ
-    excepts_lines d s.no_excepts = []
-    excepts_lines d (s.except x xs) = except_lines d x ⧺ excepts_lines d xs
+    excepts_lines d stmt_trees.no_excepts = []
+    excepts_lines d (stmt_trees.except x xs) = except_lines d x ⧺ excepts_lines d xs
 
     pub except_lines : ℕ → Except A → List ℕ
-    except_lines d (s.an_except k n b) =
+    except_lines d (stmt_trees.an_except k n b) =
         line d (codes "except" ⧺ behind (codes " ") k ⧺ bound_name n ⧺ codes ":") ⧺ stmts_lines (suc d) b
 
 -- the text of a tree, by the words that its names stand for

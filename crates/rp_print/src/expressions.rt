@@ -5,7 +5,7 @@ ghost use Rattle.std.specs.Prelude.{◌≡◌, true, map, option_map, IsTrue, On
 ghost use Rattle.std.specs.Char.{is_ascii};
 ghost use Rattle.std.specs.List.{list_all};
 ghost use Rattle.rp_base.specs.Names.{word_of};
-ghost use Rattle.rp_tree.specs.ExpressionViews as v;
+ghost use Rattle.rp_tree.specs.ExpressionViews as views;
 ghost use Rattle.rp_print.specs.PageSteps.{written};
 ghost use Rattle.rp_print.specs.WritingSteps as step;
 
@@ -23,7 +23,7 @@ use rp_tree::{
 
 #[cycle(expr)]
 pub(crate) fn write_expr(names: &Names, page: &mut Page, expr: &Expr) -> Result<(), Memory>
-    ensures { OnOk result (page.new ≡ step.put_expr (word_of names.now) (v.view_expr expr.now) page.old) }
+    ensures { OnOk result (page.new ≡ step.put_expr (word_of names.now) (views.view_expr expr.now) page.old) }
 {
     write_form(names, page, &expr.form)
 }
@@ -31,7 +31,7 @@ pub(crate) fn write_expr(names: &Names, page: &mut Page, expr: &Expr) -> Result<
 /// An operand.
 #[cycle(expr)]
 fn write_operand(names: &Names, page: &mut Page, expr: &Expr) -> Result<(), Memory>
-    ensures { OnOk result (page.new ≡ step.put_operand (word_of names.now) (v.view_expr expr.now) page.old) }
+    ensures { OnOk result (page.new ≡ step.put_operand (word_of names.now) (views.view_expr expr.now) page.old) }
 {
     if stands_alone(&expr.form) {
         return write_form(names, page, &expr.form);
@@ -44,7 +44,7 @@ fn write_operand(names: &Names, page: &mut Page, expr: &Expr) -> Result<(), Memo
 #[cycle(expr)]
 #[tactic(auto, using(rp_tree::proofs::ExpressionEquations::variants))]
 fn write_form(names: &Names, page: &mut Page, form: &ExprForm) -> Result<(), Memory>
-    ensures { OnOk result (page.new ≡ step.put_form (word_of names.now) (v.view_form form.now) page.old) }
+    ensures { OnOk result (page.new ≡ step.put_form (word_of names.now) (views.view_form form.now) page.old) }
 {
     match form {
         ExprForm::Name(name) => page.name(names, *name),
@@ -101,7 +101,7 @@ fn write_form(names: &Names, page: &mut Page, form: &ExprForm) -> Result<(), Mem
 #[cycle(expr)]
 fn write_tuple(names: &Names, page: &mut Page, exprs: &[Expr]) -> Result<(), Memory>
     ensures { OnOk result (page.new
-        ≡ step.put_tuple (word_of names.now) (v.exprs_of (map v.view_expr exprs.now)) page.old) }
+        ≡ step.put_tuple (word_of names.now) (views.exprs_of (map views.view_expr exprs.now)) page.old) }
 {
     page.mark("(")?;
     write_exprs(names, page, exprs)?;
@@ -111,7 +111,7 @@ fn write_tuple(names: &Names, page: &mut Page, exprs: &[Expr]) -> Result<(), Mem
 #[cycle(expr)]
 fn write_list(names: &Names, page: &mut Page, exprs: &[Expr]) -> Result<(), Memory>
     ensures { OnOk result (page.new
-        ≡ step.put_list (word_of names.now) (v.exprs_of (map v.view_expr exprs.now)) page.old) }
+        ≡ step.put_list (word_of names.now) (views.exprs_of (map views.view_expr exprs.now)) page.old) }
 {
     page.mark("[")?;
     write_exprs(names, page, exprs)?;
@@ -121,7 +121,7 @@ fn write_list(names: &Names, page: &mut Page, exprs: &[Expr]) -> Result<(), Memo
 #[cycle(expr)]
 fn write_dict(names: &Names, page: &mut Page, pairs: &[(Expr, Expr)]) -> Result<(), Memory>
     ensures { OnOk result (page.new
-        ≡ step.put_dict (word_of names.now) (v.pairs_of (map v.view_pair pairs.now)) page.old) }
+        ≡ step.put_dict (word_of names.now) (views.pairs_of (map views.view_pair pairs.now)) page.old) }
 {
     page.mark("{")?;
     write_pairs(names, page, pairs)?;
@@ -131,7 +131,8 @@ fn write_dict(names: &Names, page: &mut Page, pairs: &[(Expr, Expr)]) -> Result<
 /// What stands before that which a lambda gives.
 #[cycle(expr)]
 fn write_lambda_head(names: &Names, page: &mut Page, params: &Params) -> Result<(), Memory>
-    ensures { OnOk result (page.new ≡ step.put_lambda_head (word_of names.now) (v.view_params params.now) page.old) }
+    ensures { OnOk result (page.new
+        ≡ step.put_lambda_head (word_of names.now) (views.view_params params.now) page.old) }
 {
     page.mark("lambda")?;
     page.separate(" ", holds_none(params))?;
@@ -149,7 +150,7 @@ fn write_behind(
 ) -> Result<(), Memory>
     requires { IsTrue (list_all is_ascii mark.now) }
     ensures { OnOk result (page.new
-        ≡ step.put_expr (word_of names.now) (v.view_expr expr.now) (written page.old mark.now)) }
+        ≡ step.put_expr (word_of names.now) (views.view_expr expr.now) (written page.old mark.now)) }
 {
     page.mark(mark)?;
     write_expr(names, page, expr)
@@ -165,7 +166,7 @@ fn write_operand_behind(
 ) -> Result<(), Memory>
     requires { IsTrue (list_all is_ascii mark.now) }
     ensures { OnOk result (page.new
-        ≡ step.put_operand (word_of names.now) (v.view_expr operand.now) (written page.old mark.now)) }
+        ≡ step.put_operand (word_of names.now) (views.view_expr operand.now) (written page.old mark.now)) }
 {
     page.mark(mark)?;
     write_operand(names, page, operand)
@@ -174,7 +175,7 @@ fn write_operand_behind(
 /// What a trailer belongs to: as the argument of a guard, or with a dot or a bracket behind it.
 #[cycle(expr)]
 fn write_base(names: &Names, page: &mut Page, guarded: bool, expr: &Expr) -> Result<(), Memory>
-    ensures { OnOk result (page.new ≡ step.put_base (word_of names.now) guarded (v.view_expr expr.now) page.old) }
+    ensures { OnOk result (page.new ≡ step.put_base (word_of names.now) guarded (views.view_expr expr.now) page.old) }
 {
     if stands_as_base(guarded, &expr.form) {
         return write_form(names, page, &expr.form);
@@ -187,7 +188,7 @@ fn write_base(names: &Names, page: &mut Page, guarded: bool, expr: &Expr) -> Res
 #[cycle(expr)]
 fn write_exprs(names: &Names, page: &mut Page, exprs: &[Expr]) -> Result<(), Memory>
     ensures { OnOk result (page.new
-        ≡ step.put_exprs (word_of names.now) true (v.exprs_of (map v.view_expr exprs.now)) page.old) }
+        ≡ step.put_exprs (word_of names.now) true (views.exprs_of (map views.view_expr exprs.now)) page.old) }
 {
     let mut first = true;
     'exprs: for expr in exprs {
@@ -207,7 +208,8 @@ fn write_operands(
 ) -> Result<(), Memory>
     requires { IsTrue (list_all is_ascii separator.now) }
     ensures { OnOk result (page.new
-        ≡ step.put_operands (word_of names.now) separator.now true (v.exprs_of (map v.view_expr exprs.now)) page.old) }
+        ≡ step.put_operands (word_of names.now) separator.now true
+        (views.exprs_of (map views.view_expr exprs.now)) page.old) }
 {
     let mut first = true;
     'exprs: for expr in exprs {
@@ -221,7 +223,7 @@ fn write_operands(
 #[cycle(expr)]
 fn write_pairs(names: &Names, page: &mut Page, pairs: &[(Expr, Expr)]) -> Result<(), Memory>
     ensures { OnOk result (page.new
-        ≡ step.put_pairs (word_of names.now) true (v.pairs_of (map v.view_pair pairs.now)) page.old) }
+        ≡ step.put_pairs (word_of names.now) true (views.pairs_of (map views.view_pair pairs.now)) page.old) }
 {
     let mut first = true;
     'pairs: for pair in pairs {
@@ -237,7 +239,7 @@ fn write_pairs(names: &Names, page: &mut Page, pairs: &[(Expr, Expr)]) -> Result
 #[cycle(expr)]
 fn write_tests(names: &Names, page: &mut Page, tests: &[(Test, Expr)]) -> Result<(), Memory>
     ensures { OnOk result (page.new
-        ≡ step.put_tests (word_of names.now) (v.tests_of (map v.view_test tests.now)) page.old) }
+        ≡ step.put_tests (word_of names.now) (views.tests_of (map views.view_test tests.now)) page.old) }
 {
     'tests: for test in tests {
         page.between(test_text(test.0))?;
@@ -249,7 +251,7 @@ fn write_tests(names: &Names, page: &mut Page, tests: &[(Test, Expr)]) -> Result
 #[cycle(expr)]
 fn write_chain(names: &Names, page: &mut Page, operands: &[(BinOp, Expr)]) -> Result<(), Memory>
     ensures { OnOk result (page.new
-        ≡ step.put_ops (word_of names.now) (v.ops_of (map v.view_op operands.now)) page.old) }
+        ≡ step.put_ops (word_of names.now) (views.ops_of (map views.view_op operands.now)) page.old) }
 {
     'operands: for operand in operands {
         page.between(binary_text(operand.0))?;
@@ -261,7 +263,7 @@ fn write_chain(names: &Names, page: &mut Page, operands: &[(BinOp, Expr)]) -> Re
 #[cycle(expr)]
 fn write_clauses(names: &Names, page: &mut Page, clauses: &[Clause]) -> Result<(), Memory>
     ensures { OnOk result (page.new
-        ≡ step.put_clauses (word_of names.now) (v.clauses_of (map v.view_clause clauses.now)) page.old) }
+        ≡ step.put_clauses (word_of names.now) (views.clauses_of (map views.view_clause clauses.now)) page.old) }
 {
     'clauses: for clause in clauses {
         write_clause(names, page, clause)?;
@@ -271,7 +273,7 @@ fn write_clauses(names: &Names, page: &mut Page, clauses: &[Clause]) -> Result<(
 
 #[cycle(expr)]
 fn write_clause(names: &Names, page: &mut Page, clause: &Clause) -> Result<(), Memory>
-    ensures { OnOk result (page.new ≡ step.put_clause (word_of names.now) (v.view_clause clause.now) page.old) }
+    ensures { OnOk result (page.new ≡ step.put_clause (word_of names.now) (views.view_clause clause.now) page.old) }
 {
     page.mark(" ")?;
     write_walk(names, page, &clause.walk)?;
@@ -283,7 +285,7 @@ fn write_clause(names: &Names, page: &mut Page, clause: &Clause) -> Result<(), M
 #[cycle(expr)]
 fn write_conditions(names: &Names, page: &mut Page, tests: &[Expr]) -> Result<(), Memory>
     ensures { OnOk result (page.new
-        ≡ step.put_conditions (word_of names.now) (v.exprs_of (map v.view_expr tests.now)) page.old) }
+        ≡ step.put_conditions (word_of names.now) (views.exprs_of (map views.view_expr tests.now)) page.old) }
 {
     'tests: for test in tests {
         page.mark(" if ")?;
@@ -295,7 +297,7 @@ fn write_conditions(names: &Names, page: &mut Page, tests: &[Expr]) -> Result<()
 /// What stands before the iterable.
 #[cycle(expr)]
 pub(crate) fn write_walk(names: &Names, page: &mut Page, walk: &Walk) -> Result<(), Memory>
-    ensures { OnOk result (page.new ≡ step.put_walk (word_of names.now) (v.view_walk walk.now) page.old) }
+    ensures { OnOk result (page.new ≡ step.put_walk (word_of names.now) (views.view_walk walk.now) page.old) }
 {
     page.mark("for ")?;
     write_target(names, page, &walk.target)?;
@@ -304,7 +306,8 @@ pub(crate) fn write_walk(names: &Names, page: &mut Page, walk: &Walk) -> Result<
 
 #[cycle(expr)]
 fn write_clause_iterable(names: &Names, page: &mut Page, walk: &Walk) -> Result<(), Memory>
-    ensures { OnOk result (page.new ≡ step.put_clause_iterable (word_of names.now) (v.view_walk walk.now) page.old) }
+    ensures { OnOk result (page.new
+        ≡ step.put_clause_iterable (word_of names.now) (views.view_walk walk.now) page.old) }
 {
     match walk.guard {
         None => write_operand(names, page, &walk.of),
@@ -323,7 +326,7 @@ pub(crate) fn write_statement_iterable(
     walk: &Walk,
 ) -> Result<(), Memory>
     ensures { OnOk result (page.new
-        ≡ step.put_statement_iterable (word_of names.now) (v.view_walk walk.now) page.old) }
+        ≡ step.put_statement_iterable (word_of names.now) (views.view_walk walk.now) page.old) }
 {
     match walk.guard {
         None => write_expr(names, page, &walk.of),
@@ -337,7 +340,7 @@ pub(crate) fn write_statement_iterable(
 
 #[tactic(auto, using(rp_tree::proofs::ExpressionEquations::variants))]
 fn open_iterable(page: &mut Page, target: &Target) -> Result<(), Memory>
-    ensures { OnOk result (page.new ≡ step.open_iterable (v.view_target target.now) page.old) }
+    ensures { OnOk result (page.new ≡ step.open_iterable (views.view_target target.now) page.old) }
 {
     match target {
         Target::Place(_place) => open_call(page, "_getiter_"),
@@ -347,7 +350,7 @@ fn open_iterable(page: &mut Page, target: &Target) -> Result<(), Memory>
 
 #[tactic(auto, using(rp_tree::proofs::ExpressionEquations::variants))]
 fn close_iterable(page: &mut Page, target: &Target) -> Result<(), Memory>
-    ensures { OnOk result (page.new ≡ step.close_iterable (v.view_target target.now) page.old) }
+    ensures { OnOk result (page.new ≡ step.close_iterable (views.view_target target.now) page.old) }
 {
     match target {
         Target::Place(_) => page.mark(")"),
@@ -358,7 +361,7 @@ fn close_iterable(page: &mut Page, target: &Target) -> Result<(), Memory>
 #[cycle(expr)]
 #[tactic(auto, using(rp_tree::proofs::ExpressionEquations::variants))]
 pub(crate) fn write_target(names: &Names, page: &mut Page, target: &Target) -> Result<(), Memory>
-    ensures { OnOk result (page.new ≡ step.put_target (word_of names.now) (v.view_target target.now) page.old) }
+    ensures { OnOk result (page.new ≡ step.put_target (word_of names.now) (views.view_target target.now) page.old) }
 {
     match target {
         Target::Place(place) => write_place(names, page, place),
@@ -373,7 +376,7 @@ pub(crate) fn write_target(names: &Names, page: &mut Page, target: &Target) -> R
 #[cycle(expr)]
 fn write_targets(names: &Names, page: &mut Page, targets: &[Target]) -> Result<(), Memory>
     ensures { OnOk result (page.new
-        ≡ step.put_targets (word_of names.now) true (v.targets_of (map v.view_target targets.now)) page.old) }
+        ≡ step.put_targets (word_of names.now) true (views.targets_of (map views.view_target targets.now)) page.old) }
 {
     let mut first = true;
     'targets: for target in targets {
@@ -387,7 +390,7 @@ fn write_targets(names: &Names, page: &mut Page, targets: &[Target]) -> Result<(
 #[cycle(expr)]
 #[tactic(auto, using(rp_tree::proofs::ExpressionEquations::variants))]
 pub(crate) fn write_place(names: &Names, page: &mut Page, place: &Place) -> Result<(), Memory>
-    ensures { OnOk result (page.new ≡ step.put_place (word_of names.now) (v.view_place place.now) page.old) }
+    ensures { OnOk result (page.new ≡ step.put_place (word_of names.now) (views.view_place place.now) page.old) }
 {
     match place {
         Place::Name(named) => page.name(names, named.name),
@@ -423,7 +426,7 @@ pub(crate) fn write_place(names: &Names, page: &mut Page, place: &Place) -> Resu
 /// Parameters, with commas between them.
 #[cycle(expr)]
 pub(crate) fn write_params(names: &Names, page: &mut Page, params: &Params) -> Result<(), Memory>
-    ensures { OnOk result (page.new ≡ step.put_params (word_of names.now) (v.view_params params.now) page.old) }
+    ensures { OnOk result (page.new ≡ step.put_params (word_of names.now) (views.view_params params.now) page.old) }
 {
     write_plain(names, page, &params.plain)?;
     write_starred(names, page, holds_no_plain(params), "*", params.list)?;
@@ -437,7 +440,7 @@ fn write_plain(
     plain: &[(Named, Option<Expr>)],
 ) -> Result<(), Memory>
     ensures { OnOk result (page.new
-        ≡ step.put_plain (word_of names.now) true (v.plain_of (map v.view_plain plain.now)) page.old) }
+        ≡ step.put_plain (word_of names.now) true (views.plain_of (map views.view_plain plain.now)) page.old) }
 {
     let mut first = true;
     'plain: for param in plain {
@@ -476,7 +479,7 @@ fn write_starred(
 #[cycle(expr)]
 fn write_closings(names: &Names, page: &mut Page, trailers: &[Trailer]) -> Result<(), Memory>
     ensures { OnOk result (page.new
-        ≡ step.put_closings (word_of names.now) (v.trailers_of (map v.view_trailer trailers.now)) page.old) }
+        ≡ step.put_closings (word_of names.now) (views.trailers_of (map views.view_trailer trailers.now)) page.old) }
 {
     'trailers: for trailer in trailers {
         write_closing(names, page, trailer)?;
@@ -487,7 +490,7 @@ fn write_closings(names: &Names, page: &mut Page, trailers: &[Trailer]) -> Resul
 #[cycle(expr)]
 #[tactic(auto, using(rp_tree::proofs::ExpressionEquations::variants))]
 fn write_closing(names: &Names, page: &mut Page, trailer: &Trailer) -> Result<(), Memory>
-    ensures { OnOk result (page.new ≡ step.put_closing (word_of names.now) (v.view_trailer trailer.now) page.old) }
+    ensures { OnOk result (page.new ≡ step.put_closing (word_of names.now) (views.view_trailer trailer.now) page.old) }
 {
     match trailer {
         Trailer::Attr(named, None) => {
@@ -527,7 +530,7 @@ fn write_closing(names: &Names, page: &mut Page, trailer: &Trailer) -> Result<()
 
 #[cycle(expr)]
 fn write_slice(names: &Names, page: &mut Page, slice: &Slice) -> Result<(), Memory>
-    ensures { let s = v.view_slice slice.now in
+    ensures { let s = views.view_slice slice.now in
         OnOk result (page.new ≡ step.put_slice (word_of names.now) s.0 s.1 s.2 page.old) }
 {
     page.mark("[")?;
@@ -540,7 +543,7 @@ fn write_slice(names: &Names, page: &mut Page, slice: &Slice) -> Result<(), Memo
 
 #[cycle(expr)]
 fn write_guarded_slice(names: &Names, page: &mut Page, slice: &Slice) -> Result<(), Memory>
-    ensures { let s = v.view_slice slice.now in
+    ensures { let s = views.view_slice slice.now in
         OnOk result (page.new ≡ step.put_guarded_slice (word_of names.now) s.0 s.1 s.2 page.old) }
 {
     page.mark(", ")?;
@@ -557,7 +560,7 @@ fn write_guarded_slice(names: &Names, page: &mut Page, slice: &Slice) -> Result<
 #[cycle(expr)]
 fn write_bound(names: &Names, page: &mut Page, bound: &Option<Expr>) -> Result<(), Memory>
     ensures { OnOk result (page.new
-        ≡ step.put_bound (word_of names.now) (v.maybe_of (option_map v.view_expr bound.now)) page.old) }
+        ≡ step.put_bound (word_of names.now) (views.maybe_of (option_map views.view_expr bound.now)) page.old) }
 {
     match bound {
         None => Ok(()),
@@ -568,7 +571,7 @@ fn write_bound(names: &Names, page: &mut Page, bound: &Option<Expr>) -> Result<(
 #[cycle(expr)]
 fn write_stride(names: &Names, page: &mut Page, stride: &Option<Expr>) -> Result<(), Memory>
     ensures { OnOk result (page.new
-        ≡ step.put_stride (word_of names.now) (v.maybe_of (option_map v.view_expr stride.now)) page.old) }
+        ≡ step.put_stride (word_of names.now) (views.maybe_of (option_map views.view_expr stride.now)) page.old) }
 {
     match stride {
         None => Ok(()),
@@ -583,7 +586,7 @@ fn write_stride(names: &Names, page: &mut Page, stride: &Option<Expr>) -> Result
 #[cycle(expr)]
 fn write_part(names: &Names, page: &mut Page, part: &Option<Expr>) -> Result<(), Memory>
     ensures { OnOk result (page.new
-        ≡ step.put_part (word_of names.now) (v.maybe_of (option_map v.view_expr part.now)) page.old) }
+        ≡ step.put_part (word_of names.now) (views.maybe_of (option_map views.view_expr part.now)) page.old) }
 {
     match part {
         None => page.mark("None"),
@@ -595,7 +598,7 @@ fn write_part(names: &Names, page: &mut Page, part: &Option<Expr>) -> Result<(),
 #[cycle(expr)]
 fn write_args(names: &Names, page: &mut Page, alone: bool, args: &[Arg]) -> Result<(), Memory>
     ensures { OnOk result (page.new
-        ≡ step.put_args (word_of names.now) alone (v.args_of (map v.view_arg args.now)) page.old) }
+        ≡ step.put_args (word_of names.now) alone (views.args_of (map views.view_arg args.now)) page.old) }
 {
     let mut first = alone;
     'arguments: for arg in args {
@@ -609,7 +612,7 @@ fn write_args(names: &Names, page: &mut Page, alone: bool, args: &[Arg]) -> Resu
 #[cycle(expr)]
 #[tactic(auto, using(rp_tree::proofs::ExpressionEquations::variants))]
 fn write_arg(names: &Names, page: &mut Page, arg: &Arg) -> Result<(), Memory>
-    ensures { OnOk result (page.new ≡ step.put_arg (word_of names.now) (v.view_arg arg.now) page.old) }
+    ensures { OnOk result (page.new ≡ step.put_arg (word_of names.now) (views.view_arg arg.now) page.old) }
 {
     match arg {
         Arg::Plain(expr) => write_expr(names, page, expr),

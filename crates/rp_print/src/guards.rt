@@ -3,8 +3,8 @@
 ghost use Rattle.std.specs.Prelude.{◌≡◌, decimal, map, IsTrue, OnOk};
 ghost use Rattle.std.specs.Char.{is_ascii};
 ghost use Rattle.std.specs.List.{list_all};
-ghost use Rattle.rp_tree.specs.ExpressionViews as v;
-ghost use Rattle.rp_print.specs.Expressions as p;
+ghost use Rattle.rp_tree.specs.ExpressionViews as views;
+ghost use Rattle.rp_print.specs.Expressions as printing;
 ghost use Rattle.rp_print.specs.PageSteps.{written};
 ghost use Rattle.rp_print.specs.WritingSteps as step;
 
@@ -15,7 +15,8 @@ use rp_tree::{Target, Trailer};
 
 /// The guards of trailers and their opening parentheses, of what trails last first.
 pub(crate) fn write_openings(page: &mut Page, trailers: &[Trailer]) -> Result<(), Memory>
-    ensures { OnOk result (page.new ≡ step.put_openings (v.trailers_of (map v.view_trailer trailers.now)) page.old) }
+    ensures { OnOk result (page.new
+        ≡ step.put_openings (views.trailers_of (map views.view_trailer trailers.now)) page.old) }
 {
     let mut left = trailers.len();
     'trailers: while left > 0 {
@@ -27,7 +28,7 @@ pub(crate) fn write_openings(page: &mut Page, trailers: &[Trailer]) -> Result<()
 
 #[tactic(auto, using(rp_tree::proofs::ExpressionEquations::variants))]
 fn write_opening(page: &mut Page, trailer: &Trailer) -> Result<(), Memory>
-    ensures { OnOk result (page.new ≡ step.put_opening (v.view_trailer trailer.now) page.old) }
+    ensures { OnOk result (page.new ≡ step.put_opening (views.view_trailer trailer.now) page.old) }
 {
     match trailer {
         Trailer::Attr(_, None) => Ok(()),
@@ -52,7 +53,8 @@ pub(crate) fn open_call(page: &mut Page, function: &str) -> Result<(), Memory>
 
 /// What stands behind a value that is handed to a guard with the list of targets over which it is dealt out.
 pub(crate) fn write_dealing(page: &mut Page, targets: &[Target]) -> Result<(), Memory>
-    ensures { OnOk result (page.new ≡ step.put_dealing (v.targets_of (map v.view_target targets.now)) page.old) }
+    ensures { OnOk result (page.new
+        ≡ step.put_dealing (views.targets_of (map views.view_target targets.now)) page.old) }
 {
     page.mark(", ")?;
     write_spec(page, targets)?;
@@ -64,7 +66,7 @@ pub(crate) fn write_dealing(page: &mut Page, targets: &[Target]) -> Result<(), M
 /// How a value is dealt out over a list of targets.
 #[cycle(spec)]
 fn write_spec(page: &mut Page, targets: &[Target]) -> Result<(), Memory>
-    ensures { OnOk result (page.new ≡ step.put_spec (v.targets_of (map v.view_target targets.now)) page.old) }
+    ensures { OnOk result (page.new ≡ step.put_spec (views.targets_of (map views.view_target targets.now)) page.old) }
 {
     page.mark("(")?;
     write_count(page, targets)?;
@@ -78,7 +80,7 @@ fn write_spec(page: &mut Page, targets: &[Target]) -> Result<(), Memory>
 #[cycle(spec)]
 #[tactic(auto, using(rp_tree::proofs::ExpressionEquations::variants))]
 fn write_inner_spec(page: &mut Page, index: usize, target: &Target) -> Result<(), Memory>
-    ensures { OnOk result (page.new ≡ step.put_inner_spec index (v.view_target target.now) page.old) }
+    ensures { OnOk result (page.new ≡ step.put_inner_spec index (views.view_target target.now) page.old) }
 {
     match target {
         Target::Place(_) => Ok(()),
@@ -97,7 +99,7 @@ fn write_inner_spec(page: &mut Page, index: usize, target: &Target) -> Result<()
 #[tactic(auto, using(crate::proofs::Counts::targets_counted))]
 fn write_count(page: &mut Page, targets: &[Target]) -> Result<(), Memory>
     ensures { OnOk result (page.new
-        ≡ written page.old (decimal (p.targets_count (v.targets_of (map v.view_target targets.now))))) }
+        ≡ written page.old (decimal (printing.targets_count (views.targets_of (map views.view_target targets.now))))) }
 {
     page.count(targets.len())
 }

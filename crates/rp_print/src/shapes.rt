@@ -3,8 +3,8 @@
 ghost use Rattle.std.specs.Prelude.{◌≡◌, ◌||◌, map, IsTrue};
 ghost use Rattle.std.specs.Char.{is_ascii};
 ghost use Rattle.std.specs.List.{list_all};
-ghost use Rattle.rp_tree.specs.ExpressionViews as v;
-ghost use Rattle.rp_print.specs.Expressions as p;
+ghost use Rattle.rp_tree.specs.ExpressionViews as views;
+ghost use Rattle.rp_print.specs.Expressions as printing;
 ghost use Rattle.rp_print.specs.PageSteps.{spec_end};
 ghost use Rattle.rp_print.specs.Texts.{tuple_end};
 ghost use Rattle.rp_print.specs.WritingSteps as step;
@@ -14,7 +14,7 @@ use rp_tree::{Expr, ExprForm, Params, Target, Trailer};
 /// Whether a form needs no parentheses as an operand.
 #[tactic(auto, using(rp_tree::proofs::ExpressionEquations::variants))]
 pub(crate) fn stands_alone(form: &ExprForm) -> bool
-    ensures { result ≡ p.stands_alone (v.view_form form.now) }
+    ensures { result ≡ printing.stands_alone (views.view_form form.now) }
 {
     match form {
         ExprForm::Name(_) | ExprForm::Int(_) | ExprForm::Text(_) | ExprForm::Const(_) => true,
@@ -31,7 +31,7 @@ pub(crate) fn stands_alone(form: &ExprForm) -> bool
 /// Whether a form needs none before a dot or a bracket.
 #[tactic(auto, using(rp_tree::proofs::ExpressionEquations::variants))]
 fn stands_before_trailer(form: &ExprForm) -> bool
-    ensures { result ≡ p.stands_before_trailer (v.view_form form.now) }
+    ensures { result ≡ printing.stands_before_trailer (views.view_form form.now) }
 {
     match form {
         ExprForm::Name(_) | ExprForm::Text(_) | ExprForm::Const(_) => true,
@@ -47,14 +47,14 @@ fn stands_before_trailer(form: &ExprForm) -> bool
 
 /// Whether a form needs none as what a trailer belongs to.
 pub(crate) fn stands_as_base(guarded: bool, form: &ExprForm) -> bool
-    ensures { result ≡ (guarded || p.stands_before_trailer (v.view_form form.now)) }
+    ensures { result ≡ (guarded || printing.stands_before_trailer (views.view_form form.now)) }
 {
     guarded || stands_before_trailer(form)
 }
 
 /// Whether what trails an atom first is a call of a guard.
 pub(crate) fn begins_guarded(trailers: &[Trailer]) -> bool
-    ensures { result ≡ p.begins_guarded (v.trailers_of (map v.view_trailer trailers.now)) }
+    ensures { result ≡ printing.begins_guarded (views.trailers_of (map views.view_trailer trailers.now)) }
 {
     match trailers {
         [first, ..] => is_guarded(first),
@@ -64,7 +64,7 @@ pub(crate) fn begins_guarded(trailers: &[Trailer]) -> bool
 
 #[tactic(auto, using(rp_tree::proofs::ExpressionEquations::variants))]
 fn is_guarded(trailer: &Trailer) -> bool
-    ensures { result ≡ p.is_guarded (v.view_trailer trailer.now) }
+    ensures { result ≡ printing.is_guarded (views.view_trailer trailer.now) }
 {
     match trailer {
         Trailer::Attr(_, None) => false,
@@ -80,7 +80,7 @@ fn is_guarded(trailer: &Trailer) -> bool
 
 /// Whether a list stands among the targets.
 pub(crate) fn holds_group(targets: &[Target]) -> bool
-    ensures { result ≡ step.holds_group (v.targets_of (map v.view_target targets.now)) }
+    ensures { result ≡ step.holds_group (views.targets_of (map views.view_target targets.now)) }
 {
     'targets: for target in targets {
         if is_group(target) {
@@ -92,7 +92,7 @@ pub(crate) fn holds_group(targets: &[Target]) -> bool
 
 #[tactic(auto, using(rp_tree::proofs::ExpressionEquations::variants))]
 fn is_group(target: &Target) -> bool
-    ensures { result ≡ step.is_group (v.view_target target.now) }
+    ensures { result ≡ step.is_group (views.view_target target.now) }
 {
     match target {
         Target::Place(_) => false,
@@ -103,7 +103,7 @@ fn is_group(target: &Target) -> bool
 /// Whether there is no parameter.
 #[tactic(auto, using(rp_tree::proofs::ExpressionEquations::params_out, crate::proofs::Counts::no_plain))]
 pub(crate) fn holds_none(params: &Params) -> bool
-    ensures { result ≡ step.has_no_params (v.view_params params.now) }
+    ensures { result ≡ step.has_no_params (views.view_params params.now) }
 {
     params.plain.is_empty() && params.list.is_none() && params.dict.is_none()
 }
@@ -111,7 +111,7 @@ pub(crate) fn holds_none(params: &Params) -> bool
 /// Whether there is no parameter without a star.
 #[tactic(auto, using(rp_tree::proofs::ExpressionEquations::params_out, crate::proofs::Counts::no_plain))]
 pub(crate) fn holds_no_plain(params: &Params) -> bool
-    ensures { result ≡ step.no_plain_of (v.view_params params.now) }
+    ensures { result ≡ step.no_plain_of (views.view_params params.now) }
 {
     params.plain.is_empty()
 }
@@ -119,7 +119,7 @@ pub(crate) fn holds_no_plain(params: &Params) -> bool
 /// Whether there is neither such a parameter nor one with one star.
 #[tactic(auto, using(rp_tree::proofs::ExpressionEquations::params_out, crate::proofs::Counts::no_plain))]
 pub(crate) fn holds_no_list(params: &Params) -> bool
-    ensures { result ≡ step.has_no_list (v.view_params params.now) }
+    ensures { result ≡ step.has_no_list (views.view_params params.now) }
 {
     params.plain.is_empty() && params.list.is_none()
 }
@@ -127,7 +127,7 @@ pub(crate) fn holds_no_list(params: &Params) -> bool
 /// The end of a tuple of these expressions.
 #[tactic(auto, using(crate::proofs::Counts::exprs_counted))]
 pub(crate) fn exprs_end(exprs: &[Expr]) -> &'static str
-    ensures text { result.now ≡ tuple_end (step.exprs_count (v.exprs_of (map v.view_expr exprs.now))) }
+    ensures text { result.now ≡ tuple_end (step.exprs_count (views.exprs_of (map views.view_expr exprs.now))) }
     ensures ascii { IsTrue (list_all is_ascii result.now) }
 {
     tuple_end(exprs.len())
@@ -136,7 +136,8 @@ pub(crate) fn exprs_end(exprs: &[Expr]) -> &'static str
 /// The end of a list of these targets.
 #[tactic(auto, using(crate::proofs::Counts::targets_counted))]
 pub(crate) fn targets_end(targets: &[Target]) -> &'static str
-    ensures text { result.now ≡ tuple_end (p.targets_count (v.targets_of (map v.view_target targets.now))) }
+    ensures text { result.now
+        ≡ tuple_end (printing.targets_count (views.targets_of (map views.view_target targets.now))) }
     ensures ascii { IsTrue (list_all is_ascii result.now) }
 {
     tuple_end(targets.len())

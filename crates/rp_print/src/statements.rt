@@ -6,9 +6,9 @@ ghost use Rattle.std.specs.List.{list_all};
 ghost use Rattle.rp_base.specs.Names.{word_of};
 ghost use Rattle.rp_tree.specs.ExpressionViews.{view_expr, view_params, view_place, view_target, view_walk};
 ghost use Rattle.rp_tree.specs.Maps.{named};
-ghost use Rattle.rp_tree.specs.StatementViews as v;
+ghost use Rattle.rp_tree.specs.StatementViews as stmt_views;
 ghost use Rattle.rp_print.specs.LineSteps as step;
-ghost use Rattle.rp_print.specs.Statements as p;
+ghost use Rattle.rp_print.specs.Statements as stmt_printing;
 
 use crate::expressions::{
     write_expr, write_params, write_place, write_statement_iterable, write_target, write_walk,
@@ -30,9 +30,9 @@ use std::alloc::Global;
 /// `Memory` where a growth was refused.
 pub fn source_text(alloc: Global, tree: &Tree, names: &Names) -> Result<String, Memory>
     ensures printed { IfOk result (λ text. chars (string_bytes text)
-        ≡ p.printed_by (word_of names.now) (v.view_tree tree.now)) }
+        ≡ stmt_printing.printed_by (word_of names.now) (stmt_views.view_tree tree.now)) }
     ensures named { IfOk result (λ text. chars (string_bytes text)
-        ≡ p.printed (named (word_of names.now) (v.view_tree tree.now))) }
+        ≡ stmt_printing.printed (named (word_of names.now) (stmt_views.view_tree tree.now))) }
 {
     let mut page = Page::new(alloc);
     write_stmts(names, &mut page, 0, &tree.body)?;
@@ -208,7 +208,8 @@ fn write_mark(page: &mut Page, op: BinOp) -> Result<(), Memory>
 /// A simple statement, without its line.
 #[tactic(auto, using(rp_tree::proofs::StatementEquations::variants))]
 fn write_simple(names: &Names, page: &mut Page, form: &StmtForm) -> Result<(), Memory>
-    ensures { OnOk result (page.new ≡ step.put_simple (word_of names.now) (v.view_stmt_form form.now) page.old) }
+    ensures { OnOk result (page.new
+        ≡ step.put_simple (word_of names.now) (stmt_views.view_stmt_form form.now) page.old) }
 {
     match form {
         StmtForm::Expr(expr) => write_expr(names, page, expr),
@@ -259,7 +260,8 @@ fn write_simple(names: &Names, page: &mut Page, form: &StmtForm) -> Result<(), M
 
 #[cycle(stmt)]
 fn write_stmt(names: &Names, page: &mut Page, depth: usize, stmt: &Stmt) -> Result<(), Memory>
-    ensures { OnOk result (page.new ≡ step.put_stmt (word_of names.now) depth (v.view_stmt stmt.now) page.old) }
+    ensures { OnOk result (page.new
+        ≡ step.put_stmt (word_of names.now) depth (stmt_views.view_stmt stmt.now) page.old) }
 {
     write_stmt_form(names, page, depth, &stmt.form)
 }
@@ -273,7 +275,7 @@ fn write_stmt_form(
     form: &StmtForm,
 ) -> Result<(), Memory>
     ensures { OnOk result (page.new
-        ≡ step.put_stmt_form (word_of names.now) depth (v.view_stmt_form form.now) page.old) }
+        ≡ step.put_stmt_form (word_of names.now) depth (stmt_views.view_stmt_form form.now) page.old) }
 {
     match form {
         StmtForm::If(branches, other) => {
@@ -328,7 +330,7 @@ fn write_stmt_form(
 #[cycle(stmt)]
 fn write_block(names: &Names, page: &mut Page, depth: usize, stmts: &[Stmt]) -> Result<(), Memory>
     ensures { OnOk result (page.new
-        ≡ step.put_stmts (word_of names.now) (suc depth) (v.view_stmts stmts.now) page.old) }
+        ≡ step.put_stmts (word_of names.now) (suc depth) (stmt_views.view_stmts stmts.now) page.old) }
 {
     let inner = deeper(depth)?;
     write_stmts(names, page, inner, stmts)
@@ -346,7 +348,8 @@ fn deeper(depth: usize) -> Result<usize, Memory>
 
 /// The line of a simple statement.
 fn write_line(names: &Names, page: &mut Page, depth: usize, form: &StmtForm) -> Result<(), Memory>
-    ensures { OnOk result (page.new ≡ step.put_line (word_of names.now) depth (v.view_stmt_form form.now) page.old) }
+    ensures { OnOk result (page.new
+        ≡ step.put_line (word_of names.now) depth (stmt_views.view_stmt_form form.now) page.old) }
 {
     page.indent(depth)?;
     write_simple(names, page, form)?;
@@ -452,7 +455,8 @@ fn end_head(page: &mut Page) -> Result<(), Memory>
 
 #[cycle(stmt)]
 fn write_stmts(names: &Names, page: &mut Page, depth: usize, stmts: &[Stmt]) -> Result<(), Memory>
-    ensures { OnOk result (page.new ≡ step.put_stmts (word_of names.now) depth (v.view_stmts stmts.now) page.old) }
+    ensures { OnOk result (page.new
+        ≡ step.put_stmts (word_of names.now) depth (stmt_views.view_stmts stmts.now) page.old) }
 {
     'stmts: for stmt in stmts {
         write_stmt(names, page, depth, stmt)?;
@@ -468,7 +472,8 @@ fn write_branches(
     branches: &[Branch],
 ) -> Result<(), Memory>
     ensures { OnOk result (page.new
-        ≡ step.put_branches (word_of names.now) depth true (v.branches_of (map v.view_branch branches.now)) page.old) }
+        ≡ step.put_branches (word_of names.now) depth true
+        (stmt_views.branches_of (map stmt_views.view_branch branches.now)) page.old) }
 {
     let mut first = true;
     'branches: for branch in branches {
@@ -486,7 +491,7 @@ fn write_branch(
     first: bool,
     branch: &Branch,
 ) -> Result<(), Memory>
-    ensures { let b = v.view_branch branch.now in
+    ensures { let b = stmt_views.view_branch branch.now in
         OnOk result (page.new ≡ step.put_branch (word_of names.now) depth first b.0 b.1 page.old) }
 {
     let inner = deeper(depth)?;
@@ -495,7 +500,7 @@ fn write_branch(
 }
 
 fn branch_keyword(first: bool) -> &'static str
-    ensures text { result.now ≡ p.branch_keyword first }
+    ensures text { result.now ≡ stmt_printing.branch_keyword first }
     ensures ascii { IsTrue (list_all is_ascii result.now) }
 {
     match first {
@@ -512,7 +517,8 @@ fn write_handlers(
     handlers: &[Except],
 ) -> Result<(), Memory>
     ensures { OnOk result (page.new
-        ≡ step.put_excepts (word_of names.now) depth (v.excepts_of (map v.view_except handlers.now)) page.old) }
+        ≡ step.put_excepts (word_of names.now) depth
+        (stmt_views.excepts_of (map stmt_views.view_except handlers.now)) page.old) }
 {
     'handlers: for handler in handlers {
         write_handler(names, page, depth, handler)?;
@@ -528,7 +534,7 @@ fn write_handler(
     handler: &Except,
 ) -> Result<(), Memory>
     ensures { OnOk result (page.new
-        ≡ step.put_except (word_of names.now) depth (v.view_except handler.now) page.old) }
+        ≡ step.put_except (word_of names.now) depth (stmt_views.view_except handler.now) page.old) }
 {
     let inner = deeper(depth)?;
     page.indent(depth)?;

@@ -8,7 +8,7 @@ use Rattle.rp_base.specs.Names.{word_of}
 use Rattle.rp_base.specs.declared.value.Line.{Line}
 use Rattle.rp_base.specs.declared.value.Name.{Name}
 use Rattle.rp_grammar.specs.Kinds.{Tokens, first as first_kind, loosest, skip}
-use Rattle.rp_grammar.specs.Expressions as g
+use Rattle.rp_grammar.specs.Expressions as grammar
 use Rattle.rp_print.specs.Texts.{◌⧺◌, bracketed, further, tuple_end}
 use Rattle.rp_print.specs.Expressions.{base_text, expr_text, exprs_texts, form_text, operand_text, stands_alone}
 use Rattle.rp_print.specs.Expressions.{stands_before_trailer}
@@ -16,7 +16,7 @@ use Rattle.rp_token.specs.declared.token.TokenKind.TheVariants as kind
 use Rattle.rp_token.specs.Characters.{first}
 use Rattle.rp_token.specs.Tokens.{most_brackets}
 use Rattle.rp_token.proofs.Rules.{word_form-name}
-use Rattle.rp_tree.specs.Expressions as t
+use Rattle.rp_tree.specs.Expressions as tree
 use Rattle.rp_tree.specs.Expressions.{Expr, Exprs, Form}
 use Rattle.rp_tree.specs.Heights.{expr_height, exprs_height, form_height}
 use Rattle.rp_tree.specs.Maps.{map_expr, map_exprs, shape}
@@ -56,21 +56,21 @@ begins (c ∷ cs) e =
 
 -- ---- one level is another
 
-pub unary_chain : (k : ℕ) {e : Expr} {ts us : Tokens} → g.Unary e ts us → g.Chain k e ts us
-unary_chain zero p = g.operand p
-unary_chain (suc k) p = g.tighter (unary_chain k p)
+pub unary_chain : (k : ℕ) {e : Expr} {ts us : Tokens} → grammar.Unary e ts us → grammar.Chain k e ts us
+unary_chain zero p = grammar.operand p
+unary_chain (suc k) p = grammar.tighter (unary_chain k p)
 
-pub chain_or : {e : Expr} {ts us : Tokens} → g.Chain loosest e ts us → g.Or e ts us
-chain_or p = g.or_single (g.and_single (g.asserted (g.single p)))
+pub chain_or : {e : Expr} {ts us : Tokens} → grammar.Chain loosest e ts us → grammar.Or e ts us
+chain_or p = grammar.or_single (grammar.and_single (grammar.asserted (grammar.single p)))
 
-pub primary_unary : {e : Expr} {ts us : Tokens} → g.Primary e ts us → g.Unary e ts us
-primary_unary p = g.unsigned (g.base p)
+pub primary_unary : {e : Expr} {ts us : Tokens} → grammar.Primary e ts us → grammar.Unary e ts us
+primary_unary p = grammar.unsigned (grammar.base p)
 
-pub primary_or : {e : Expr} {ts us : Tokens} → g.Primary e ts us → g.Or e ts us
+pub primary_or : {e : Expr} {ts us : Tokens} → grammar.Primary e ts us → grammar.Or e ts us
 primary_or p = chain_or (unary_chain loosest (primary_unary p))
 
-pub primary_expr : {e : Expr} {ts us : Tokens} → g.Primary e ts us → g.IsExpr e ts us
-primary_expr p = g.unconditional (primary_or p)
+pub primary_expr : {e : Expr} {ts us : Tokens} → grammar.Primary e ts us → grammar.IsExpr e ts us
+primary_expr p = grammar.unconditional (primary_or p)
 
 abbrev pub SameExpr : (Expr → Tokens → Tokens → Type 0) → Expr → Tokens → Tokens → Type 0
 SameExpr R e = Same (map_expr shape) R e
@@ -80,20 +80,20 @@ pub lifted : {R Q : Expr → Tokens → Tokens → Type 0} {e : Expr} {ts us : T
     → SameExpr R e ts us → SameExpr Q e ts us
 lifted f (same {y = y} {ts = ts} {us = us} p s) = same (f y ts us p) s
 
-paren_of : {e : Expr} {ts us : Tokens} → Seq (Seq (Tok kind.LeftParen) (SameExpr g.IsExpr e))
-    (Tok kind.RightParen) ts us → SameExpr g.Atom e ts us
-paren_of (both (both (token h) (same p s)) (token i)) = same (g.paren h p i) s
+paren_of : {e : Expr} {ts us : Tokens} → Seq (Seq (Tok kind.LeftParen) (SameExpr grammar.IsExpr e))
+    (Tok kind.RightParen) ts us → SameExpr grammar.Atom e ts us
+paren_of (both (both (token h) (same p s)) (token i)) = same (grammar.paren h p i) s
 
 -- expressions separated by commas, behind one
 pub data Commas : Exprs → Tokens → Tokens → Type 0 where
-  no_more : {ts : Tokens} → Commas t.no_exprs ts ts
-  one_more : {e : Expr} {es : Exprs} {ts us vs : Tokens} → first_kind ts ≡ kind.Comma → g.IsExpr e (skip ts) us
-      → Commas es us vs → Commas (t.expr e es) ts vs
+  no_more : {ts : Tokens} → Commas tree.no_exprs ts ts
+  one_more : {e : Expr} {es : Exprs} {ts us vs : Tokens} → first_kind ts ≡ kind.Comma → grammar.IsExpr e (skip ts) us
+      → Commas es us vs → Commas (tree.expr e es) ts vs
 
-pub listed_of : {e : Expr} {es : Exprs} {ts us vs : Tokens} → g.IsExpr e ts us → Commas es us vs
-    → g.Listed (t.expr e es) ts vs
-listed_of p no_more = g.last p
-listed_of p (one_more h q r) = g.more p h (listed_of q r)
+pub listed_of : {e : Expr} {es : Exprs} {ts us vs : Tokens} → grammar.IsExpr e ts us → Commas es us vs
+    → grammar.Listed (tree.expr e es) ts vs
+listed_of p no_more = grammar.last p
+listed_of p (one_more h q r) = grammar.more p h (listed_of q r)
 
 module _ (words : List (List ℕ)) (size : ℕ) (columns : List ℕ) (line : ℕ) where
   abbrev pub word : Name → List ℕ
@@ -120,17 +120,17 @@ module _ (words : List (List ℕ)) (size : ℕ) (columns : List ℕ) (line : ℕ
   gap begins = blank_read words size begins (λ behind g. g)
 
   pub record IsRead (e : Expr) : Type 0 where
-    pub whole : (n : ℕ) → n + expr_height e ≤ most_brackets → ReadsAt Opens EndsNumber (SameExpr g.IsExpr e) n
+    pub whole : (n : ℕ) → n + expr_height e ≤ most_brackets → ReadsAt Opens EndsNumber (SameExpr grammar.IsExpr e) n
         (expr_text word e)
     pub operand : (n : ℕ) → n + expr_height e ≤ most_brackets
-        → ReadsAt Opens EndsNumber (SameExpr g.Primary e) n (operand_text word e)
+        → ReadsAt Opens EndsNumber (SameExpr grammar.Primary e) n (operand_text word e)
     pub base : (n : ℕ) → n + suc (expr_height e) ≤ most_brackets
-        → ReadsAt Opens EndsWord (SameExpr g.Atom e) n (base_text word false e)
+        → ReadsAt Opens EndsWord (SameExpr grammar.Atom e) n (base_text word false e)
 
   -- in parentheses
   in_parens : (e : Expr) (n h : ℕ) (text : List ℕ) → n + suc h ≤ most_brackets
-      → ((m : ℕ) → m + h ≤ most_brackets → ReadsAt Opens EndsNumber (SameExpr g.IsExpr e) m text)
-      → {G : List ℕ → Type 0} → ReadsAt Opens G (SameExpr g.Atom e) n (bracketed false text)
+      → ((m : ℕ) → m + h ≤ most_brackets → ReadsAt Opens EndsNumber (SameExpr grammar.IsExpr e) m text)
+      → {G : List ℕ → Type 0} → ReadsAt Opens G (SameExpr grammar.Atom e) n (bracketed false text)
   unfolding bracketed
   in_parens e n h text room inner =
       mapped words size (λ ts us. paren_of)
@@ -143,29 +143,29 @@ module _ (words : List (List ℕ)) (size : ℕ) (columns : List ℕ) (line : ℕ
 
   -- a form that stands in parentheses as an operand
   pub loose : (l : Line) (f : Form) → stands_alone f ≡ false → stands_before_trailer f ≡ false
-      → ((n : ℕ) → n + form_height f ≤ most_brackets → ReadsAt Opens EndsNumber (SameExpr g.IsExpr (t.node l f)) n
+      → ((n : ℕ) → n + form_height f ≤ most_brackets → ReadsAt Opens EndsNumber (SameExpr grammar.IsExpr (tree.node l f)) n
       (form_text word f))
-      → IsRead (t.node l f)
+      → IsRead (tree.node l f)
   loose l f never nor inner = record {
     whole = λ n h. inner n (omega arith);
     operand = λ n h. reads_as words size (ap (λ b. bracketed b (form_text word f)) (sym never))
-        (mapped words size (λ ts us. lifted (λ y ts us p. g.bare p))
-        (in_parens (t.node l f) n (form_height f) (form_text word f) (omega arith) inner));
+        (mapped words size (λ ts us. lifted (λ y ts us p. grammar.bare p))
+        (in_parens (tree.node l f) n (form_height f) (form_text word f) (omega arith) inner));
     base = λ n h. reads_as words size (ap (λ b. bracketed b (form_text word f)) (sym nor))
-        (in_parens (t.node l f) n (form_height f) (form_text word f) (omega arith) inner);
+        (in_parens (tree.node l f) n (form_height f) (form_text word f) (omega arith) inner);
   }
 
   -- one that never does
   pub tight : (l : Line) (f : Form) → stands_alone f ≡ true → stands_before_trailer f ≡ true
-      → ((n : ℕ) → n + suc (form_height f) ≤ most_brackets → ReadsAt Opens EndsWord (SameExpr g.Atom (t.node l f)) n
+      → ((n : ℕ) → n + suc (form_height f) ≤ most_brackets → ReadsAt Opens EndsWord (SameExpr grammar.Atom (tree.node l f)) n
       (form_text word f))
-      → IsRead (t.node l f)
+      → IsRead (tree.node l f)
   tight l f always too inner = record {
-    whole = λ n h. mapped words size (λ ts us. lifted (λ y ts us p. primary_expr (g.bare p)))
+    whole = λ n h. mapped words size (λ ts us. lifted (λ y ts us p. primary_expr (grammar.bare p)))
         (fitted words size (λ cs e. e) number_word (inner n h));
     operand = λ n h. reads_as words size (sym (alone_is (form_text word f))
         ∙ ap (λ b. bracketed b (form_text word f)) (sym always))
-        (mapped words size (λ ts us. lifted (λ y ts us p. g.bare p))
+        (mapped words size (λ ts us. lifted (λ y ts us p. grammar.bare p))
         (fitted words size (λ cs e. e) number_word (inner n h)));
     base = λ n h. reads_as words size (sym (alone_is (form_text word f))
         ∙ ap (λ b. bracketed b (form_text word f)) (sym too)) (inner n (omega arith));
@@ -174,22 +174,22 @@ module _ (words : List (List ℕ)) (size : ℕ) (columns : List ℕ) (line : ℕ
   -- one that does before a trailer alone
   pub middling : (l : Line) (f : Form) → stands_alone f ≡ true → stands_before_trailer f ≡ false
       → ((n : ℕ) → n + suc (form_height f) ≤ most_brackets → ReadsAt Opens EndsNumber
-      (SameExpr g.Primary (t.node l f)) n (form_text word f))
-      → IsRead (t.node l f)
+      (SameExpr grammar.Primary (tree.node l f)) n (form_text word f))
+      → IsRead (tree.node l f)
   middling l f always nor inner = record {
     whole = λ n h. mapped words size (λ ts us. lifted (λ y ts us p. primary_expr p)) (inner n h);
     operand = λ n h. reads_as words size (sym (alone_is (form_text word f))
         ∙ ap (λ b. bracketed b (form_text word f)) (sym always)) (inner n h);
     base = λ n h. reads_as words size (ap (λ b. bracketed b (form_text word f)) (sym nor))
-        (in_parens (t.node l f) n (suc (form_height f)) (form_text word f) (omega arith)
+        (in_parens (tree.node l f) n (suc (form_height f)) (form_text word f) (omega arith)
         (λ m k. mapped words size (λ ts us. lifted (λ y ts us p. primary_expr p)) (inner m k)));
   }
 
   -- ---- lists of expressions
 
   abbrev pub AllRead : Exprs → Type 0
-  AllRead t.no_exprs = Unit {0}
-  AllRead (t.expr e es) = IsRead e × AllRead es
+  AllRead tree.no_exprs = Unit {0}
+  AllRead (tree.expr e es) = IsRead e × AllRead es
 
   pub comma_gap : {n : ℕ} → ReadsAt EndsNumber Opens (Tok kind.Comma) n (codes ", ")
   unfolding ◌⧺◌
@@ -210,14 +210,14 @@ module _ (words : List (List ℕ)) (size : ℕ) (columns : List ℕ) (line : ℕ
   pub further_read : (es : Exprs) → AllRead es → (n : ℕ) → n + exprs_height es ≤ most_brackets
       → ReadsAt EndsNumber EndsNumber (Same (map_exprs shape) Commas es) n (further (codes ", ") (exprs_texts word es))
   unfolding further
-  further_read t.no_exprs all n h = mapped words size (λ ts us. none) (nothing words size)
+  further_read tree.no_exprs all n h = mapped words size (λ ts us. none) (nothing words size)
     where
-      none : {ts us : Tokens} → Nil ts us → Same (map_exprs shape) Commas t.no_exprs ts us
+      none : {ts us : Tokens} → Nil ts us → Same (map_exprs shape) Commas tree.no_exprs ts us
       none nil = same no_more refl
-  further_read (t.expr e es) all n h =
+  further_read (tree.expr e es) all n h =
       mapped words size (λ ts us. some) (◌▹◌ words size (◌▹◌ words size comma_gap (all.0.whole n (omega arith)))
       (further_read es all.1 n (omega arith)))
     where
-      some : {ts us : Tokens} → Seq (Seq (Tok kind.Comma) (SameExpr g.IsExpr e))
-          (Same (map_exprs shape) Commas es) ts us → Same (map_exprs shape) Commas (t.expr e es) ts us
-      some (both (both (token h) (same p s)) (same q r)) = same (one_more h p q) (λ i. t.expr (s i) (r i))
+      some : {ts us : Tokens} → Seq (Seq (Tok kind.Comma) (SameExpr grammar.IsExpr e))
+          (Same (map_exprs shape) Commas es) ts us → Same (map_exprs shape) Commas (tree.expr e es) ts us
+      some (both (both (token h) (same p s)) (same q r)) = same (one_more h p q) (λ i. tree.expr (s i) (r i))

@@ -8,7 +8,7 @@ use lib.Utf8.{scalars}
 use Rattle.rp_base.specs.Names.{HoldsEachOnce, word_of}
 use Rattle.rp_grammar.specs.Kinds.{Tokens}
 use Rattle.rp_grammar.specs.Program.{Spells, highest}
-use Rattle.rp_grammar.specs.Statements as g
+use Rattle.rp_grammar.specs.Statements as stmt_grammar
 use Rattle.rp_grammar.proofs.MapHeights.{stmts_height_mapped}
 use Rattle.rp_print.specs.Statements.{printed, printed_by}
 use Rattle.rp_print.specs.Texts.{indentation}
@@ -99,7 +99,7 @@ read_again : (words : List (List ℕ)) (x : Stmts) (last : ℕ) (more : Tokens)
     (map (item_view words) more) []
     → AreGood words more → scalars (printed_by (word_of words) x) ≡ true → Lines 0 (printed_by (word_of words) x ++ [])
     → stmts_height x ≤ highest
-    → Same (map_stmts shape) (g.IsStatements g.top) x (more ++ end_at
+    → Same (map_stmts shape) (stmt_grammar.IsStatements stmt_grammar.top) x (more ++ end_at
     (length (encode_utf8_all (printed_by (word_of words) x))) last ∷ [])
     (end_at (length (encode_utf8_all (printed_by (word_of words) x))) last ∷ [])
     → Again words x
@@ -133,7 +133,7 @@ again : (words : List (List ℕ)) (x : Stmts) (ts : Tokens) → AreGood words ts
 again words x ts good spells =
     let size = length (encode_utf8_all (printed_by (word_of words) x)) in
     let all = (statements_back words size spells.statements (record { all = good })).0 in
-    let lines = stmts_read words size g.top x all 0 1 spells.low in
+    let lines = stmts_read words size stmt_grammar.top x all 0 1 spells.low in
     let found = lines.reads.reads [] [] (inl refl) in
     read_again words x lines.last found.more found.goes found.good lines.reads.letters
     (lines.reads.begins [] (inl refl)) spells.low (found.spelled (end_at size lines.last ∷ []))

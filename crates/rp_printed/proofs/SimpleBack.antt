@@ -7,9 +7,9 @@ use Rattle.rp_base.specs.declared.operator.BinOp.TheVariants as binary
 use Rattle.rp_base.specs.declared.value.Line.{Line}
 use Rattle.rp_base.specs.declared.value.Name.{Name}
 use Rattle.rp_grammar.specs.Kinds.{Tokens, augmented_of, first, line_at, skip}
-use Rattle.rp_grammar.specs.Expressions as e
+use Rattle.rp_grammar.specs.Expressions as grammar
 use Rattle.rp_grammar.specs.Expressions.{line_of, named, place_line}
-use Rattle.rp_grammar.specs.Statements as g
+use Rattle.rp_grammar.specs.Statements as stmt_grammar
 use Rattle.rp_grammar.specs.Statements.{Context, is_free}
 use Rattle.rp_print.specs.Texts.{◌⧺◌, further, joined as joined_texts}
 use Rattle.rp_print.specs.Expressions.{expr_text, place_text}
@@ -19,7 +19,7 @@ use Rattle.rp_token.specs.Tokens.{most_brackets}
 use Rattle.rp_tree.specs.Expressions.{Expr, Named, Place, Target}
 use Rattle.rp_tree.specs.Heights.{places_height}
 use Rattle.rp_tree.specs.Maps.{map_named, map_place, shape}
-use Rattle.rp_tree.specs.Statements as s
+use Rattle.rp_tree.specs.Statements as stmt_tree
 use Rattle.rp_tree.specs.Statements.{Stmt, StmtForm, Stmts}
 use Rattle.rp_printed.proofs.Reading.{◌▹◌, IsGoodName, Nil, Reads, Same, Seq, Spot, Tok, both, fitted, inside, mapped}
 use Rattle.rp_printed.proofs.Reading.{nil, nothing, reads_as, same, token}
@@ -36,13 +36,13 @@ use Rattle.rp_printed.proofs.Blocks.{AllStmts, IsSome, SimpleOf, StmtRead, simpl
 
 data MorePlaces : List Place → Tokens → Tokens → Type 0 where
   no_more_places : {ts : Tokens} → MorePlaces [] ts ts
-  one_more_place : {p : Place} {ps : List Place} {ts us vs : Tokens} → first ts ≡ kind.Comma → e.IsPlace p (skip ts) us
+  one_more_place : {p : Place} {ps : List Place} {ts us vs : Tokens} → first ts ≡ kind.Comma → grammar.IsPlace p (skip ts) us
       → MorePlaces ps us vs → MorePlaces (p ∷ ps) ts vs
 
-places_of : {p : Place} {ps : List Place} {ts us vs : Tokens} → e.IsPlace p ts us → MorePlaces ps us vs
-    → g.IsPlaces (p ∷ ps) ts vs
-places_of p no_more_places = g.last_place p
-places_of p (one_more_place h q r) = g.more_places p h (places_of q r)
+places_of : {p : Place} {ps : List Place} {ts us vs : Tokens} → grammar.IsPlace p ts us → MorePlaces ps us vs
+    → stmt_grammar.IsPlaces (p ∷ ps) ts vs
+places_of p no_more_places = stmt_grammar.last_place p
+places_of p (one_more_place h q r) = stmt_grammar.more_places p h (places_of q r)
 
 data MoreNames : List Named → Tokens → Tokens → Type 0 where
   no_more_names : {ts : Tokens} → MoreNames [] ts ts
@@ -51,15 +51,15 @@ data MoreNames : List Named → Tokens → Tokens → Type 0 where
       → MoreNames (named n (skip ts) ∷ ns) ts us
 
 names_at : {n : Name} {ns : List Named} {ts vs us : Tokens} → first ts ≡ kind.Name n → skip ts ≡ vs → MoreNames ns vs us
-    → g.IsNames (named n ts ∷ ns) ts us
-names_at {n = n} {ts = ts} h e no_more_names = subst (λ (v : Tokens). g.IsNames (named n ts ∷ []) ts v) e
-    (g.last_name h)
+    → stmt_grammar.IsNames (named n ts ∷ ns) ts us
+names_at {n = n} {ts = ts} h e no_more_names = subst (λ (v : Tokens). stmt_grammar.IsNames (named n ts ∷ []) ts v) e
+    (stmt_grammar.last_name h)
 names_at {vs = vs} {us = us} h e (one_more_name {n = m} {ns = ms} i j r) =
-    g.more_names h (ap first e ∙ i) (subst (λ (v : Tokens). g.IsNames (named m (skip vs) ∷ ms) (skip v) us) (sym e)
+    stmt_grammar.more_names h (ap first e ∙ i) (subst (λ (v : Tokens). stmt_grammar.IsNames (named m (skip vs) ∷ ms) (skip v) us) (sym e)
     (names_at j refl r))
 
 names_of : {n : Name} {ns : List Named} {ts us : Tokens} → first ts ≡ kind.Name n → MoreNames ns (skip ts) us
-    → g.IsNames (named n ts ∷ ns) ts us
+    → stmt_grammar.IsNames (named n ts ∷ ns) ts us
 names_of h r = names_at h refl r
 
 -- the names that may be named stay free
@@ -104,37 +104,37 @@ module _ (words : List (List ℕ)) (size : ℕ) where
   AllNames [] = Unit {0}
   AllNames (n ∷ ns) = IsGoodName words n.name × AllNames ns
 
-  pub whole_back : {x : Expr} {ts us : Tokens} → e.IsExpr x ts us → Good words ts → Whole x × Good words us
+  pub whole_back : {x : Expr} {ts us : Tokens} → grammar.IsExpr x ts us → Good words ts → Whole x × Good words us
   whole_back p ok = (λ columns line. (expr_back words size columns line p ok).0, (expr_back words size [] 0 p ok).1)
 
-  pub exprs_back : {x : Expr} {ts us : Tokens} → e.IsExprs x ts us → Good words ts → Whole x × Good words us
-  exprs_back (e.an_expr p) ok = whole_back p ok
-  exprs_back (e.several {e = x} {es = xs} p h q) ok = (
+  pub exprs_back : {x : Expr} {ts us : Tokens} → grammar.IsExprs x ts us → Good words ts → Whole x × Good words us
+  exprs_back (grammar.an_expr p) ok = whole_back p ok
+  exprs_back (grammar.several {e = x} {es = xs} p h q) ok = (
     λ columns line. let a = expr_back words size columns line p ok in let b =
         listed_back words size columns line q (behind words a.1) in
         tuple_back words size columns line (line_of x) x xs a.0 b.0,
     let a = expr_back words size [] 0 p ok in (listed_back words size [] 0 q (behind words a.1)).1,
   )
 
-  placed_back : {p : Place} {ts us : Tokens} → e.IsPlace p ts us → Good words ts → Placed p × Good words us
+  placed_back : {p : Place} {ts us : Tokens} → grammar.IsPlace p ts us → Good words ts → Placed p × Good words us
   placed_back p ok = (λ columns line. (place_back words size columns line p ok).0, (place_back words size [] 0 p ok).1)
 
-  all_places_back : {ps : List Place} {ts us : Tokens} → g.IsPlaces ps ts us → Good words ts → AllPlaces ps
+  all_places_back : {ps : List Place} {ts us : Tokens} → stmt_grammar.IsPlaces ps ts us → Good words ts → AllPlaces ps
       × Good words us
-  all_places_back (g.last_place p) ok = let a = placed_back p ok in ((a.0, tt), a.1)
-  all_places_back (g.last_comma p h) ok = let a = placed_back p ok in ((a.0, tt), behind words a.1)
-  all_places_back (g.more_places p h q) ok = let a = placed_back p ok in let b = all_places_back q (behind words a.1) in
+  all_places_back (stmt_grammar.last_place p) ok = let a = placed_back p ok in ((a.0, tt), a.1)
+  all_places_back (stmt_grammar.last_comma p h) ok = let a = placed_back p ok in ((a.0, tt), behind words a.1)
+  all_places_back (stmt_grammar.more_places p h q) ok = let a = placed_back p ok in let b = all_places_back q (behind words a.1) in
       ((a.0, b.0), b.1)
 
-  assigned_back : {ps : List Place} {ts us : Tokens} → g.Assigned ps ts us → Good words ts → AllPlaces ps
+  assigned_back : {ps : List Place} {ts us : Tokens} → stmt_grammar.Assigned ps ts us → Good words ts → AllPlaces ps
       × Good words us
-  assigned_back (g.last_assigned p h) ok = let a = placed_back p ok in ((a.0, tt), behind words a.1)
-  assigned_back (g.more_assigned p h q) ok = let a = placed_back p ok in let b = assigned_back q (behind words a.1) in
+  assigned_back (stmt_grammar.last_assigned p h) ok = let a = placed_back p ok in ((a.0, tt), behind words a.1)
+  assigned_back (stmt_grammar.more_assigned p h q) ok = let a = placed_back p ok in let b = assigned_back q (behind words a.1) in
       ((a.0, b.0), b.1)
 
-  all_names_back : {ns : List Named} {ts us : Tokens} → g.IsNames ns ts us → Good words ts → AllNames ns × Good words us
-  all_names_back (g.last_name h) ok = ((name_at words h ok, tt), behind words ok)
-  all_names_back (g.more_names h i q) ok = let b = all_names_back q (behind words (behind words ok)) in
+  all_names_back : {ns : List Named} {ts us : Tokens} → stmt_grammar.IsNames ns ts us → Good words ts → AllNames ns × Good words us
+  all_names_back (stmt_grammar.last_name h) ok = ((name_at words h ok, tt), behind words ok)
+  all_names_back (stmt_grammar.more_names h i q) ok = let b = all_names_back q (behind words (behind words ok)) in
       ((name_at words h ok, b.0), b.1)
 
   module _ (d m : ℕ) where
@@ -153,7 +153,7 @@ module _ (words : List (List ℕ)) (size : ℕ) where
         mapped words size (λ ts us. some) (comma_read ⊳ fitted words size (λ cs k. k) number_word
         (all.0 (columns_at d) m 0 (omega arith)) ⊳ further_places ps all.1 (omega arith))
       where
-        some : {ts us : Tokens} → Seq (Seq (Tok kind.Comma) (Same (map_place shape) e.IsPlace p))
+        some : {ts us : Tokens} → Seq (Seq (Tok kind.Comma) (Same (map_place shape) grammar.IsPlace p))
             (Same (map (map_place shape)) MorePlaces ps) ts us
             → Same (map (map_place shape)) MorePlaces (p ∷ ps) ts us
         some (both (both (token i) (same q a)) (same r b)) = same (one_more_place i q r) (λ k. a k ∷ b k)
@@ -181,7 +181,7 @@ module _ (words : List (List ℕ)) (size : ℕ) where
         (λ behind. refl) (λ rest. refl)
 
     assigned_read : (p : Place) (ps : List Place) → AllPlaces (p ∷ ps) → places_height (p ∷ ps) ≤ most_brackets
-        → OnLine Opens Opens (Same (map (map_place shape)) g.Assigned (p ∷ ps)) d m (assigned_text word (p ∷ ps))
+        → OnLine Opens Opens (Same (map (map_place shape)) stmt_grammar.Assigned (p ∷ ps)) d m (assigned_text word (p ∷ ps))
     assigned_read p [] all h =
         reads_as words size (sym (nil_back (place_text word p ⧺ codes " = "))) (mapped words size (λ ts us. of)
         (fitted words size (λ cs k. k) number_word (all.0 (columns_at d) m 0 (omega arith)) ⊳ equal_between))
@@ -189,17 +189,17 @@ module _ (words : List (List ℕ)) (size : ℕ) where
         nil_back : (a : List ℕ) → a ⧺ [] ≡ a
         nil_back a = nil_text a
 
-        of : {ts us : Tokens} → Seq (Same (map_place shape) e.IsPlace p) (Tok kind.Equal) ts us
-            → Same (map (map_place shape)) g.Assigned (p ∷ []) ts us
-        of (both (same q a) (token h)) = same (g.last_assigned q h) (λ k. a k ∷ [])
+        of : {ts us : Tokens} → Seq (Same (map_place shape) grammar.IsPlace p) (Tok kind.Equal) ts us
+            → Same (map (map_place shape)) stmt_grammar.Assigned (p ∷ []) ts us
+        of (both (same q a) (token h)) = same (stmt_grammar.last_assigned q h) (λ k. a k ∷ [])
     assigned_read p (p' ∷ ps) all h =
         mapped words size (λ ts us. of) (fitted words size (λ cs k. k) number_word
         (all.0 (columns_at d) m 0 (omega arith)) ⊳ equal_between ⊳ assigned_read p' ps all.1 (omega arith))
       where
-        of : {ts us : Tokens} → Seq (Seq (Same (map_place shape) e.IsPlace p) (Tok kind.Equal))
-            (Same (map (map_place shape)) g.Assigned (p' ∷ ps)) ts us
-            → Same (map (map_place shape)) g.Assigned (p ∷ p' ∷ ps) ts us
-        of (both (both (same q a) (token h)) (same r b)) = same (g.more_assigned q h r) (λ k. a k ∷ b k)
+        of : {ts us : Tokens} → Seq (Seq (Same (map_place shape) grammar.IsPlace p) (Tok kind.Equal))
+            (Same (map (map_place shape)) stmt_grammar.Assigned (p' ∷ ps)) ts us
+            → Same (map (map_place shape)) stmt_grammar.Assigned (p ∷ p' ∷ ps) ts us
+        of (both (both (same q a) (token h)) (same r b)) = same (stmt_grammar.more_assigned q h r) (λ k. a k ∷ b k)
 
     -- a keyword, alone or before a blank
     word_pass : OnLine Opens EndsNumber (Tok kind.Pass) d m (codes "pass")
@@ -277,124 +277,124 @@ module _ (words : List (List ℕ)) (size : ℕ) where
 
   -- ---- each simple statement
 
-  value_read : (c : Context) (l : Line) (x : Expr) → Whole x → StmtRead words size c (s.a_stmt l (s.evaluate x))
-  value_read c l x a = simple_read words size c l (s.evaluate x) (λ d. refl)
+  value_read : (c : Context) (l : Line) (x : Expr) → Whole x → StmtRead words size c (stmt_tree.a_stmt l (stmt_tree.evaluate x))
+  value_read c l x a = simple_read words size c l (stmt_tree.evaluate x) (λ d. refl)
       (λ d m h. mapped words size (λ ts us. of) ((a (columns_at d) m).whole 0 (omega arith)))
     where
-      of : {ts us : Tokens} → SameExpr e.IsExpr x ts us → SimpleOf c (s.a_stmt l (s.evaluate x)) ts us
-      of (same p q) = same (g.is_value (e.an_expr p)) (λ k. s.a_stmt (record { 0 = 0 }) (s.evaluate (q k)))
+      of : {ts us : Tokens} → SameExpr grammar.IsExpr x ts us → SimpleOf c (stmt_tree.a_stmt l (stmt_tree.evaluate x)) ts us
+      of (same p q) = same (stmt_grammar.is_value (grammar.an_expr p)) (λ k. stmt_tree.a_stmt (record { 0 = 0 }) (stmt_tree.evaluate (q k)))
 
-  pass_read : (c : Context) (l : Line) → StmtRead words size c (s.a_stmt l s.pass)
-  pass_read c l = simple_read words size c l s.pass (λ d. refl)
+  pass_read : (c : Context) (l : Line) → StmtRead words size c (stmt_tree.a_stmt l stmt_tree.pass)
+  pass_read c l = simple_read words size c l stmt_tree.pass (λ d. refl)
       (λ d m h. mapped words size (λ ts us. of) (word_pass d m))
     where
-      of : {ts us : Tokens} → Tok kind.Pass ts us → SimpleOf c (s.a_stmt l s.pass) ts us
-      of (token h) = same (g.is_pass h) refl
+      of : {ts us : Tokens} → Tok kind.Pass ts us → SimpleOf c (stmt_tree.a_stmt l stmt_tree.pass) ts us
+      of (token h) = same (stmt_grammar.is_pass h) refl
 
-  break_read : (c : Context) (l : Line) → c.loop ≡ true → StmtRead words size c (s.a_stmt l s.break)
-  break_read c l loop = simple_read words size c l s.break (λ d. refl)
+  break_read : (c : Context) (l : Line) → c.loop ≡ true → StmtRead words size c (stmt_tree.a_stmt l stmt_tree.break)
+  break_read c l loop = simple_read words size c l stmt_tree.break (λ d. refl)
       (λ d m h. mapped words size (λ ts us. of) (word_break d m))
     where
-      of : {ts us : Tokens} → Tok kind.Break ts us → SimpleOf c (s.a_stmt l s.break) ts us
-      of (token h) = same (g.is_break loop h) refl
+      of : {ts us : Tokens} → Tok kind.Break ts us → SimpleOf c (stmt_tree.a_stmt l stmt_tree.break) ts us
+      of (token h) = same (stmt_grammar.is_break loop h) refl
 
-  continue_read : (c : Context) (l : Line) → c.loop ≡ true → StmtRead words size c (s.a_stmt l s.continue)
-  continue_read c l loop = simple_read words size c l s.continue (λ d. refl)
+  continue_read : (c : Context) (l : Line) → c.loop ≡ true → StmtRead words size c (stmt_tree.a_stmt l stmt_tree.continue)
+  continue_read c l loop = simple_read words size c l stmt_tree.continue (λ d. refl)
       (λ d m h. mapped words size (λ ts us. of) (word_continue d m))
     where
-      of : {ts us : Tokens} → Tok kind.Continue ts us → SimpleOf c (s.a_stmt l s.continue) ts us
-      of (token h) = same (g.is_continue loop h) refl
+      of : {ts us : Tokens} → Tok kind.Continue ts us → SimpleOf c (stmt_tree.a_stmt l stmt_tree.continue) ts us
+      of (token h) = same (stmt_grammar.is_continue loop h) refl
 
-  return_read : (c : Context) (l : Line) → g.is_in_function c ≡ true
-      → StmtRead words size c (s.a_stmt l (s.give_back None))
-  return_read c l within = simple_read words size c l (s.give_back None) (λ d. refl) (λ d m h.
+  return_read : (c : Context) (l : Line) → stmt_grammar.is_in_function c ≡ true
+      → StmtRead words size c (stmt_tree.a_stmt l (stmt_tree.give_back None))
+  return_read c l within = simple_read words size c l (stmt_tree.give_back None) (λ d. refl) (λ d m h.
       mapped words size (λ ts us. of) (fitted words size (λ cs k. k) number_word (word_return d m)
       ⊳ nothing words size))
     where
-      of : {ts us : Tokens} → Seq (Tok kind.Return) Nil ts us → SimpleOf c (s.a_stmt l (s.give_back None)) ts us
-      of (both (token h) nil) = same (g.is_return within h) refl
+      of : {ts us : Tokens} → Seq (Tok kind.Return) Nil ts us → SimpleOf c (stmt_tree.a_stmt l (stmt_tree.give_back None)) ts us
+      of (both (token h) nil) = same (stmt_grammar.is_return within h) refl
 
-  returns_read : (c : Context) (l : Line) (x : Expr) → g.is_in_function c ≡ true → Whole x
-      → StmtRead words size c (s.a_stmt l (s.give_back (Some x)))
-  returns_read c l x within a = simple_read words size c l (s.give_back (Some x)) (λ d. refl) (λ d m h.
+  returns_read : (c : Context) (l : Line) (x : Expr) → stmt_grammar.is_in_function c ≡ true → Whole x
+      → StmtRead words size c (stmt_tree.a_stmt l (stmt_tree.give_back (Some x)))
+  returns_read c l x within a = simple_read words size c l (stmt_tree.give_back (Some x)) (λ d. refl) (λ d m h.
       mapped words size (λ ts us. of) (word_return d m ⊳ (gap_before d m ⊳ (a (columns_at d) m).whole 0 (omega arith))))
     where
-      of : {ts us : Tokens} → Seq (Tok kind.Return) (Seq Nil (SameExpr e.IsExpr x)) ts us
-          → SimpleOf c (s.a_stmt l (s.give_back (Some x))) ts us
-      of (both (token h) (both nil (same p q))) = same (g.returns_value within h (e.an_expr p))
-          (λ k. s.a_stmt (record { 0 = 0 }) (s.give_back (Some (q k))))
+      of : {ts us : Tokens} → Seq (Tok kind.Return) (Seq Nil (SameExpr grammar.IsExpr x)) ts us
+          → SimpleOf c (stmt_tree.a_stmt l (stmt_tree.give_back (Some x))) ts us
+      of (both (token h) (both nil (same p q))) = same (stmt_grammar.returns_value within h (grammar.an_expr p))
+          (λ k. stmt_tree.a_stmt (record { 0 = 0 }) (stmt_tree.give_back (Some (q k))))
 
-  raises_read : (c : Context) (l : Line) → c.handler ≡ true → StmtRead words size c (s.a_stmt l (s.raise None))
-  raises_read c l within = simple_read words size c l (s.raise None) (λ d. refl) (λ d m h.
+  raises_read : (c : Context) (l : Line) → c.handler ≡ true → StmtRead words size c (stmt_tree.a_stmt l (stmt_tree.raise None))
+  raises_read c l within = simple_read words size c l (stmt_tree.raise None) (λ d. refl) (λ d m h.
       mapped words size (λ ts us. of) (fitted words size (λ cs k. k) number_word (word_raise d m) ⊳ nothing words size))
     where
-      of : {ts us : Tokens} → Seq (Tok kind.Raise) Nil ts us → SimpleOf c (s.a_stmt l (s.raise None)) ts us
-      of (both (token h) nil) = same (g.raises_again within h) refl
+      of : {ts us : Tokens} → Seq (Tok kind.Raise) Nil ts us → SimpleOf c (stmt_tree.a_stmt l (stmt_tree.raise None)) ts us
+      of (both (token h) nil) = same (stmt_grammar.raises_again within h) refl
 
-  raise_read : (c : Context) (l : Line) (x : Expr) → Whole x → StmtRead words size c (s.a_stmt l (s.raise (Some x)))
-  raise_read c l x a = simple_read words size c l (s.raise (Some x)) (λ d. refl) (λ d m h.
+  raise_read : (c : Context) (l : Line) (x : Expr) → Whole x → StmtRead words size c (stmt_tree.a_stmt l (stmt_tree.raise (Some x)))
+  raise_read c l x a = simple_read words size c l (stmt_tree.raise (Some x)) (λ d. refl) (λ d m h.
       mapped words size (λ ts us. of) (word_raise d m ⊳ (gap_before d m ⊳ (a (columns_at d) m).whole 0 (omega arith))))
     where
-      of : {ts us : Tokens} → Seq (Tok kind.Raise) (Seq Nil (SameExpr e.IsExpr x)) ts us
-          → SimpleOf c (s.a_stmt l (s.raise (Some x))) ts us
-      of (both (token h) (both nil (same p q))) = same (g.is_raise h p)
-          (λ k. s.a_stmt (record { 0 = 0 }) (s.raise (Some (q k))))
+      of : {ts us : Tokens} → Seq (Tok kind.Raise) (Seq Nil (SameExpr grammar.IsExpr x)) ts us
+          → SimpleOf c (stmt_tree.a_stmt l (stmt_tree.raise (Some x))) ts us
+      of (both (token h) (both nil (same p q))) = same (stmt_grammar.is_raise h p)
+          (λ k. stmt_tree.a_stmt (record { 0 = 0 }) (stmt_tree.raise (Some (q k))))
 
-  assert_read : (c : Context) (l : Line) (x : Expr) → Whole x → StmtRead words size c (s.a_stmt l (s.assert x None))
-  assert_read c l x a = simple_read words size c l (s.assert x None) (λ d. refl) (λ d m h.
+  assert_read : (c : Context) (l : Line) (x : Expr) → Whole x → StmtRead words size c (stmt_tree.a_stmt l (stmt_tree.assert x None))
+  assert_read c l x a = simple_read words size c l (stmt_tree.assert x None) (λ d. refl) (λ d m h.
       mapped words size (λ ts us. of) (assert_before d m ⊳ (a (columns_at d) m).whole 0 (omega arith)
       ⊳ nothing words size))
     where
-      of : {ts us : Tokens} → Seq (Seq (Tok kind.Assert) (SameExpr e.IsExpr x)) Nil ts us
-          → SimpleOf c (s.a_stmt l (s.assert x None)) ts us
-      of (both (both (token h) (same p q)) nil) = same (g.is_assert h p)
-          (λ k. s.a_stmt (record { 0 = 0 }) (s.assert (q k) None))
+      of : {ts us : Tokens} → Seq (Seq (Tok kind.Assert) (SameExpr grammar.IsExpr x)) Nil ts us
+          → SimpleOf c (stmt_tree.a_stmt l (stmt_tree.assert x None)) ts us
+      of (both (both (token h) (same p q)) nil) = same (stmt_grammar.is_assert h p)
+          (λ k. stmt_tree.a_stmt (record { 0 = 0 }) (stmt_tree.assert (q k) None))
 
   asserts_read : (c : Context) (l : Line) (x y : Expr) → Whole x → Whole y
-      → StmtRead words size c (s.a_stmt l (s.assert x (Some y)))
-  asserts_read c l x y a b = simple_read words size c l (s.assert x (Some y)) (λ d. refl) (λ d m h.
+      → StmtRead words size c (stmt_tree.a_stmt l (stmt_tree.assert x (Some y)))
+  asserts_read c l x y a b = simple_read words size c l (stmt_tree.assert x (Some y)) (λ d. refl) (λ d m h.
       mapped words size (λ ts us. of) (assert_before d m ⊳ (a (columns_at d) m).whole 0 (omega arith)
       ⊳ (comma_read d m ⊳ (b (columns_at d) m).whole 0 (omega arith))))
     where
-      of : {ts us : Tokens} → Seq (Seq (Tok kind.Assert) (SameExpr e.IsExpr x))
-          (Seq (Tok kind.Comma) (SameExpr e.IsExpr y)) ts us → SimpleOf c (s.a_stmt l (s.assert x (Some y))) ts us
+      of : {ts us : Tokens} → Seq (Seq (Tok kind.Assert) (SameExpr grammar.IsExpr x))
+          (Seq (Tok kind.Comma) (SameExpr grammar.IsExpr y)) ts us → SimpleOf c (stmt_tree.a_stmt l (stmt_tree.assert x (Some y))) ts us
       of (both (both (token h) (same p q)) (both (token i) (same r u))) =
-          same (g.asserts_with_text h p i r) (λ k. s.a_stmt (record { 0 = 0 }) (s.assert (q k) (Some (u k))))
+          same (stmt_grammar.asserts_with_text h p i r) (λ k. stmt_tree.a_stmt (record { 0 = 0 }) (stmt_tree.assert (q k) (Some (u k))))
 
   global_read : (c : Context) (l : Line) (n : Named) (ns : List Named) → c.class ≡ false
       → list_all (is_free c.function) (n ∷ ns) ≡ true → AllNames (n ∷ ns)
-      → StmtRead words size c (s.a_stmt l (s.global (n ∷ ns)))
+      → StmtRead words size c (stmt_tree.a_stmt l (stmt_tree.global (n ∷ ns)))
   unfolding joined_texts
-  global_read c l n ns outside free all = simple_read words size c l (s.global (n ∷ ns)) (λ d. refl) (λ d m h.
+  global_read c l n ns outside free all = simple_read words size c l (stmt_tree.global (n ∷ ns)) (λ d. refl) (λ d m h.
       mapped words size (λ ts us. of)
       (global_before d m ⊳ (fitted words size (λ cs k. k) number_word
       (name_read words size (columns_at d) m n.name all.0) ⊳ further_names d m ns all.1)))
     where
       of : {ts us : Tokens}
           → Seq (Tok kind.Global) (Seq (Tok (kind.Name n.name)) (Same (map (map_named shape)) MoreNames ns)) ts us
-          → SimpleOf c (s.a_stmt l (s.global (n ∷ ns))) ts us
+          → SimpleOf c (stmt_tree.a_stmt l (stmt_tree.global (n ∷ ns))) ts us
       of {ts = ts} (both (token h) (both (token i) (same {y = ms} r b))) =
-          same (g.is_global outside (same_free c.function (named n.name (skip ts) ∷ ms) (n ∷ ns)
+          same (stmt_grammar.is_global outside (same_free c.function (named n.name (skip ts) ∷ ms) (n ∷ ns)
           (λ k. record { name = n.name; line = record { 0 = 0 } } ∷ b k) ∙ free) h (names_of i r))
-          (λ k. s.a_stmt (record { 0 = 0 }) (s.global (record { name = n.name; line = record { 0 = 0 } } ∷ b k)))
+          (λ k. stmt_tree.a_stmt (record { 0 = 0 }) (stmt_tree.global (record { name = n.name; line = record { 0 = 0 } } ∷ b k)))
 
   del_read : (c : Context) (l : Line) (p : Place) (ps : List Place) → AllPlaces (p ∷ ps)
-      → StmtRead words size c (s.a_stmt l (s.del (p ∷ ps)))
+      → StmtRead words size c (stmt_tree.a_stmt l (stmt_tree.del (p ∷ ps)))
   unfolding joined_texts
-  del_read c l p ps all = simple_read words size c l (s.del (p ∷ ps)) (λ d. refl) (λ d m h.
+  del_read c l p ps all = simple_read words size c l (stmt_tree.del (p ∷ ps)) (λ d. refl) (λ d m h.
       mapped words size (λ ts us. of)
       (del_before d m ⊳ (fitted words size (λ cs k. k) number_word (all.0 (columns_at d) m 0 (omega arith))
       ⊳ further_places d m ps all.1 (omega arith))))
     where
       of : {ts us : Tokens}
-          → Seq (Tok kind.Del) (Seq (Same (map_place shape) e.IsPlace p) (Same (map (map_place shape)) MorePlaces ps))
-          ts us → SimpleOf c (s.a_stmt l (s.del (p ∷ ps))) ts us
-      of (both (token h) (both (same q a) (same r b))) = same (g.is_del h (places_of q r))
-          (λ k. s.a_stmt (record { 0 = 0 }) (s.del (a k ∷ b k)))
+          → Seq (Tok kind.Del) (Seq (Same (map_place shape) grammar.IsPlace p) (Same (map (map_place shape)) MorePlaces ps))
+          ts us → SimpleOf c (stmt_tree.a_stmt l (stmt_tree.del (p ∷ ps))) ts us
+      of (both (token h) (both (same q a) (same r b))) = same (stmt_grammar.is_del h (places_of q r))
+          (λ k. stmt_tree.a_stmt (record { 0 = 0 }) (stmt_tree.del (a k ∷ b k)))
 
   aug_read : (c : Context) (l : Line) (p : Place) (o : BinOp) (at : Line) (x : Expr) → Placed p → Whole x
-      → StmtRead words size c (s.a_stmt l (s.aug p o at x None))
-  aug_read c l p o at x a b = simple_read words size c l (s.aug p o at x None) (λ d. refl) (λ d m h.
+      → StmtRead words size c (stmt_tree.a_stmt l (stmt_tree.aug p o at x None))
+  aug_read c l p o at x a b = simple_read words size c l (stmt_tree.aug p o at x None) (λ d. refl) (λ d m h.
       reads_as words size (assoc_mark (place_text word p) (augmented_text o) (expr_text word x))
       (mapped words size (λ ts us. of) (fitted words size (λ cs k. k) number_word (a (columns_at d) m 0 (omega arith))
       ⊳ augmented_mark d m o ⊳ (b (columns_at d) m).whole 0 (omega arith))))
@@ -402,77 +402,77 @@ module _ (words : List (List ℕ)) (size : ℕ) where
       assoc_mark : (u v z : List ℕ) → u ⧺ (codes " " ⧺ v ⧺ codes " ") ⧺ z ≡ u ⧺ codes " " ⧺ v ⧺ codes " " ⧺ z
       assoc_mark u v z = simp assoc_texts
 
-      of : {ts us : Tokens} → Seq (Seq (Same (map_place shape) e.IsPlace p) (Marked augmented_of o))
-          (SameExpr e.IsExpr x) ts us → SimpleOf c (s.a_stmt l (s.aug p o at x None)) ts us
-      of (both (both (same q u) (marked i)) (same r v)) = same (g.is_augmented q i (e.an_expr r))
-          (λ k. s.a_stmt (record { 0 = 0 }) (s.aug (u k) o (record { 0 = 0 }) (v k) None))
+      of : {ts us : Tokens} → Seq (Seq (Same (map_place shape) grammar.IsPlace p) (Marked augmented_of o))
+          (SameExpr grammar.IsExpr x) ts us → SimpleOf c (stmt_tree.a_stmt l (stmt_tree.aug p o at x None)) ts us
+      of (both (both (same q u) (marked i)) (same r v)) = same (stmt_grammar.is_augmented q i (grammar.an_expr r))
+          (λ k. stmt_tree.a_stmt (record { 0 = 0 }) (stmt_tree.aug (u k) o (record { 0 = 0 }) (v k) None))
 
   assign_read : (c : Context) (l : Line) (p : Place) (ps : List Place) (x : Expr) → AllPlaces (p ∷ ps) → Whole x
-      → StmtRead words size c (s.a_stmt l (s.assign (p ∷ ps) x))
-  assign_read c l p ps x all b = simple_read words size c l (s.assign (p ∷ ps) x) (λ d. refl) (λ d m h.
+      → StmtRead words size c (stmt_tree.a_stmt l (stmt_tree.assign (p ∷ ps) x))
+  assign_read c l p ps x all b = simple_read words size c l (stmt_tree.assign (p ∷ ps) x) (λ d. refl) (λ d m h.
       mapped words size (λ ts us. of) (assigned_read d m p ps all (omega arith)
       ⊳ (b (columns_at d) m).whole 0 (omega arith)))
     where
-      of : {ts us : Tokens} → Seq (Same (map (map_place shape)) g.Assigned (p ∷ ps)) (SameExpr e.IsExpr x) ts us
-          → SimpleOf c (s.a_stmt l (s.assign (p ∷ ps) x)) ts us
+      of : {ts us : Tokens} → Seq (Same (map (map_place shape)) stmt_grammar.Assigned (p ∷ ps)) (SameExpr grammar.IsExpr x) ts us
+          → SimpleOf c (stmt_tree.a_stmt l (stmt_tree.assign (p ∷ ps) x)) ts us
       of (both (same {y = []} q u) (same r v)) = absurd (let none = u in cc)
-      of (both (same {y = y ∷ ys} q u) (same r v)) = same (g.is_assignment q (e.an_expr r))
-          (λ k. s.a_stmt (record { 0 = 0 }) (s.assign (u k) (v k)))
+      of (both (same {y = y ∷ ys} q u) (same r v)) = same (stmt_grammar.is_assignment q (grammar.an_expr r))
+          (λ k. stmt_tree.a_stmt (record { 0 = 0 }) (stmt_tree.assign (u k) (v k)))
 
   unpack_read : (c : Context) (l : Line) (p : Target) (x : Expr)
       → ((columns : List ℕ) (line : ℕ) → ReadGroup words size columns line p) → Whole x
-      → StmtRead words size c (s.a_stmt l (s.unpack p x None))
-  unpack_read c l p x a b = simple_read words size c l (s.unpack p x None) (λ d. refl) (λ d m h.
+      → StmtRead words size c (stmt_tree.a_stmt l (stmt_tree.unpack p x None))
+  unpack_read c l p x a b = simple_read words size c l (stmt_tree.unpack p x None) (λ d. refl) (λ d m h.
       mapped words size (λ ts us. of) (fitted words size (λ cs k. k) number_word (a (columns_at d) m 0 (omega arith))
       ⊳ equal_between d m ⊳ (b (columns_at d) m).whole 0 (omega arith)))
     where
-      of : {ts us : Tokens} → Seq (Seq (SameTarget GroupOf p) (Tok kind.Equal)) (SameExpr e.IsExpr x) ts us
-          → SimpleOf c (s.a_stmt l (s.unpack p x None)) ts us
+      of : {ts us : Tokens} → Seq (Seq (SameTarget GroupOf p) (Tok kind.Equal)) (SameExpr grammar.IsExpr x) ts us
+          → SimpleOf c (stmt_tree.a_stmt l (stmt_tree.unpack p x None)) ts us
       of (both (both (same (a_group q) u) (token h)) (same r v)) =
-          same (g.is_unpacking (g.a_group q) h (e.an_expr r))
-          (λ k. s.a_stmt (record { 0 = 0 }) (s.unpack (u k) (v k) None))
+          same (stmt_grammar.is_unpacking (stmt_grammar.a_group q) h (grammar.an_expr r))
+          (λ k. stmt_tree.a_stmt (record { 0 = 0 }) (stmt_tree.unpack (u k) (v k) None))
 
-  unpacked_back : {p : Target} {l : Line} {ts us : Tokens} → g.IsUnpacked p l ts us → Good words ts
+  unpacked_back : {p : Target} {l : Line} {ts us : Tokens} → stmt_grammar.IsUnpacked p l ts us → Good words ts
       → ((columns : List ℕ) (line : ℕ) → ReadGroup words size columns line p) × Good words us
-  unpacked_back (g.a_group q) ok =
+  unpacked_back (stmt_grammar.a_group q) ok =
       (λ columns line. (group_back words size columns line q ok).0, (group_back words size [] 0 q ok).1)
-  unpacked_back (g.some_parts q) ok =
+  unpacked_back (stmt_grammar.some_parts q) ok =
       (λ columns line. (parts_back words size columns line q ok).0, (parts_back words size [] 0 q ok).1)
 
-  pub simple_back : {c : Context} {x : Stmt} {ts us : Tokens} → g.IsSimple c x ts us → Good words ts
+  pub simple_back : {c : Context} {x : Stmt} {ts us : Tokens} → stmt_grammar.IsSimple c x ts us → Good words ts
       → StmtRead words size c x × Good words us
-  simple_back {c = c} (g.is_pass {ts = ts} h) ok = (pass_read c (line_at ts), behind words ok)
-  simple_back {c = c} (g.is_break {ts = ts} loop h) ok = (break_read c (line_at ts) loop, behind words ok)
-  simple_back {c = c} (g.is_continue {ts = ts} loop h) ok = (continue_read c (line_at ts) loop, behind words ok)
-  simple_back {c = c} (g.is_return {ts = ts} within h) ok = (return_read c (line_at ts) within, behind words ok)
-  simple_back {c = c} (g.returns_value {e = x} {ts = ts} within h p) ok = let a = exprs_back p (behind words ok) in
+  simple_back {c = c} (stmt_grammar.is_pass {ts = ts} h) ok = (pass_read c (line_at ts), behind words ok)
+  simple_back {c = c} (stmt_grammar.is_break {ts = ts} loop h) ok = (break_read c (line_at ts) loop, behind words ok)
+  simple_back {c = c} (stmt_grammar.is_continue {ts = ts} loop h) ok = (continue_read c (line_at ts) loop, behind words ok)
+  simple_back {c = c} (stmt_grammar.is_return {ts = ts} within h) ok = (return_read c (line_at ts) within, behind words ok)
+  simple_back {c = c} (stmt_grammar.returns_value {e = x} {ts = ts} within h p) ok = let a = exprs_back p (behind words ok) in
       (returns_read c (line_at ts) x within a.0, a.1)
-  simple_back {c = c} (g.raises_again {ts = ts} within h) ok = (raises_read c (line_at ts) within, behind words ok)
-  simple_back {c = c} (g.is_raise {e = x} {ts = ts} h p) ok = let a = whole_back p (behind words ok) in
+  simple_back {c = c} (stmt_grammar.raises_again {ts = ts} within h) ok = (raises_read c (line_at ts) within, behind words ok)
+  simple_back {c = c} (stmt_grammar.is_raise {e = x} {ts = ts} h p) ok = let a = whole_back p (behind words ok) in
       (raise_read c (line_at ts) x a.0, a.1)
-  simple_back {c = c} (g.is_assert {e = x} {ts = ts} h p) ok = let a = whole_back p (behind words ok) in
+  simple_back {c = c} (stmt_grammar.is_assert {e = x} {ts = ts} h p) ok = let a = whole_back p (behind words ok) in
       (assert_read c (line_at ts) x a.0, a.1)
-  simple_back {c = c} (g.asserts_with_text {e = x} {f = y} {ts = ts} h p i q) ok =
+  simple_back {c = c} (stmt_grammar.asserts_with_text {e = x} {f = y} {ts = ts} h p i q) ok =
       let a = whole_back p (behind words ok) in let b = whole_back q (behind words a.1) in
       (asserts_read c (line_at ts) x y a.0 b.0, b.1)
-  simple_back {c = c} (g.is_global {ns = []} {ts = ts} outside free h p) ok = elim p [ ]
-  simple_back {c = c} (g.is_global {ns = n ∷ ns} {ts = ts} outside free h p) ok = let a =
+  simple_back {c = c} (stmt_grammar.is_global {ns = []} {ts = ts} outside free h p) ok = elim p [ ]
+  simple_back {c = c} (stmt_grammar.is_global {ns = n ∷ ns} {ts = ts} outside free h p) ok = let a =
       all_names_back p (behind words ok) in (global_read c (line_at ts) n ns outside free a.0, a.1)
-  simple_back {c = c} (g.is_del {ps = []} {ts = ts} h p) ok = elim p [ ]
-  simple_back {c = c} (g.is_del {ps = p ∷ ps} {ts = ts} h q) ok = let a = all_places_back q (behind words ok) in
+  simple_back {c = c} (stmt_grammar.is_del {ps = []} {ts = ts} h p) ok = elim p [ ]
+  simple_back {c = c} (stmt_grammar.is_del {ps = p ∷ ps} {ts = ts} h q) ok = let a = all_places_back q (behind words ok) in
       (del_read c (line_at ts) p ps a.0, a.1)
-  simple_back {c = c} (g.is_value {e = x} p) ok = let a = exprs_back p ok in (value_read c (line_of x) x a.0, a.1)
-  simple_back {c = c} (g.is_augmented {p = p} {o = o} {e = x} {us = us} q h r) ok =
+  simple_back {c = c} (stmt_grammar.is_value {e = x} p) ok = let a = exprs_back p ok in (value_read c (line_of x) x a.0, a.1)
+  simple_back {c = c} (stmt_grammar.is_augmented {p = p} {o = o} {e = x} {us = us} q h r) ok =
       let a = placed_back q ok in let b = exprs_back r (behind words a.1) in
       (aug_read c (place_line p) p o (line_at us) x a.0 b.0, b.1)
-  simple_back {c = c} (g.is_assignment {p = p} {ps = ps} {e = x} q r) ok =
+  simple_back {c = c} (stmt_grammar.is_assignment {p = p} {ps = ps} {e = x} q r) ok =
       let a = assigned_back q ok in let b = exprs_back r a.1 in (assign_read c (place_line p) p ps x a.0 b.0, b.1)
-  simple_back {c = c} (g.is_unpacking {g = p} {line = l} {e = x} q h r) ok =
+  simple_back {c = c} (stmt_grammar.is_unpacking {g = p} {line = l} {e = x} q h r) ok =
       let a = unpacked_back q ok in let b = exprs_back r (behind words a.1) in (unpack_read c l p x a.0 b.0, b.1)
 
-  pub line_back : {c : Context} {xs : Stmts} {ts us : Tokens} → g.IsLine c xs ts us → Good words ts
+  pub line_back : {c : Context} {xs : Stmts} {ts us : Tokens} → stmt_grammar.IsLine c xs ts us → Good words ts
       → AllStmts words size c xs × IsSome xs × Good words us
-  line_back (g.line_end p h) ok = let a = simple_back p ok in ((a.0, tt), tt, behind words a.1)
-  line_back (g.line_semicolon p h i) ok = let a = simple_back p ok in ((a.0, tt), tt, behind words (behind words a.1))
-  line_back (g.line_more p h q) ok = let a = simple_back p ok in let b = line_back q (behind words a.1) in
+  line_back (stmt_grammar.line_end p h) ok = let a = simple_back p ok in ((a.0, tt), tt, behind words a.1)
+  line_back (stmt_grammar.line_semicolon p h i) ok = let a = simple_back p ok in ((a.0, tt), tt, behind words (behind words a.1))
+  line_back (stmt_grammar.line_more p h q) ok = let a = simple_back p ok in let b = line_back q (behind words a.1) in
       ((a.0, b.0), tt, b.2)

@@ -3,9 +3,9 @@ use Rattle.std.proofs.Common.{◌≡◌, ℕ, ◌+◌, length, refl, Ok, Err, sy
 use Rattle.rp_base.specs.declared.value.Name.{Name}
 use Rattle.rp_tree.specs.Statements.{Stmts}
 use Rattle.rp_grammar.specs.Kinds.{Tokens}
-use Rattle.rp_grammar.specs.ExpressionReading as r
+use Rattle.rp_grammar.specs.ExpressionReading as reading
 use Rattle.rp_grammar.specs.Program.{Spells}
-use Rattle.rp_grammar.specs.StatementReading as p
+use Rattle.rp_grammar.specs.StatementReading as stmt_reading
 use Rattle.rp_grammar.specs.StatementReading.{Found}
 use Rattle.rp_grammar.proofs.Founds.{ok_is}
 use Rattle.rp_grammar.proofs.Low.{always_shallow}
@@ -22,7 +22,7 @@ module _ (f : Name → Name) (injective : IsInjective f) where
       program_spells (most + 200) (renamed_tokens f ts) (renamed_stmts f tree, renamed_tokens f spelled.rest)
       (program_renamed f injective (most + 200) 199 ts ∙ ap (renamed_found f) (program_complete most (most + 200) (omega arith) spelled shallow))
 
-  before : (d : ℕ) (ts : Tokens) (tree : Stmts) (rest : Tokens) (found : Found Stmts) → p.program_at (r.readers d) 199 ts ≡ found → renamed_found f found ≡ Ok (tree, rest)
+  before : (d : ℕ) (ts : Tokens) (tree : Stmts) (rest : Tokens) (found : Found Stmts) → stmt_reading.program_at (reading.readers d) 199 ts ≡ found → renamed_found f found ≡ Ok (tree, rest)
       → (first : Stmts) × Spells first ts × (tree ≡ renamed_stmts f first)
   before d ts tree rest (Ok x) is same = (x.0, program_spells d ts x is, sym (ap (λ (y : Stmts × Tokens). y.0) (ok_is same)))
   before d ts tree rest (Err place) is same = absurd cc
@@ -31,5 +31,5 @@ module _ (f : Name → Name) (injective : IsInjective f) where
   spells_before tree ts spelled =
       let most = length (renamed_tokens f ts) in
       let shallow = always_shallow 0 (renamed_tokens f ts) most (omega arith) in
-      before (most + 200) ts tree spelled.rest (p.program_at (r.readers (most + 200)) 199 ts) refl
+      before (most + 200) ts tree spelled.rest (stmt_reading.program_at (reading.readers (most + 200)) 199 ts) refl
       (sym (program_renamed f injective (most + 200) 199 ts) ∙ program_complete most (most + 200) (omega arith) spelled shallow)

@@ -1,3 +1,4 @@
 pub mod Fault
 pub mod Leaves
 pub mod Program
+pub mod ProgramWords

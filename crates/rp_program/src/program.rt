@@ -1,7 +1,7 @@
 //! The tree of a program, from its bytes.
 
-ghost use Rattle.std.specs.Prelude.{◌≡◌, ◌≢◌, ℕ, IfErr, IfOk, List, MatchResult};
-ghost use Rattle.rp_base.specs.Names.{HoldsEachOnce, word_of};
+ghost use Rattle.std.specs.Prelude.{◌≡◌, ◌≢◌, ℕ, IfErr, IfOk, List, MatchResult, OnOk};
+ghost use Rattle.rp_base.specs.Names.{HoldsEachOnce, with_words, word_of};
 ghost use Rattle.rp_token.specs.Lexer.{IsGrown};
 ghost use Rattle.rp_tree.specs.Maps.{named};
 ghost use Rattle.rp_tree.specs.Marks.{HasNoGuards};
@@ -12,9 +12,10 @@ ghost use Rattle.rp_grammar.specs.Program.{Spells};
 ghost use Rattle.rp_program.specs.Fault.{IsFault};
 ghost use Rattle.rp_program.specs.Leaves.{IsTreeHeld, IsUnnumbered};
 ghost use Rattle.rp_program.specs.Program.{IsProgram};
+ghost use Rattle.rp_program.specs.ProgramWords.{program_words};
 
 use crate::fault::ProgramFault;
-use rp_base::{Name, Names};
+use rp_base::{Names, word};
 use rp_more::expand;
 use rp_parse::parse;
 use rp_token::tokens;
@@ -38,6 +39,7 @@ pub fn read_program(alloc: Global, bytes: &[u8], names: &mut Names) -> Result<Tr
     ensures unnumbered { IfOk result (λ t. IsUnnumbered (view_tree t)) }
     ensures refused { IfErr result (λ f. f ≢ ProgramFault.Memory → IsFault bytes.now f) }
     ensures names { IsGrown names.old names.new }
+    ensures words { OnOk result (names.new ≡ with_words names.old (program_words bytes.now)) }
 {
     match std::str::from_utf8(bytes) {
         Ok(text) => read_text(alloc, text, names),
@@ -62,6 +64,7 @@ pub fn read_text(alloc: Global, text: &str, names: &mut Names) -> Result<Tree, P
     ensures unnumbered { IfOk result (λ t. IsUnnumbered (view_tree t)) }
     ensures refused { IfErr result (λ f. f ≢ ProgramFault.Memory → IsFault text.now f) }
     ensures names { IsGrown names.old names.new }
+    ensures words { OnOk result (names.new ≡ with_words names.old (program_words text.now)) }
 {
     let given = tokens(alloc, text, names)?;
     let expanded = expand(alloc, given, names)?;
@@ -74,6 +77,6 @@ fn hold_each_once(names: &Names)
     ensures { HoldsEachOnce names.now }
 {
     if names.len() > 0 {
-        let _first = names.text(Name(0));
+        let _first = names.text(word::GET_ITEM);
     }
 }

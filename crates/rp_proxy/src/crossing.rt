@@ -18,7 +18,7 @@ use crate::world::World;
 use rp_base::{ClassTag, Kind, Memory, Names, Oid, Op, OpEnd, Raised, Text, Value};
 use rp_decl::{Decl, Perm, Row};
 use rp_interact::Interaction;
-use rp_store::StoreFault;
+use rp_store::{Store, StoreFault, bytes_of};
 use rp_trail::{Entry, Verdict};
 use std::alloc::Global;
 
@@ -161,7 +161,14 @@ fn ask(
         return Err(OpEnd::StopCells);
     }
     let verdict = verdict_of(row, &mut world.running.interaction);
-    let refusal = refusal_of(alloc, verdict, op, &world.decl, &world.names)?;
+    let refusal = refusal_of(
+        alloc,
+        &mut world.store,
+        verdict,
+        op,
+        &world.decl,
+        &world.names,
+    )?;
     let entry = Entry {
         session: world.running.session,
         op,
@@ -197,9 +204,14 @@ fn verdict_of(row: Row, interaction: &mut Interaction) -> Verdict
     }
 }
 
-/// The exception that stands in place of an operation, None where its verdict allows it.
+/// The exception that stands in place of an operation, None where its verdict allows it. The text that tells a
+/// forbidden name is a new one, whose bytes the store counts.
+///
+/// # Errors
+/// `Memory` where a growth was refused, or the store holds no more bytes of such texts.
 fn refusal_of(
     alloc: Global,
+    store: &mut Store,
     verdict: Verdict,
     op: Op,
     decl: &Decl,
@@ -207,8 +219,9 @@ fn refusal_of(
 ) -> Result<Option<Raised>, Memory>
     requires declared { IsVerdictDeclared decl.now.permissions verdict }
     requires named { IsOpHeld names.now op }
-    ensures { IfOk result (λ r. r ≡ refusal (name_text names.now (op_name op))
+    ensures refusal { IfOk result (λ r. r ≡ refusal (name_text names.now (op_name op))
         (verdict_view decl.now.permissions verdict)) }
+    ensures same { store.new ≡ store.old }
 {
     Ok(match verdict {
         Verdict::Allowed(_) => None,
@@ -218,9 +231,22 @@ fn refusal_of(
         }),
         Verdict::Forbidden => Some(Raised {
             kind: Kind::ForbiddenAttribute,
-            text: Text::new(alloc, name_text(op, names))?,
+            text: held_text(alloc, store, name_text(op, names))?,
         }),
     })
+}
+
+/// A new text, whose bytes the store counts.
+///
+/// # Errors
+/// `Memory` where a growth was refused, or the store holds no more bytes of such texts.
+fn held_text(alloc: Global, store: &mut Store, word: &str) -> Result<Text, Memory>
+    ensures text { IfOk result (λ t. t ≡ chars word.now) }
+    ensures same { store.new ≡ store.old }
+{
+    let text = Text::new(alloc, word)?;
+    store.hold_text(bytes_of(&text))?;
+    Ok(text)
 }
 
 /// The name that is read or set.

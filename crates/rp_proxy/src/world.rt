@@ -1,6 +1,6 @@
 //! What sessions share, and the session that runs.
 
-use rp_base::{Memory, Meter, Name, Names, Printed};
+use rp_base::{Memory, Meter, Names, Printed, word};
 use rp_checker::Checkers;
 use rp_decl::Decl;
 use rp_interact::Interaction;
@@ -67,7 +67,7 @@ impl World {
         ensures trail { IfOk result (λ w. w.trail ≡ []) }
     {
         // Names tell with each word that they hold it once.
-        let _first = names.text(Name(0));
+        let _first = names.text(word::GET_ITEM);
         let checkers = Checkers::new(alloc, &decl)?;
         Ok(World {
             store: Store::new(alloc, limit, names.seed()),

@@ -1,10 +1,5 @@
 -- What the steps of a command say of the contents of its files.
 use Rattle.std.proofs.Common.{◌≡◌, ◌≢◌, ◌+◌, ◌++◌, ◌∙◌, ◌⊎◌, inl, inr, ℕ, false, List, [], map, codes, Option, Some, None, Result, Ok, Err, IfErr, IfOk, OnOk, IfSome, Vec, Global, ap, subst, sym, refl, arith}
-use Rattle.rp_first.specs.Rewrites.{Rewrites}
-use Rattle.rp_first.specs.Script.{IsSource}
-use Rattle.rp_first.specs.Source.{Statement}
-use Rattle.rp_first.specs.View.{statement_view}
-use Rattle.rp_first.specs.declared.tree.Stmt.{Stmt}
 use Rattle.rp_decl.specs.Declares.{Declares, version, shape, permission, class, group, role}
 use Rattle.rp_decl.specs.Faults.{HasFault, fault_line}
 use Rattle.rp_decl.specs.Records.{Declarations}
@@ -19,22 +14,21 @@ use Rattle.rp_interact.specs.declared.who_fault.WhoFault.TheVariants.{Unknown}
 use Rattle.rp_load.specs.Load.{Fault, fault_of, fault_line as load_fault_line}
 use Rattle.rp_policy.specs.Offences.{offences}
 use Rattle.rp_program.specs.Program.{IsProgram}
-use Rattle.rp_script.specs.Refusal.{line}
 use Rattle.rp_tree.specs.StatementTrees.{Stmts}
 use Rattle.rp_run.specs.Command.{Run, May, run}
 use Rattle.rp_run.specs.Contents.{Holds}
 use Rattle.rp_run.specs.Headline.{AdmitsRun, BeginsNamed}
 use Rattle.rp_run.specs.declared.answer.Answer.{Answer}
-use Rattle.rp_run.specs.Refusals.{BeginsNext, IsLong, IsWhole, OnRefusal, RefusesForms, RefusesLong, RefusesRun, RefusesScript, RefusesUndeclared, RefusesUnknown, RefusesUnread, TellsRead}
+use Rattle.rp_run.specs.Refusals.{BeginsNext, IsLong, IsWhole, OnRefusal, RefusesLong, RefusesRun, RefusesScript, RefusesUndeclared, RefusesUnknown, RefusesUnread, TellsRead}
 use Rattle.rp_run.specs.Steps.{BeginsOnly, IsCommandStatus}
 use Rattle.rp_run.specs.declared.reading.Contents.{Contents}
 use Rattle.rp_run.specs.declared.reading.Contents.TheVariants.{Whole, TooLong}
 use Rattle.rp_run.specs.declared.stop.Stop.{Stop}
 use Rattle.rp_run.specs.declared.stop.Stop.TheVariants.{Refused, Failed, Memory as StopMemory}
-use Rattle.rp_run.specs.Output.{session_block, end_status, may_status, may_text}
+use Rattle.rp_run.specs.Output.{may_status, may_text}
 use Rattle.rp_run.proofs.Reasons.{HasPlace}
 use Rattle.rp_run.specs.Told as told
-use Rattle.rp_run.specs.Told.{IsShort, IsTooLong, IsRead, IsAdmitted, ToldRefused, ToldUnread, ToldRun, ToldMay, script_prefix, too_long_line, undeclared_line, unknown_line, played}
+use Rattle.rp_run.specs.Told.{IsShort, IsTooLong, IsRead, IsAdmitted, ToldRefused, ToldUnread, ToldPlayed, ToldRun, ToldMay, run_names, script_prefix, too_long_line, undeclared_line, unknown_line}
 
 pub whole_read : (contents : Option (List ℕ → List ℕ)) (held : Contents) (bytes : Vec ℕ Global) (read path : List ℕ)
     → held ≡ Whole bytes → read ≡ path → IfSome contents (λ of. Holds held (of read)) → IsWhole contents bytes.items path
@@ -152,23 +146,14 @@ tells_refused r d None bytes text status whole refused ended = tt
 tells_refused r d (Some of) bytes text status whole refused ended =
     λ admitted. told.script_refused d admitted whole.1 (subst (λ file. ToldRefused script_prefix file text) whole.0 refused) ended
 
--- a program that no offence stands against
-module _ (r : Run) (d : Declarations) (bytes : List ℕ) (tree : Stmts (List ℕ)) (program : IsProgram bytes tree) (lawful : offences tree ≡ []) where
-  pub tells_lacking : (contents : Option (List ℕ → List ℕ)) (text : List ℕ) (status : ℕ) → IsWhole contents bytes r.script → ((source : List Statement) → ¬ IsSource tree source)
-      → text ≡ line script_prefix (codes "not yet") → status ≡ 4 → TellsScript r d contents text status
-  tells_lacking None text status whole none said ended = tt
-  tells_lacking (Some of) text status whole none said ended =
-      λ admitted. told.not_yet d admitted whole.1 tree (subst (λ file. IsProgram file tree) whole.0 program) lawful none said ended
-
-  -- the records are seen through names that have grown since
-  pub tells_session : (later : Declarations) (contents : Option (List ℕ → List ℕ)) (text : List ℕ) (names : List (List ℕ)) (script : List Stmt) (status : ℕ)
-      → later ≡ d → IsWhole contents bytes r.script → ((source : List Statement) × (IsSource tree source × Rewrites names source script))
-      → text ≡ session_block 1 r.who (played r later (map (statement_view names) script)) → status ≡ end_status (played r later (map (statement_view names) script)).answer
-      → TellsScript r d contents text status
-  tells_session later None text names script status same whole compiled said ended = tt
-  tells_session later (Some of) text names script status same whole (source, parts) said ended =
-      λ admitted. told.ran d admitted whole.1 tree (subst (λ file. IsProgram file tree) whole.0 program) lawful source parts.0
-      (said ∙ (λ i. session_block 1 r.who (played r (same i) (parts.1.same i)))) (ended ∙ (λ i. end_status (played r (same i) (parts.1.same i)).answer))
+-- a program that no offence stands against; the records are seen through names that have grown since
+pub tells_played : (r : Run) (d later : Declarations) (bytes : List ℕ) (names : List (List ℕ)) (tree : Stmts (List ℕ)) (contents : Option (List ℕ → List ℕ)) (text : List ℕ) (status : ℕ)
+    → IsProgram bytes tree → offences tree ≡ [] → later ≡ d → names ≡ run_names d bytes → IsWhole contents bytes r.script
+    → ToldPlayed r later names tree text status → TellsScript r d contents text status
+tells_played r d later bytes names tree None text status program lawful same are whole tells = tt
+tells_played r d later bytes names tree (Some of) text status program lawful same are whole tells = λ admitted.
+    told.ToldRun.played d admitted whole.1 tree (subst (λ file. IsProgram file tree) whole.0 program) lawful
+    (subst (λ ns. ToldPlayed r d ns tree text status) (are ∙ ap (run_names d) whole.0) (subst (λ (e : Declarations). ToldPlayed r e names tree text status) same tells))
 
 -- the script of a run is begun second
 pub begins_named : (r : Run) (old_path last_path : List ℕ) (before begun : ℕ) → BeginsOnly r.declarations before old_path → ((begun ≡ before) × (last_path ≡ old_path)) ⊎ BeginsNext r.script before begun last_path
@@ -247,17 +232,6 @@ refused_run r d contents bytes given stop admitted whole same says =
     refused_as (RefusesScript given) (λ a. TellsRun r contents a.text a.status.0) stop
     (λ a refused. tells_admitted r d contents a.text a.status.0 admitted
     (tells_refused r d contents bytes a.text a.status.0 whole (subst (λ (b : List ℕ). ToldRefused script_prefix b a.text) same refused.0) refused.1)) says
-
-pub forms_status : (tree : Stmts (List ℕ)) (stop : Stop) → OnRefusal (RefusesForms tree) stop → OnRefusal (λ a. IsCommandStatus a.status.0) stop
-forms_status tree stop says = refused_as (RefusesForms tree) (λ a. IsCommandStatus a.status.0) stop (λ a refused. four a.status.0 refused.2) says
-
-pub lacking_run : (r : Run) (d : Declarations) (contents : Option (List ℕ → List ℕ)) (bytes given : List ℕ) (tree : Stmts (List ℕ)) (stop : Stop)
-    → Admits r contents d → IsWhole contents bytes r.script → given ≡ bytes → IsProgram given tree → offences tree ≡ []
-    → OnRefusal (RefusesForms tree) stop → OnRefusal (λ a. TellsRun r contents a.text a.status.0) stop
-lacking_run r d contents bytes given tree stop admitted whole same program lawful says =
-    refused_as (RefusesForms tree) (λ a. TellsRun r contents a.text a.status.0) stop
-    (λ a refused. tells_admitted r d contents a.text a.status.0 admitted
-    (tells_lacking r d bytes tree (subst (λ (b : List ℕ). IsProgram b tree) same program) lawful contents a.text a.status.0 whole refused.0 refused.1 refused.2)) says
 
 -- ---- permissions
 

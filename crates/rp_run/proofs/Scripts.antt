@@ -16,7 +16,7 @@ use Rattle.rp_run.specs.declared.stop.Stop.{Stop}
 use Rattle.rp_run.proofs.Sayings.{refused_as}
 use Rattle.rp_program.specs.Program.{IsProgram}
 use Rattle.rp_run.specs.declared.answer.Answer.{Answer}
-use Rattle.rp_compile.specs.Compiled.{Compilation, IsCompiled}
+use Rattle.rp_compile.specs.Compiled.{Compilation, IsCompiled, source_tree}
 use Rattle.rp_print.proofs.Renamed.{printed_unnumbered}
 use Rattle.rp_print.specs.Statements.{printed}
 use Rattle.rp_run.specs.declared.command.Question.TheVariants.{Show}
@@ -101,12 +101,12 @@ printed_guarded words source result rewrites =
 
 -- what is told of a script that is shown
 pub tells_shown : (bytes : List ℕ) (words : List (List ℕ)) (c : Compilation) (tree : Tree) (line : List ℕ) (r : Result Answer MemoryFault)
-    → IsProgram bytes (without_blocks (named (word_of words) (view_tree c.source))) → offences (named (word_of words) (view_tree c.source)) ≡ []
+    → IsProgram bytes (without_blocks (named (word_of words) (source_tree c))) → offences (named (word_of words) (source_tree c)) ≡ []
     → IsCompiled c → tree ≡ c.rewritten → chars line ≡ printed (named (word_of words) (view_tree tree))
     → IfOk r (λ a. (a.text ≡ chars line) × (a.status.0 ≡ 0)) → TellsScript (told.said_to Show) bytes r
 tells_shown bytes words c tree line (Ok a) program lawful kept is text said = λ path short.
-    let source : Stmts (List ℕ) = named (word_of words) (view_tree c.source) in
+    let source : Stmts (List ℕ) = named (word_of words) (source_tree c) in
     told.ToldScript.accepted short (without_blocks source) program (offences-unnumbered (λ word. word) source ∙ lawful)
     (said.0 ∙ text ∙ ap (λ (t : Tree). printed (named (word_of words) (view_tree t))) is
-    ∙ printed_guarded words (view_tree c.source) (view_tree c.rewritten) kept.rewrites) said.1
+    ∙ printed_guarded words (source_tree c) (view_tree c.rewritten) kept.rewrites) said.1
 tells_shown bytes words c tree line (Err e) program lawful kept is text said = tt

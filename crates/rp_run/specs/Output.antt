@@ -8,7 +8,9 @@ use Rattle.rp_decl.specs.Declares.{Refusal, version, shape, permission, class, g
 use Rattle.rp_decl.specs.Faults.{line_of}
 use Rattle.rp_decl.specs.Records.{Declarations}
 use Rattle.rp_interact.specs.Why.{Reason, public, own, role as by_role, group as by_group, group_role, nothing, has_all, is_yes, why_of}
-use Rattle.rp_machine.specs.Meaning.{End, raised, no_cell, Outcome}
+use Rattle.rp_machine.specs.Meaning as first
+use Rattle.rp_meaning.specs.Sessions.{SessionEnd, well, cut_off}
+use Rattle.rp_ops.specs.Outcome.{raised, no_step, no_cell}
 
 -- ---- sessions
 
@@ -18,21 +20,28 @@ detail [] = []
 detail (c ∷ cs) = codes ": " ++ c ∷ cs
 
 -- how a session ended
-abbrev pub end_line : Result Value End → List ℕ
-end_line (Ok v) = codes "end ok\n"
-end_line (Err (raised r)) = codes "end " ++ kind_name r.kind ++ detail r.text ++ codes "\n"
-end_line (Err no_cell) = codes "end stopped cells\n"
+abbrev pub end_line : SessionEnd → List ℕ
+end_line well = codes "end ok\n"
+end_line (cut_off (raised r)) = codes "end " ++ kind_name r.kind ++ detail r.text ++ codes "\n"
+end_line (cut_off no_step) = codes "end stopped steps\n"
+end_line (cut_off no_cell) = codes "end stopped cells\n"
 
 -- the block of a session: its number and principals, what it printed, and how it ended
-abbrev pub session_block : ℕ → List ℕ → Outcome → List ℕ
-session_block number who outcome =
-    codes "session " ++ decimal number ++ codes " " ++ who ++ codes "\n" ++ outcome.state.printed ++ end_line outcome.answer
+abbrev pub session_block : ℕ → List ℕ → List ℕ → SessionEnd → List ℕ
+session_block number who printed end = codes "session " ++ decimal number ++ codes " " ++ who ++ codes "\n" ++ printed ++ end_line end
 
 -- 0 where the session ended well, 1 where an exception ended it, 5 where it was stopped
-abbrev pub end_status : Result Value End → ℕ
-end_status (Ok v) = 0
-end_status (Err (raised r)) = 1
-end_status (Err no_cell) = 5
+abbrev pub end_status : SessionEnd → ℕ
+end_status well = 0
+end_status (cut_off (raised r)) = 1
+end_status (cut_off no_step) = 5
+end_status (cut_off no_cell) = 5
+
+-- the end of a script of the first forms
+abbrev pub ended : Result Value first.End → SessionEnd
+ended (Ok v) = well
+ended (Err (first.raised r)) = cut_off (raised r)
+ended (Err first.no_cell) = cut_off no_cell
 
 -- ---- declarations
 

@@ -1,13 +1,9 @@
 -- What a step of a command says, and where it refuses.
-use Rattle.std.specs.Prelude.{◌≡◌, ◌+◌, ℕ, false, List, ◌++◌, codes, Option, Some, IfSome, Result, Ok, Err}
+use Rattle.std.specs.Prelude.{◌≡◌, ◌+◌, ℕ, false, List, Option, Some, IfSome, Result, Ok, Err}
 use Rattle.rp_decl.specs.Records.{Declarations}
 use Rattle.rp_decl.specs.View.{Placed, declarations_view}
 use Rattle.rp_decl.specs.Word.{is_among}
-use Rattle.rp_first.specs.Script.{IsSource}
-use Rattle.rp_first.specs.Source.{Statement}
 use Rattle.rp_interact.specs.Why.{first_unknown}
-use Rattle.rp_script.specs.Refusal.{line}
-use Rattle.rp_tree.specs.StatementTrees.{Stmts}
 use Rattle.rp_run.specs.Command.{Run}
 use Rattle.rp_run.specs.Told.{IsRead, IsShort, IsTooLong, ToldRefused, ToldRun, ToldUnread, script_prefix, too_long_line, undeclared_line, unknown_line}
 use Rattle.rp_run.specs.declared.answer.Answer.{Answer}
@@ -80,7 +76,3 @@ RefusesRun d ids a = (r : Run) (of : List ℕ → List ℕ) → r.ids ≡ ids �
 -- the bytes are no program, or offences stand against it
 abbrev pub RefusesScript : List ℕ → Answer → Type 0
 RefusesScript bytes a = ToldRefused script_prefix bytes a.text × (a.status.0 ≡ 4)
-
--- the machine lacks a form of the program
-abbrev pub RefusesForms : Stmts (List ℕ) → Answer → Type 0
-RefusesForms tree a = ((source : List Statement) → ¬ IsSource tree source) × (a.text ≡ line script_prefix (codes "not yet")) × (a.status.0 ≡ 4)

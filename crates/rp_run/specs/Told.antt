@@ -7,11 +7,16 @@ use Rattle.rp_decl.specs.Declares.{Declares, IsNoDocument, IsRefused, Refusal}
 use Rattle.rp_decl.specs.Records.{Declarations}
 use Rattle.rp_decl.specs.Word.{is_among}
 use Rattle.rp_interact.specs.Why.{first_unknown}
-use Rattle.rp_load.specs.Load.{Fault, fault_line, fault_of}
+use Rattle.rp_base.specs.Names.{first_words, with_words}
+use Rattle.rp_decl.specs.DeclaredWords.{declared_words}
+use Rattle.rp_load.specs.Load.{Fault, fault_line, fault_of, has_plain_fields}
 use Rattle.rp_machine.specs.Meaning.{Outcome, run_script, first_state}
 use Rattle.rp_policy.specs.Offences.{offences, offence_text}
 use Rattle.rp_program.specs.Fault.{IsFault, fault_text}
+use Rattle.rp_meaning.specs.Sessions.{SessionEnd}
+use Rattle.rp_play.specs.Played.{Plays}
 use Rattle.rp_program.specs.Program.{IsProgram}
+use Rattle.rp_program.specs.ProgramWords.{program_words}
 use Rattle.rp_program.specs.declared.fault.ProgramFault.{ProgramFault}
 use Rattle.rp_print.specs.Statements.{printed}
 use Rattle.rp_script.specs.Refusal.{line}
@@ -20,7 +25,7 @@ use Rattle.rp_run.specs.declared.command.Question.{Question}
 use Rattle.rp_run.specs.declared.command.Question.TheVariants.{Check, Show}
 use Rattle.rp_tree.specs.Marks.{guard}
 use Rattle.rp_tree.specs.StatementTrees.{Stmts}
-use Rattle.rp_run.specs.Output.{session_block, end_status, refusal_line, may_text, may_status}
+use Rattle.rp_run.specs.Output.{session_block, end_status, ended, refusal_line, may_text, may_status}
 
 -- the most bytes of a file that is read
 abbrev pub longest_file : ℕ
@@ -71,19 +76,41 @@ pub record IsAdmitted (r : Run) (contents : List ℕ → List ℕ) (d : Declarat
   pub runs : fault_of d ≡ None
   pub known : first_unknown d r.ids ≡ None
 
--- the most cells that a run may use
+-- the most steps of a session, and the most cells that a run may use
+abbrev pub most_steps : ℕ
+most_steps = 1000000
+
 abbrev pub most_cells : ℕ
 most_cells = 1000000
-
--- the direct meaning of a source script in a first session
-abbrev pub played : Run → Declarations → List Statement → Outcome
-played r d source = run_script d source (first_state d most_cells 1 r.ids)
 
 abbrev pub script_prefix : List ℕ
 script_prefix = codes "script 1: "
 
--- The first step that refuses decides, in the order of the constructors; else the script is run. It is not run yet where the machine lacks one of its
--- forms.
+-- the script is of the first forms, and runs over fields that are numbers and texts alone
+pub record IsFirst (d : Declarations) (tree : Stmts (List ℕ)) (source : List Statement) : Type 0 where
+  pub plain : has_plain_fields d ≡ true
+  pub forms : IsSource tree source
+
+-- its direct meaning in a first session
+abbrev pub first_played : Run → Declarations → List Statement → Outcome
+first_played r d source = run_script d source (first_state d most_cells 1 r.ids)
+
+-- the names of a run: the words of the operations, of its declarations and of its script, in this order, each once
+abbrev pub run_names : Declarations → List ℕ → List (List ℕ)
+run_names d bytes = with_words (with_words first_words (declared_words d)) (program_words bytes)
+
+-- What a script without an offence comes to, by its tree and the names of the run: its direct meaning. One that is not of the first forms may be said
+-- not to be run yet in place of that, where the machine lacks one of its forms, until it has them all.
+pub data ToldPlayed (r : Run) (d : Declarations) (names : List (List ℕ)) (tree : Stmts (List ℕ)) (text : List ℕ) (status : ℕ) : Type 0 where
+  first : (source : List Statement) → IsFirst d tree source
+      → text ≡ session_block 1 r.who (first_played r d source).state.printed (ended (first_played r d source).answer)
+      → status ≡ end_status (ended (first_played r d source).answer) → ToldPlayed r d names tree text status
+  ran : ((source : List Statement) → ¬ IsFirst d tree source) → (printed : List ℕ) (end : SessionEnd)
+      → Plays names d tree r.ids most_steps most_cells printed end
+      → text ≡ session_block 1 r.who printed end → status ≡ end_status end → ToldPlayed r d names tree text status
+  not_yet : ((source : List Statement) → ¬ IsFirst d tree source) → text ≡ line script_prefix (codes "not yet") → status ≡ 4 → ToldPlayed r d names tree text status
+
+-- The first step that refuses decides, in the order of the constructors; else the script is run.
 pub data ToldRun (r : Run) (contents : List ℕ → List ℕ) (text : List ℕ) (status : ℕ) : Type 0 where
   unread : ToldUnread r.declarations (contents r.declarations) text status → ToldRun r contents text status
   not_run : (d : Declarations) → IsRead (contents r.declarations) d → (f : Fault) → fault_of d ≡ Some f
@@ -93,11 +120,14 @@ pub data ToldRun (r : Run) (contents : List ℕ → List ℕ) (text : List ℕ) 
   long_script : (d : Declarations) → IsAdmitted r contents d → IsTooLong (contents r.script) → text ≡ too_long_line r.script → status ≡ 9 → ToldRun r contents text status
   script_refused : (d : Declarations) → IsAdmitted r contents d → IsShort (contents r.script) → ToldRefused script_prefix (contents r.script) text → status ≡ 4
       → ToldRun r contents text status
-  not_yet : (d : Declarations) → IsAdmitted r contents d → IsShort (contents r.script) → (tree : Stmts (List ℕ)) → IsProgram (contents r.script) tree → offences tree ≡ []
-      → ((source : List Statement) → ¬ IsSource tree source) → text ≡ line script_prefix (codes "not yet") → status ≡ 4 → ToldRun r contents text status
-  ran : (d : Declarations) → IsAdmitted r contents d → IsShort (contents r.script) → (tree : Stmts (List ℕ)) → IsProgram (contents r.script) tree → offences tree ≡ []
-      → (source : List Statement) → IsSource tree source
-      → text ≡ session_block 1 r.who (played r d source) → status ≡ end_status (played r d source).answer → ToldRun r contents text status
+  played : (d : Declarations) → IsAdmitted r contents d → IsShort (contents r.script) → (tree : Stmts (List ℕ)) → IsProgram (contents r.script) tree → offences tree ≡ []
+      → ToldPlayed r d (run_names d (contents r.script)) tree text status → ToldRun r contents text status
+
+-- what may be said in place of what a script comes to that is not of the first forms
+pub record IsNotYet (r : Run) (contents : List ℕ → List ℕ) (text : List ℕ) (status : ℕ) : Type 0 where
+  pub said : text ≡ line script_prefix (codes "not yet")
+  pub ends : status ≡ 4
+  pub other : (d : Declarations) → IsRead (contents r.declarations) d → (tree : Stmts (List ℕ)) → IsProgram (contents r.script) tree → (source : List Statement) → ¬ IsFirst d tree source
 
 -- ---- a script that is checked or shown
 
@@ -133,3 +163,7 @@ ToldCommand (may m) contents text status = ToldMay m contents text status
 abbrev pub Told : List (List ℕ) → (List ℕ → List ℕ) → List ℕ → ℕ → Type 0
 Told words contents text status =
     MatchOption (command_of words) ((text ≡ usage) × (status ≡ 2)) (λ command. ToldCommand command contents text status)
+
+-- this text and status may come in place of others
+abbrev pub MayComeInstead : List (List ℕ) → (List ℕ → List ℕ) → List ℕ → ℕ → Type 0
+MayComeInstead words contents text status = (r : Run) × (command_of words ≡ Some (run r)) × IsNotYet r contents text status

@@ -5,15 +5,14 @@ ghost use Rattle.std.specs.Char.{is_ascii};
 ghost use Rattle.std.specs.Fmt.{decimal};
 ghost use Rattle.std.specs.List.{list_all};
 ghost use Rattle.rp_base.specs.Kind.{kind_name};
-ghost use Rattle.rp_first.specs.Refusal.{refusal_line};
 ghost use Rattle.rp_script.specs.Refusal.{refusal_lines};
 ghost use Rattle.rp_run.specs.Command.{usage};
-ghost use Rattle.rp_run.specs.Output.{detail, end_line, end_status};
-ghost use Rattle.rp_run.specs.View.{end_view};
+ghost use Rattle.rp_run.specs.Output.{detail, end_line, end_status, session_block};
+ghost use Rattle.rp_session.specs.View.{end_view};
 
 use rp_base::{Memory, Names, Printed, Raised, Status, Text};
-use rp_first::{Refusal, refusal_text};
-use rp_script::Refusal as Unaccepted;
+use rp_script::{Refusal, refusal_text};
+use rp_session::SessionEnd;
 use std::alloc::Global;
 
 /// What the program says where its words give no command.
@@ -90,37 +89,22 @@ impl Answer {
         })
     }
 
-    /// The answer to a script that is refused, behind a prefix. It is refused only for want of memory,
-    /// which may be the script's refusal.
-    pub fn refused(alloc: Global, prefix: &str, refusal: &Refusal) -> Result<Answer, Memory>
-        ensures said { IfOk result (λ a. (a.text ≡ chars prefix.now ++ refusal_line refusal.now) × (a.status.0 ≡ 4)) }
-        ensures other { OnOk result (refusal.now ≢ Refusal.Memory) }
-    {
-        match refusal {
-            Refusal::Memory => Err(Memory),
-            _ => Ok(Answer {
-                text: refusal_text(alloc, prefix, refusal)?,
-                status: Status(4),
-            }),
-        }
-    }
-
     /// The answer to a script that is not accepted, each line behind a prefix. It is refused only for want of memory,
     /// which may be the script's refusal.
     pub fn unaccepted(
         alloc: Global,
         prefix: &str,
-        refusal: &Unaccepted,
+        refusal: &Refusal,
         names: &Names,
     ) -> Result<Answer, Memory>
         ensures said { IfOk result (λ a. (a.text ≡ refusal_lines names.now (chars prefix.now) refusal.now)
             × (a.status.0 ≡ 4)) }
-        ensures other { OnOk result (refusal.now ≢ Unaccepted.Memory) }
+        ensures other { OnOk result (refusal.now ≢ Refusal.Memory) }
     {
         match refusal {
-            Unaccepted::Memory => Err(Memory),
+            Refusal::Memory => Err(Memory),
             _ => Ok(Answer {
-                text: rp_script::refusal_text(alloc, prefix, refusal, names)?,
+                text: refusal_text(alloc, prefix, refusal, names)?,
                 status: Status(4),
             }),
         }
@@ -135,9 +119,8 @@ impl Answer {
         printed: &str,
         end: &SessionEnd,
     ) -> Result<Answer, Memory>
-        ensures text { IfOk result (λ a. a.text ≡
-            codes "session " ++ decimal number ++ codes " " ++ who.now ++ codes "\n"
-            ++ chars printed.now ++ end_line (end_view end.now)) }
+        ensures text { IfOk result (λ a. a.text
+            ≡ session_block number who.now (chars printed.now) (end_view end.now)) }
         ensures status { IfOk result (λ a. a.status.0 ≡ end_status (end_view end.now)) }
     {
         let mut text = Printed::new(alloc);
@@ -155,15 +138,6 @@ impl Answer {
     }
 }
 
-/// How a session ended.
-#[derive(Drop)]
-pub enum SessionEnd {
-    Well,
-    Raised(Raised),
-    /// No cell was left.
-    NoCell,
-}
-
 /// 0 where a session ended well, 1 where an exception ended it, 5 where it was stopped.
 fn end_status(end: &SessionEnd) -> Status
     ensures { result.0 ≡ end_status (end_view end.now) }
@@ -171,7 +145,8 @@ fn end_status(end: &SessionEnd) -> Status
     match end {
         SessionEnd::Well => Status(0),
         SessionEnd::Raised(_) => Status(1),
-        SessionEnd::NoCell => Status(5),
+        SessionEnd::StopSteps => Status(5),
+        SessionEnd::StopCells => Status(5),
     }
 }
 
@@ -182,7 +157,8 @@ fn add_end(text: &mut Printed, end: &SessionEnd) -> Result<(), Memory>
     match end {
         SessionEnd::Well => add_ascii(text, "end ok\n"),
         SessionEnd::Raised(raised) => add_raised(text, raised),
-        SessionEnd::NoCell => add_ascii(text, "end stopped cells\n"),
+        SessionEnd::StopSteps => add_ascii(text, "end stopped steps\n"),
+        SessionEnd::StopCells => add_ascii(text, "end stopped cells\n"),
     }
 }
 

@@ -1,7 +1,8 @@
 //! Declarations read from a file.
 
 ghost use Rattle.std.specs.Prelude.{◌≡◌, ◌≢◌, ◌⊎◌, ◌<◌, IfErr, IfOk, IsErrOf, OnOk};
-ghost use Rattle.rp_base.specs.Names.{first_words};
+ghost use Rattle.rp_base.specs.Names.{first_words, with_words};
+ghost use Rattle.rp_decl.specs.DeclaredWords.{declared_words};
 ghost use Rattle.rp_decl.specs.Faults.{IsFaultHeld, fault_line};
 ghost use Rattle.rp_decl.specs.View.{declarations_view};
 ghost use Rattle.rp_run.specs.Refusals.{OnRefusal, RefusesUnread, TellsRead};
@@ -33,6 +34,8 @@ pub fn read_declarations<F: Files>(
 
     ensures told { IfOk result (λ d. TellsRead path.now (F.contents files.old) (declarations_view names.new d)) }
     ensures well { IfOk result (IsReadInto names.new) }
+    ensures words { IfOk result (λ d. names.new
+        ≡ with_words first_words (declared_words (declarations_view names.new d))) }
     ensures refused { IfErr result (OnRefusal (RefusesUnread path.now (F.contents files.old))) }
     ensures status { IfErr result (OnRefusal (λ a. IsCommandStatus a.status.0)) }
 

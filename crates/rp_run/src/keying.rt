@@ -1,14 +1,20 @@
-//! Declarations and scripts read into names that are first hashed anew, from a secret and their bytes: who wrote the
-//! bytes cannot pick names that collide. Nothing that is told depends on it.
+//! Declarations and scripts read into names that are first hashed anew, from a secret and their bytes.
 
-ghost use Rattle.std.specs.Prelude.{◌≡◌, ◌≢◌, IfErr, IfOk, []};
-ghost use Rattle.rp_base.specs.Names.{word_of};
+// Who wrote the bytes cannot pick names that collide. Nothing that is told depends on it.
+
+ghost use Rattle.std.specs.Prelude.{◌≡◌, ◌≢◌, IfErr, IfOk, OnOk, []};
+ghost use Rattle.rp_base.specs.Names.{with_words, word_of};
+ghost use Rattle.rp_compile.specs.Compiled.{source_tree};
 ghost use Rattle.rp_script.specs.Refusal.{IsRefused};
 ghost use Rattle.rp_policy.specs.Offences.{offences};
+ghost use Rattle.rp_program.specs.Leaves.{IsTreeHeld};
 ghost use Rattle.rp_program.specs.Program.{IsProgram};
+ghost use Rattle.rp_program.specs.ProgramWords.{program_words};
 ghost use Rattle.rp_tree.specs.Maps.{named, without_blocks};
 ghost use Rattle.rp_tree.specs.StatementViews.{view_tree};
+ghost use Rattle.rp_decl.specs.Apart.{AreNamesApart};
 ghost use Rattle.rp_decl.specs.Consistency.{IsConsistent};
+ghost use Rattle.rp_decl.specs.DeclaredWords.{declared_words};
 ghost use Rattle.rp_decl.specs.Declares.{Declares};
 ghost use Rattle.rp_decl.specs.Faults.{HasFault, IsFaultHeld};
 ghost use Rattle.rp_decl.specs.InOrder.{AreInOrder};
@@ -39,9 +45,12 @@ pub fn declarations(alloc: Global, bytes: &[u8], names: &mut Names) -> Result<De
     ensures held { IfOk result (IsHeldBy names.new) }
     ensures ordered { IfOk result (λ d. AreInOrder (declarations_view names.new d)) }
     ensures consistent { IfOk result (λ d. IsConsistent (declarations_view names.new d)) }
+    ensures apart { IfOk result (λ d. AreNamesApart (declarations_view names.new d)) }
     ensures fault { IfErr result (HasFault bytes.now names.new) }
     ensures fault_held { IfErr result (IsFaultHeld names.new) }
     ensures names { GrowsTo names.old names.new }
+    ensures words { IfOk result (λ d. names.new
+        ≡ with_words names.old (declared_words (declarations_view names.new d))) }
 {
     rekey(names, bytes)?;
     rp_decl::declarations(alloc, bytes, names)
@@ -54,7 +63,10 @@ pub fn declarations(alloc: Global, bytes: &[u8], names: &mut Names) -> Result<De
 pub fn read_script(alloc: Global, bytes: &[u8], names: &mut Names) -> Result<Tree, Refusal>
     ensures program { IfOk result (λ t. IsProgram bytes.now (named (word_of names.new) (view_tree t))) }
     ensures lawful { IfOk result (λ t. offences (named (word_of names.new) (view_tree t)) ≡ []) }
+    ensures held { IfOk result (λ t. IsTreeHeld names.new (view_tree t)) }
     ensures refused { IfErr result (λ refusal. refusal ≢ Refusal.Memory → IsRefused names.new bytes.now refusal) }
+    ensures names { GrowsTo names.old names.new }
+    ensures words { OnOk result (names.new ≡ with_words names.old (program_words bytes.now)) }
 {
     rekey(names, bytes)?;
     rp_script::read_script(alloc, bytes, names)
@@ -66,8 +78,8 @@ pub fn read_script(alloc: Global, bytes: &[u8], names: &mut Names) -> Result<Tre
 /// As `rp_compile::compile_script`.
 pub fn compile_script(alloc: Global, bytes: &[u8], names: &mut Names) -> Result<Compiled, Refusal>
     ensures program { IfOk result (λ c. IsProgram bytes.now
-        (without_blocks (named (word_of names.new) (view_tree c.source)))) }
-    ensures lawful { IfOk result (λ c. offences (named (word_of names.new) (view_tree c.source)) ≡ []) }
+        (without_blocks (named (word_of names.new) (source_tree c)))) }
+    ensures lawful { IfOk result (λ c. offences (named (word_of names.new) (source_tree c)) ≡ []) }
     ensures refused { IfErr result (λ refusal. refusal ≢ Refusal.Memory → IsRefused names.new bytes.now refusal) }
     ensures names { GrowsTo names.old names.new }
 {

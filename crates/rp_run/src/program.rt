@@ -31,8 +31,8 @@ use std::alloc::Global;
 /// | 1 | the session ended by an exception; or the principals lack the permission |
 /// | 2 | the words give no command |
 /// | 3 | the declarations, a principal or the permission are refused |
-/// | 4 | the script is refused |
-/// | 5 | the session was stopped, as no cell was left |
+/// | 4 | the script is refused, or comes to a form that does not run yet |
+/// | 5 | the session was stopped, as no step or no cell was left |
 /// | 6 | a read failed; nothing is written |
 /// | 7 | a write failed; a front of the text is written |
 /// | 8 | want of memory; nothing is written |

@@ -5,8 +5,8 @@ use Rattle.std.proofs.lemmas.Grind.{get_or-set_at}
 use Rattle.std.proofs.lemmas.List.{get_or-set_other, length-set, set-get_or}
 use Rattle.std.proofs.lemmas.Option.{slice_get-get_or}
 use Rattle.rp_tree.specs.declared.expr.Expr.{Expr}
-use Rattle.rp_tree.specs.ExpressionViews as v
-use Rattle.rp_scope.specs.Numbers as n
+use Rattle.rp_tree.specs.ExpressionViews as views
+use Rattle.rp_scope.specs.Numbers as numbering
 use Rattle.rp_scope.specs.NumberSteps.{past, start}
 use Rattle.rp_scope.proofs.Runs.{start_step}
 
@@ -57,6 +57,6 @@ more_kept R before now i c within same rest old here k d less =
     subst (λ xs. R k (get_or xs k d) (get_or before k d)) (set-get_or now i c) (more R before now i c (get_or now i c) within same rest old here k d less)
 
 -- a default that is missing has no numbers
-pub no_default : (x : Option Expr) → ((y : Expr) → x ≡ Some y → ⊥) → n.maybe_numbers (v.maybe_of (option_map v.view_expr x)) ≡ []
+pub no_default : (x : Option Expr) → ((y : Expr) → x ≡ Some y → ⊥) → numbering.maybe_numbers (views.maybe_of (option_map views.view_expr x)) ≡ []
 no_default None none = refl
 no_default (Some y) none = absurd (none y refl)

@@ -3,10 +3,10 @@ use Rattle.std.proofs.Common.{◌≡◌, ℕ, List, [], ◌∷◌, Some, None, n
 use Rattle.rp_base.specs.declared.value.Line.{Line}
 use Rattle.rp_base.specs.declared.operator.BinOp.TheVariants.{Add}
 use Rattle.rp_tree.specs.declared.parts.Const.TheVariants.{Nil}
-use Rattle.rp_tree.specs.ExpressionTrees as t
+use Rattle.rp_tree.specs.ExpressionTrees as trees
 use Rattle.rp_tree.specs.declared.parts.Named.{Named}
 use Rattle.rp_tree.specs.ExpressionTrees.{Expr, Form, Place, Params}
-use Rattle.rp_tree.specs.StatementTrees as s
+use Rattle.rp_tree.specs.StatementTrees as stmt_trees
 use Rattle.rp_tree.specs.StatementTrees.{Stmt, StmtForm, Stmts}
 use Rattle.rp_scope.specs.declared.place.Place2.{Place2}
 use Rattle.rp_scope.specs.declared.place.Place2.TheVariants.{Local, Outer, Global}
@@ -20,35 +20,35 @@ abbrev named : ℕ → Named ℕ
 named n = record { name = n; line = record { 0 = 1 } }
 
 abbrev e : Form ℕ → Expr ℕ
-e x = t.node (record { 0 = 1 }) x
+e x = trees.node (record { 0 = 1 }) x
 
 abbrev a : StmtForm ℕ → Stmt ℕ
-a x = s.a_stmt (record { 0 = 1 }) x
+a x = stmt_trees.a_stmt (record { 0 = 1 }) x
 
 abbrev name : ℕ → Expr ℕ
-name n = e (t.name n)
+name n = e (trees.name n)
 
 abbrev to : ℕ → Place ℕ
-to n = t.to_name (named n)
+to n = trees.to_name (named n)
 
 abbrev no_params : Params ℕ
-no_params = t.params t.no_plain None None
+no_params = trees.params trees.no_plain None None
 
 -- `lambda: NAME`
 abbrev lambda : ℕ → ℕ → Expr ℕ
-lambda k n = e (t.lambda k no_params (name n))
+lambda k n = e (trees.lambda k no_params (name n))
 
 abbrev only : StmtForm ℕ → Stmts ℕ
-only x = s.stmt (a x) s.no_stmts
+only x = stmt_trees.stmt (a x) stmt_trees.no_stmts
 
 abbrev then_only : StmtForm ℕ → StmtForm ℕ → Stmts ℕ
-then_only x y = s.stmt (a x) (only y)
+then_only x y = stmt_trees.stmt (a x) (only y)
 
 abbrev set : ℕ → StmtForm ℕ
-set n = s.assign (to n ∷ []) (e (t.const Nil))
+set n = stmt_trees.assign (to n ∷ []) (e (trees.const Nil))
 
 abbrev def : ℕ → ℕ → Stmts ℕ → StmtForm ℕ
-def k n b = s.define k (named n) no_params b
+def k n b = stmt_trees.define k (named n) no_params b
 
 abbrev locals : List ℕ → Stmts ℕ → ℕ → List ℕ
 locals first x k = places.locals nat_eq first x k
@@ -58,7 +58,7 @@ place x k n = places.place nat_eq x k n
 
 -- (lambda: 7) if (lambda: 8) else (lambda: 9): the value where the test is true stands first
 abbrev choice : Stmts ℕ
-choice = only (s.evaluate (e (t.cond (lambda 2 8) (lambda 1 7) (lambda 3 9))))
+choice = only (stmt_trees.evaluate (e (trees.cond (lambda 2 8) (lambda 1 7) (lambda 3 9))))
 
 choice_numbers : block_numbers choice ≡ 1 ∷ 2 ∷ 3 ∷ []
 choice_numbers = refl
@@ -69,8 +69,8 @@ choice_has_numbers = refl
 -- [lambda: 5 for 5 in [6 for 6 in 7]]: the first iterable stands in the program
 abbrev listing : Stmts ℕ
 listing =
-    let inner : Expr ℕ = e (t.list_of 3 (name 6) (t.clause (t.a_clause (t.a_walk (t.to_place (to 6)) (name 7) None) t.no_exprs) t.no_clauses)) in
-    only (s.evaluate (e (t.list_of 1 (lambda 2 5) (t.clause (t.a_clause (t.a_walk (t.to_place (to 5)) inner None) t.no_exprs) t.no_clauses))))
+    let inner : Expr ℕ = e (trees.list_of 3 (name 6) (trees.clause (trees.a_clause (trees.a_walk (trees.to_place (to 6)) (name 7) None) trees.no_exprs) trees.no_clauses)) in
+    only (stmt_trees.evaluate (e (trees.list_of 1 (lambda 2 5) (trees.clause (trees.a_clause (trees.a_walk (trees.to_place (to 5)) inner None) trees.no_exprs) trees.no_clauses))))
 
 listing_numbers : block_numbers listing ≡ 1 ∷ 2 ∷ 3 ∷ []
 listing_numbers = refl
@@ -90,7 +90,7 @@ listing_own = refl
 -- def 1(2, 3=lambda: 2, *4): 5 = None; 2 = None; lambda: 3
 abbrev function : Stmts ℕ
 function =
-    only (s.define 1 (named 1) (t.params (t.plain (named 2) t.none (t.plain (named 3) (t.some (lambda 2 2)) t.no_plain)) (Some (named 4)) None) (s.stmt (a (set 5)) (s.stmt (a (set 2)) (only (s.evaluate (lambda 3 3))))))
+    only (stmt_trees.define 1 (named 1) (trees.params (trees.plain (named 2) trees.none (trees.plain (named 3) (trees.some (lambda 2 2)) trees.no_plain)) (Some (named 4)) None) (stmt_trees.stmt (a (set 5)) (stmt_trees.stmt (a (set 2)) (only (stmt_trees.evaluate (lambda 3 3))))))
 
 function_numbers : block_numbers function ≡ 1 ∷ 2 ∷ 3 ∷ []
 function_numbers = refl
@@ -117,7 +117,7 @@ function_inside = refl
 -- 5 = None
 abbrev globals : Stmts ℕ
 globals =
-    let inner : Stmts ℕ = s.stmt (a (s.global (named 3 ∷ named 6 ∷ []))) (then_only (set 4) (s.evaluate (lambda 3 3))) in
+    let inner : Stmts ℕ = stmt_trees.stmt (a (stmt_trees.global (named 3 ∷ named 6 ∷ []))) (then_only (set 4) (stmt_trees.evaluate (lambda 3 3))) in
     then_only (def 1 1 (then_only (set 3) (def 2 2 inner))) (set 5)
 
 globals_program : locals [] globals 0 ≡ 1 ∷ 3 ∷ 6 ∷ 5 ∷ []
@@ -143,7 +143,7 @@ globals_outwards = refl
 --     class 2:
 --         def 3(): 2
 abbrev classes : Stmts ℕ
-classes = only (def 1 1 (only (s.class (named 2) (only (def 2 3 (only (s.evaluate (name 2))))))))
+classes = only (def 1 1 (only (stmt_trees.class (named 2) (only (def 2 3 (only (stmt_trees.evaluate (name 2))))))))
 
 classes_numbers : block_numbers classes ≡ 1 ∷ 2 ∷ []
 classes_numbers = refl
@@ -167,9 +167,9 @@ classes_method = refl
 --         9.7 = None
 abbrev bindings : Stmts ℕ
 bindings =
-    let walk : StmtForm ℕ = s.for (t.a_walk (t.group (t.target (t.to_place (to 2)) (t.target (t.to_place (to 3)) t.no_targets))) (name 9) None) (only (s.aug (to 4) Add line (name 2) None)) in
-    let handler : s.Except ℕ = s.an_except (Some (name 9)) (Some (named 6)) (only (s.assign (t.to_attr (name 9) (named 7) None ∷ []) (e (t.const Nil)))) in
-    only (def 1 1 (then_only walk (s.try (only (s.del (to 5 ∷ to 4 ∷ []))) (s.except handler s.no_excepts) s.none s.none)))
+    let walk : StmtForm ℕ = stmt_trees.for (trees.a_walk (trees.group (trees.target (trees.to_place (to 2)) (trees.target (trees.to_place (to 3)) trees.no_targets))) (name 9) None) (only (stmt_trees.aug (to 4) Add line (name 2) None)) in
+    let handler : stmt_trees.Except ℕ = stmt_trees.an_except (Some (name 9)) (Some (named 6)) (only (stmt_trees.assign (trees.to_attr (name 9) (named 7) None ∷ []) (e (trees.const Nil)))) in
+    only (def 1 1 (then_only walk (stmt_trees.try (only (stmt_trees.del (to 5 ∷ to 4 ∷ []))) (stmt_trees.except handler stmt_trees.no_excepts) stmt_trees.none stmt_trees.none)))
 
 bindings_locals : locals [] bindings 1 ≡ 2 ∷ 3 ∷ 4 ∷ 5 ∷ 6 ∷ []
 bindings_locals = refl

@@ -1,5 +1,6 @@
 pub mod Appends
 pub mod BlockForms
+pub mod Cells
 pub mod Elements
 pub mod Examples
 pub mod Finds

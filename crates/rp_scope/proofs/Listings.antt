@@ -6,8 +6,8 @@ use Rattle.rp_scope.specs.declared.mentions.Mention.{Mention}
 use Rattle.rp_scope.specs.declared.mentions.Mention.TheVariants.{Bound, Global, GlobalWithin}
 use Rattle.rp_scope.specs.declared.mentions.Listing.{Listing}
 use Rattle.rp_scope.specs.declared.mentions.Listing.TheVariants.{Program, Function, Within}
-use Rattle.rp_tree.specs.Expressions as t
-use Rattle.rp_tree.specs.ExpressionViews as e
+use Rattle.rp_tree.specs.Expressions as tree
+use Rattle.rp_tree.specs.ExpressionViews as views
 use Rattle.rp_scope.specs.Bindings.{within, all_bound, target_names, targets_names, stmts_mentions, maybe_mentions}
 use Rattle.rp_tree.specs.declared.stmt.Stmt.{Stmt}
 use Rattle.rp_tree.specs.StatementViews.{view_stmts, view_maybe_stmts, block_items}
@@ -57,8 +57,8 @@ within-within (GlobalWithin n ∷ xs) = ap (λ zs. GlobalWithin n ∷ zs) (withi
 pub ruleset listings = (listed-append, listed-nil, all_bound-append, own-within, within-within, append_assoc)
 
 -- a target and those after it
-pub targets_part : (w : Listing) (p : t.Target) (ps : List t.Target) → listed w (all_bound (targets_names (e.targets_of (p ∷ ps)))) ≡ listed w (all_bound (target_names p)) ++ listed w (all_bound (targets_names (e.targets_of ps)))
-targets_part w p ps = ap (listed w) (all_bound-append (target_names p) (targets_names (e.targets_of ps))) ∙ listed-append w (all_bound (target_names p)) (all_bound (targets_names (e.targets_of ps)))
+pub targets_part : (w : Listing) (p : tree.Target) (ps : List tree.Target) → listed w (all_bound (targets_names (views.targets_of (p ∷ ps)))) ≡ listed w (all_bound (target_names p)) ++ listed w (all_bound (targets_names (views.targets_of ps)))
+targets_part w p ps = ap (listed w) (all_bound-append (target_names p) (targets_names (views.targets_of ps))) ∙ listed-append w (all_bound (target_names p)) (all_bound (targets_names (views.targets_of ps)))
 
 pub inner_none : {A : Type 0} (w : Listing) (xs ys : List (Mention A)) → w ≡ Function → ys ≡ ys ++ listed w (within xs)
 inner_none w xs ys is = sym (ap (λ v. ys ++ listed v (within xs)) is ∙ (ap (λ zs. ys ++ zs) (own-within xs) ∙ append-nil ys))
@@ -72,6 +72,10 @@ maybe_part (Some v) = refl
 pub on_ok : {A E : Type 0} (r : Result A E) {P Q : Type 0} → OnOk r P → (P → Q) → OnOk r Q
 on_ok (Ok x) h f = f h
 on_ok (Err e) h f = tt
+
+pub on_ok_always : {A E : Type 0} (r : Result A E) {P : Type 0} → P → OnOk r P
+on_ok_always (Ok x) h = h
+on_ok_always (Err e) h = tt
 
 pub listed_four : {A : Type 0} (w : Listing) (xs ys zs ws : List (Mention A)) → listed w (xs ++ ys ++ zs ++ ws) ≡ listed w xs ++ listed w ys ++ listed w zs ++ listed w ws
 listed_four w xs ys zs ws =

@@ -11,10 +11,10 @@ use Rattle.rp_tree.specs.Statements.{Stmts}
 use Rattle.rp_scope.specs.declared.place.Place2.{Place2}
 use Rattle.rp_scope.specs.declared.place.Place2.TheVariants.{Global}
 use Rattle.rp_scope.specs.Bindings.{Block, once, local_names, program_names}
-use Rattle.rp_scope.specs.Blocks as b
+use Rattle.rp_scope.specs.Blocks as code_blocks
 use Rattle.rp_scope.specs.Blocks.{Nest, blocks, telling_nests}
 use Rattle.rp_scope.specs.Numbers.{block_numbers, block_count, HasNumbers}
-use Rattle.rp_scope.specs.Places as p
+use Rattle.rp_scope.specs.Places as scope_places
 use Rattle.rp_scope.specs.Places.{place_at, place_in, place_from}
 use Rattle.rp_scope.specs.Scopes.{Scope, same_name, scope_in, telling_scopes, program_scope, scopes, locals_of, block_at, scope_place, found_in, around_of, found, found_from, AreScopesOf}
 use Rattle.rp_scope.proofs.Sets.{any_once}
@@ -40,11 +40,11 @@ entry [] = scope_in 0 (record { names = []; globals = [] })
 entry (x ∷ xs) = scope_in (number_of xs) x.1
 
 abbrev nests_of : Stmts → List (Nested Name)
-nests_of x = b.stmts_blocks nested [] x
+nests_of x = code_blocks.stmts_blocks nested [] x
 
 -- the table behind the program, the nests by their numbers, and the numbers, of the nests of a tree
 
-table_is : (x : Stmts) → map entry (nests_of x) ≡ b.stmts_blocks telling_scopes 0 x
+table_is : (x : Stmts) → map entry (nests_of x) ≡ code_blocks.stmts_blocks telling_scopes 0 x
 table_is x = tellings.stmts_blocks nested telling_scopes number_of entry (record { inside = λ k block y. refl; told = λ k block y. refl }) [] 0 refl x
 
 blocks_are : (x : Stmts) → map numbered (nests_of x) ≡ blocks x
@@ -174,7 +174,7 @@ counts_are : (x : Stmts) → HasNumbers x → Counts 1 (nests_of x)
 counts_are x has =
     numbers_are x ∙ (has ∙ ap (range_with_len 1) (sym (ap length (numbers_are x)) ∙ length-map (nests_of x) number_of))
 
-nest_at : (x : Stmts) (j : ℕ) → Counts 1 (nests_of x) → j < length (nests_of x) → p.nest_of x (suc j) ≡ bare (get_or (nests_of x) j [])
+nest_at : (x : Stmts) (j : ℕ) → Counts 1 (nests_of x) → j < length (nests_of x) → scope_places.nest_of x (suc j) ≡ bare (get_or (nests_of x) j [])
 nest_at x j counts within =
     ap (λ o. option_map_or (λ nest. nest) o []) (ap (lookup (nat_eq (suc j))) (sym (blocks_are x)) ∙ (ap (λ k. lookup (nat_eq k) (map numbered (nests_of x))) (one_more j) ∙ looked 1 (nests_of x) j [] counts within))
   where
@@ -188,19 +188,19 @@ program_locals first x = refl
 abbrev table_of : List Name → Stmts → List Scope
 table_of first x = program_scope first x ∷ map entry (nests_of x)
 
-local_of_nest : (first : List Name) (x : Stmts) (y : Nested Name) (j : ℕ) → number_of y ≡ 1 + j → (entry y).locals ≡ p.nest_locals same_name first x (bare y)
+local_of_nest : (first : List Name) (x : Stmts) (y : Nested Name) (j : ℕ) → number_of y ≡ 1 + j → (entry y).locals ≡ scope_places.nest_locals same_name first x (bare y)
 local_of_nest first x [] j e = absurd (omega (arith, e))
 local_of_nest first x (q ∷ rest) j e = locals_are (number_of rest) q.1
 
-locals_as : (first : List Name) (x : Stmts) → Counts 1 (nests_of x) → (k : ℕ) → k < length (table_of first x) → locals_of (table_of first x) k ≡ p.locals same_name first x k
+locals_as : (first : List Name) (x : Stmts) → Counts 1 (nests_of x) → (k : ℕ) → k < length (table_of first x) → locals_of (table_of first x) k ≡ scope_places.locals same_name first x k
 locals_as first x counts zero within = program_locals first x
 locals_as first x counts (suc j) within =
     let inside : j < length (nests_of x) = omega (arith, length-map (nests_of x) entry) in
     let y : Nested Name = get_or (nests_of x) j [] in
     let at : slice_get (map entry (nests_of x)) j ≡ Some (entry (get_or (nests_of x) j [])) = slice_get-map entry (nests_of x) j ∙ ap (option_map entry) (slice_get-get_or (nests_of x) j [] inside) in
-    ap (λ o. option_map_or (λ scope. scope.locals) o []) at ∙ (local_of_nest first x (get_or (nests_of x) j []) j (number_at 1 (nests_of x) j [] counts inside) ∙ ap (p.nest_locals same_name first x) (sym (nest_at x j counts inside)))
+    ap (λ o. option_map_or (λ scope. scope.locals) o []) at ∙ (local_of_nest first x (get_or (nests_of x) j []) j (number_at 1 (nests_of x) j [] counts inside) ∙ ap (scope_places.nest_locals same_name first x) (sym (nest_at x j counts inside)))
 
-found_as : (first : List Name) (x : Stmts) → Counts 1 (nests_of x) → (k : ℕ) (name : Name) → k < length (table_of first x) → found_from (table_of first x) k name ≡ p.place same_name x k name
+found_as : (first : List Name) (x : Stmts) → Counts 1 (nests_of x) → (k : ℕ) (name : Name) → k < length (table_of first x) → found_from (table_of first x) k name ≡ scope_places.place same_name x k name
 found_as first x counts zero name within = refl
 found_as first x counts (suc j) name within =
     let inside : j < length (nests_of x) = omega (arith, length-map (nests_of x) entry) in

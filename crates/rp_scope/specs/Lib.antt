@@ -6,3 +6,4 @@ pub mod Numbers
 pub mod NumberSteps
 pub mod Places
 pub mod Scopes
+pub mod Tables

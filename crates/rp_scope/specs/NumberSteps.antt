@@ -1,8 +1,8 @@
 -- Numbers that are given one after the other, as 64 bits tell them.
 use Rattle.std.specs.Prelude.{ℕ, suc, min, ◌-◌, ◌^◌, List, [], ◌∷◌, ◌++◌, take}
-use Rattle.rp_tree.specs.Expressions as t
-use Rattle.rp_tree.specs.Statements as s
-use Rattle.rp_scope.specs.Numbers as n
+use Rattle.rp_tree.specs.Expressions as tree
+use Rattle.rp_tree.specs.Statements as stmt_tree
+use Rattle.rp_scope.specs.Numbers as numbering
 
 -- the number after a number; the greatest one that 64 bits have stays
 unfoldable pub after : ℕ → ℕ
@@ -29,14 +29,14 @@ start f n xs i = past (all_numbers f (take i xs)) n
 
 -- the numbers in an element of each list that is no node
 
-abbrev pub pair_numbers : t.Expr × t.Expr → List ℕ
-pair_numbers p = n.expr_numbers p.0 ++ n.expr_numbers p.1
+abbrev pub pair_numbers : tree.Expr × tree.Expr → List ℕ
+pair_numbers p = numbering.expr_numbers p.0 ++ numbering.expr_numbers p.1
 
-abbrev pub second_numbers : {A : Type 0} → A × t.Expr → List ℕ
-second_numbers p = n.expr_numbers p.1
+abbrev pub second_numbers : {A : Type 0} → A × tree.Expr → List ℕ
+second_numbers p = numbering.expr_numbers p.1
 
-abbrev pub slice_numbers : t.Maybe × t.Maybe × t.Maybe → List ℕ
-slice_numbers p = n.maybe_numbers p.0 ++ n.maybe_numbers p.1 ++ n.maybe_numbers p.2
+abbrev pub slice_numbers : tree.Maybe × tree.Maybe × tree.Maybe → List ℕ
+slice_numbers p = numbering.maybe_numbers p.0 ++ numbering.maybe_numbers p.1 ++ numbering.maybe_numbers p.2
 
-abbrev pub branch_numbers : t.Expr × s.Stmts → List ℕ
-branch_numbers p = n.expr_numbers p.0 ++ n.block_numbers p.1
+abbrev pub branch_numbers : tree.Expr × stmt_tree.Stmts → List ℕ
+branch_numbers p = numbering.expr_numbers p.0 ++ numbering.block_numbers p.1

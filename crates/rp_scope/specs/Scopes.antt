@@ -6,6 +6,7 @@ use Rattle.std.specs.List.{list_any}
 use Rattle.std.specs.Option.{option_map_or}
 use Rattle.rp_base.specs.declared.value.Name.{Name}
 use Rattle.rp_tree.specs.Statements.{Stmts}
+use Rattle.rp_scope.specs.declared.place.Found.{Found}
 use Rattle.rp_scope.specs.declared.place.Place2.{Place2}
 use Rattle.rp_scope.specs.declared.place.Place2.TheVariants.{Global}
 use Rattle.rp_scope.specs.Bindings.{Block, once, local_names, program_names}
@@ -65,6 +66,10 @@ found (suc steps) table n block name = found_in (block_at table block) n name (f
 -- where a block finds a name; there are not more blocks around it than blocks
 abbrev pub found_from : List Scope → ℕ → Name → Place2
 found_from table block name = found (length table) table 0 block name
+
+-- what there is to know of a name in a block: where the block finds it, and its place among the local names of the program
+abbrev pub found_of : List Scope → ℕ → Name → Found
+found_of table block name = record { place = found_from table block name; global = position (same_name name) (locals_of table 0) }
 
 -- the table is that of the program, whose local names begin with the given ones: by number, each block has the local names, and finds each name, as the
 -- blocks around it have them

@@ -1,11 +1,11 @@
 //! The numbers of the code blocks in statements and in whole trees, set in place.
 
 ghost use Rattle.std.specs.Prelude.{◌≡◌, ◌<◌, ◌+◌, ◌^◌, map, option_map};
-ghost use Rattle.rp_tree.specs.ExpressionViews as e;
-ghost use Rattle.rp_tree.specs.StatementViews as v;
-ghost use Rattle.rp_tree.specs.Maps as m;
+ghost use Rattle.rp_tree.specs.ExpressionViews as views;
+ghost use Rattle.rp_tree.specs.StatementViews as stmt_views;
+ghost use Rattle.rp_tree.specs.Maps as maps;
 ghost use Rattle.rp_tree.specs.Maps.{no_blocks, without_blocks};
-ghost use Rattle.rp_scope.specs.Numbers as n;
+ghost use Rattle.rp_scope.specs.Numbers as numbering;
 ghost use Rattle.rp_scope.specs.Numbers.{block_numbers, block_count, IsNumbered};
 ghost use Rattle.rp_scope.specs.NumberSteps.{past, renumbered, branch_numbers};
 
@@ -21,20 +21,21 @@ use rp_tree::{Block, Branch, Except, Expr, Place, Stmt, StmtForm, Tree};
 /// Only these numbers change. No memory is asked for. A tree cannot have 2^64 code blocks in this machine's memory; if
 /// it had, all from there on would have the greatest number.
 pub fn number(tree: &mut Tree)
-    ensures kept { without_blocks (v.view_tree tree.new) ≡ without_blocks (v.view_tree tree.old) }
-    ensures numbers { block_numbers (v.view_tree tree.new) ≡ renumbered 1 (block_numbers (v.view_tree tree.old)) }
-    ensures numbered { block_count (v.view_tree tree.old) + 1 < 2 ^ 64
-        → IsNumbered (v.view_tree tree.old) (v.view_tree tree.new) }
+    ensures kept { without_blocks (stmt_views.view_tree tree.new) ≡ without_blocks (stmt_views.view_tree tree.old) }
+    ensures numbers { block_numbers (stmt_views.view_tree tree.new)
+        ≡ renumbered 1 (block_numbers (stmt_views.view_tree tree.old)) }
+    ensures numbered { block_count (stmt_views.view_tree tree.old) + 1 < 2 ^ 64
+        → IsNumbered (stmt_views.view_tree tree.old) (stmt_views.view_tree tree.new) }
 {
     let _next = number_block(&mut tree.body, 1);
 }
 
 fn number_value(value: &mut Option<Expr>, first: usize) -> usize
-    ensures kept { option_map (m.map_expr no_blocks) (option_map e.view_expr value.new)
-        ≡ option_map (m.map_expr no_blocks) (option_map e.view_expr value.old) }
-    ensures numbers { n.option_numbers (option_map e.view_expr value.new)
-        ≡ renumbered first (n.option_numbers (option_map e.view_expr value.old)) }
-    ensures next { result ≡ past (n.option_numbers (option_map e.view_expr value.old)) first }
+    ensures kept { option_map (maps.map_expr no_blocks) (option_map views.view_expr value.new)
+        ≡ option_map (maps.map_expr no_blocks) (option_map views.view_expr value.old) }
+    ensures numbers { numbering.option_numbers (option_map views.view_expr value.new)
+        ≡ renumbered first (numbering.option_numbers (option_map views.view_expr value.old)) }
+    ensures next { result ≡ past (numbering.option_numbers (option_map views.view_expr value.old)) first }
 {
     match value {
         None => first,
@@ -43,11 +44,11 @@ fn number_value(value: &mut Option<Expr>, first: usize) -> usize
 }
 
 fn number_places(places: &mut [Place], first: usize) -> usize
-    ensures kept { map (m.map_place no_blocks) (map e.view_place places.new)
-        ≡ map (m.map_place no_blocks) (map e.view_place places.old) }
-    ensures numbers { n.places_numbers (map e.view_place places.new)
-        ≡ renumbered first (n.places_numbers (map e.view_place places.old)) }
-    ensures next { result ≡ past (n.places_numbers (map e.view_place places.old)) first }
+    ensures kept { map (maps.map_place no_blocks) (map views.view_place places.new)
+        ≡ map (maps.map_place no_blocks) (map views.view_place places.old) }
+    ensures numbers { numbering.places_numbers (map views.view_place places.new)
+        ≡ renumbered first (numbering.places_numbers (map views.view_place places.old)) }
+    ensures next { result ≡ past (numbering.places_numbers (map views.view_place places.old)) first }
 {
     let mut next = first;
     'places: for place in places.iter_mut() {
@@ -58,9 +59,11 @@ fn number_places(places: &mut [Place], first: usize) -> usize
 
 #[cycle(number_stmt)]
 fn number_stmt(stmt: &mut Stmt, first: usize) -> usize
-    ensures kept { m.map_stmt no_blocks (v.view_stmt stmt.new) ≡ m.map_stmt no_blocks (v.view_stmt stmt.old) }
-    ensures numbers { n.stmt_numbers (v.view_stmt stmt.new) ≡ renumbered first (n.stmt_numbers (v.view_stmt stmt.old)) }
-    ensures next { result ≡ past (n.stmt_numbers (v.view_stmt stmt.old)) first }
+    ensures kept { maps.map_stmt no_blocks (stmt_views.view_stmt stmt.new)
+        ≡ maps.map_stmt no_blocks (stmt_views.view_stmt stmt.old) }
+    ensures numbers { numbering.stmt_numbers (stmt_views.view_stmt stmt.new)
+        ≡ renumbered first (numbering.stmt_numbers (stmt_views.view_stmt stmt.old)) }
+    ensures next { result ≡ past (numbering.stmt_numbers (stmt_views.view_stmt stmt.old)) first }
 {
     number_stmt_form(&mut stmt.form, first)
 }
@@ -68,11 +71,11 @@ fn number_stmt(stmt: &mut Stmt, first: usize) -> usize
 #[cycle(number_stmt)]
 #[tactic(auto, using(rp_tree::proofs::StatementEquations::variants, crate::proofs::Runs::append_runs))]
 fn number_stmt_form(form: &mut StmtForm, first: usize) -> usize
-    ensures kept { m.map_stmt_form no_blocks (v.view_stmt_form form.new)
-        ≡ m.map_stmt_form no_blocks (v.view_stmt_form form.old) }
-    ensures numbers { n.stmt_form_numbers (v.view_stmt_form form.new)
-        ≡ renumbered first (n.stmt_form_numbers (v.view_stmt_form form.old)) }
-    ensures next { result ≡ past (n.stmt_form_numbers (v.view_stmt_form form.old)) first }
+    ensures kept { maps.map_stmt_form no_blocks (stmt_views.view_stmt_form form.new)
+        ≡ maps.map_stmt_form no_blocks (stmt_views.view_stmt_form form.old) }
+    ensures numbers { numbering.stmt_form_numbers (stmt_views.view_stmt_form form.new)
+        ≡ renumbered first (numbering.stmt_form_numbers (stmt_views.view_stmt_form form.old)) }
+    ensures next { result ≡ past (numbering.stmt_form_numbers (stmt_views.view_stmt_form form.old)) first }
 {
     match form {
         StmtForm::Expr(expr) => number_expr(expr, first),
@@ -127,10 +130,11 @@ fn number_stmt_form(form: &mut StmtForm, first: usize) -> usize
 
 #[cycle(number_stmt)]
 fn number_block(stmts: &mut [Stmt], first: usize) -> usize
-    ensures kept { m.map_stmts no_blocks (v.view_stmts stmts.new) ≡ m.map_stmts no_blocks (v.view_stmts stmts.old) }
-    ensures numbers { block_numbers (v.view_stmts stmts.new)
-        ≡ renumbered first (block_numbers (v.view_stmts stmts.old)) }
-    ensures next { result ≡ past (block_numbers (v.view_stmts stmts.old)) first }
+    ensures kept { maps.map_stmts no_blocks (stmt_views.view_stmts stmts.new)
+        ≡ maps.map_stmts no_blocks (stmt_views.view_stmts stmts.old) }
+    ensures numbers { block_numbers (stmt_views.view_stmts stmts.new)
+        ≡ renumbered first (block_numbers (stmt_views.view_stmts stmts.old)) }
+    ensures next { result ≡ past (block_numbers (stmt_views.view_stmts stmts.old)) first }
 {
     let mut next = first;
     'stmts: for stmt in stmts.iter_mut() {
@@ -142,13 +146,13 @@ fn number_block(stmts: &mut [Stmt], first: usize) -> usize
 #[cycle(number_stmt)]
 #[tactic(auto, using(crate::proofs::Runs::append_runs))]
 fn number_branch(branch: &mut Branch, first: usize) -> usize
-    ensures test { m.map_expr no_blocks (v.view_branch branch.new).0
-        ≡ m.map_expr no_blocks (v.view_branch branch.old).0 }
-    ensures body { m.map_stmts no_blocks (v.view_branch branch.new).1
-        ≡ m.map_stmts no_blocks (v.view_branch branch.old).1 }
-    ensures numbers { branch_numbers (v.view_branch branch.new)
-        ≡ renumbered first (branch_numbers (v.view_branch branch.old)) }
-    ensures next { result ≡ past (branch_numbers (v.view_branch branch.old)) first }
+    ensures test { maps.map_expr no_blocks (stmt_views.view_branch branch.new).0
+        ≡ maps.map_expr no_blocks (stmt_views.view_branch branch.old).0 }
+    ensures body { maps.map_stmts no_blocks (stmt_views.view_branch branch.new).1
+        ≡ maps.map_stmts no_blocks (stmt_views.view_branch branch.old).1 }
+    ensures numbers { branch_numbers (stmt_views.view_branch branch.new)
+        ≡ renumbered first (branch_numbers (stmt_views.view_branch branch.old)) }
+    ensures next { result ≡ past (branch_numbers (stmt_views.view_branch branch.old)) first }
 {
     let body_first = number_expr(&mut branch.test, first);
     number_block(&mut branch.body, body_first)
@@ -156,11 +160,13 @@ fn number_branch(branch: &mut Branch, first: usize) -> usize
 
 #[cycle(number_stmt)]
 fn number_branches(branches: &mut [Branch], first: usize) -> usize
-    ensures kept { m.map_branches no_blocks (v.branches_of (map v.view_branch branches.new))
-        ≡ m.map_branches no_blocks (v.branches_of (map v.view_branch branches.old)) }
-    ensures numbers { n.branches_numbers (v.branches_of (map v.view_branch branches.new))
-        ≡ renumbered first (n.branches_numbers (v.branches_of (map v.view_branch branches.old))) }
-    ensures next { result ≡ past (n.branches_numbers (v.branches_of (map v.view_branch branches.old))) first }
+    ensures kept { maps.map_branches no_blocks (stmt_views.branches_of (map stmt_views.view_branch branches.new))
+        ≡ maps.map_branches no_blocks (stmt_views.branches_of (map stmt_views.view_branch branches.old)) }
+    ensures numbers { numbering.branches_numbers (stmt_views.branches_of (map stmt_views.view_branch branches.new))
+        ≡ renumbered first
+        (numbering.branches_numbers (stmt_views.branches_of (map stmt_views.view_branch branches.old))) }
+    ensures next { result
+        ≡ past (numbering.branches_numbers (stmt_views.branches_of (map stmt_views.view_branch branches.old))) first }
 {
     let mut next = first;
     'branches: for branch in branches.iter_mut() {
@@ -172,11 +178,11 @@ fn number_branches(branches: &mut [Branch], first: usize) -> usize
 #[cycle(number_stmt)]
 #[tactic(auto, using(crate::proofs::Runs::append_runs))]
 fn number_handler(handler: &mut Except, first: usize) -> usize
-    ensures kept { m.map_except no_blocks (v.view_except handler.new)
-        ≡ m.map_except no_blocks (v.view_except handler.old) }
-    ensures numbers { n.except_numbers (v.view_except handler.new)
-        ≡ renumbered first (n.except_numbers (v.view_except handler.old)) }
-    ensures next { result ≡ past (n.except_numbers (v.view_except handler.old)) first }
+    ensures kept { maps.map_except no_blocks (stmt_views.view_except handler.new)
+        ≡ maps.map_except no_blocks (stmt_views.view_except handler.old) }
+    ensures numbers { numbering.except_numbers (stmt_views.view_except handler.new)
+        ≡ renumbered first (numbering.except_numbers (stmt_views.view_except handler.old)) }
+    ensures next { result ≡ past (numbering.except_numbers (stmt_views.view_except handler.old)) first }
 {
     let body_first = number_value(&mut handler.kind, first);
     number_block(&mut handler.body, body_first)
@@ -184,11 +190,13 @@ fn number_handler(handler: &mut Except, first: usize) -> usize
 
 #[cycle(number_stmt)]
 fn number_handlers(handlers: &mut [Except], first: usize) -> usize
-    ensures kept { m.map_excepts no_blocks (v.excepts_of (map v.view_except handlers.new))
-        ≡ m.map_excepts no_blocks (v.excepts_of (map v.view_except handlers.old)) }
-    ensures numbers { n.excepts_numbers (v.excepts_of (map v.view_except handlers.new))
-        ≡ renumbered first (n.excepts_numbers (v.excepts_of (map v.view_except handlers.old))) }
-    ensures next { result ≡ past (n.excepts_numbers (v.excepts_of (map v.view_except handlers.old))) first }
+    ensures kept { maps.map_excepts no_blocks (stmt_views.excepts_of (map stmt_views.view_except handlers.new))
+        ≡ maps.map_excepts no_blocks (stmt_views.excepts_of (map stmt_views.view_except handlers.old)) }
+    ensures numbers { numbering.excepts_numbers (stmt_views.excepts_of (map stmt_views.view_except handlers.new))
+        ≡ renumbered first
+        (numbering.excepts_numbers (stmt_views.excepts_of (map stmt_views.view_except handlers.old))) }
+    ensures next { result
+        ≡ past (numbering.excepts_numbers (stmt_views.excepts_of (map stmt_views.view_except handlers.old))) first }
 {
     let mut next = first;
     'handlers: for handler in handlers.iter_mut() {

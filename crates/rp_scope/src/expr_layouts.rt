@@ -1,12 +1,12 @@
 //! The scopes of the code blocks in expressions and in their parts.
 
 ghost use Rattle.std.specs.Prelude.{◌≡◌, ◌++◌, map, option_map, OnOk};
-ghost use Rattle.rp_tree.specs.ExpressionViews as v;
-ghost use Rattle.rp_scope.specs.Blocks as b;
+ghost use Rattle.rp_tree.specs.ExpressionViews as views;
+ghost use Rattle.rp_scope.specs.Blocks as code_blocks;
 ghost use Rattle.rp_scope.specs.BlockSteps.{slice_blocks};
 ghost use Rattle.rp_scope.specs.Scopes.{telling_scopes};
 
-use crate::layouts::{Layouts, add_comprehension, add_lambda};
+use crate::scopes::{Scopes, add_comprehension, add_lambda};
 use rp_base::{BinOp, Memory};
 use rp_tree::{
     Arg, Clause, Expr, ExprForm, Named, Params, Place, Slice, Target, Test, Trailer, Walk,
@@ -17,11 +17,12 @@ use std::alloc::Global;
 #[cycle(lay_out_expr)]
 pub fn lay_out_expr(
     alloc: Global,
-    layouts: &mut Layouts,
+    layouts: &mut Scopes,
     around: usize,
     expr: &Expr,
 ) -> Result<(), Memory>
-    ensures { OnOk result (layouts.new ≡ layouts.old ++ b.expr_blocks telling_scopes around (v.view_expr expr.now)) }
+    ensures { OnOk result (layouts.new
+        ≡ layouts.old ++ code_blocks.expr_blocks telling_scopes around (views.view_expr expr.now)) }
 {
     lay_out_form(alloc, layouts, around, &expr.form)
 }
@@ -30,14 +31,15 @@ pub fn lay_out_expr(
 #[tactic(auto, using(rp_tree::proofs::ExpressionEquations::variants, crate::proofs::Appends::appends))]
 fn lay_out_form(
     alloc: Global,
-    layouts: &mut Layouts,
+    layouts: &mut Scopes,
     around: usize,
     form: &ExprForm,
 ) -> Result<(), Memory>
-    ensures { OnOk result (layouts.new ≡ layouts.old ++ b.form_blocks telling_scopes around (v.view_form form.now)) }
+    ensures { OnOk result (layouts.new
+        ≡ layouts.old ++ code_blocks.form_blocks telling_scopes around (views.view_form form.now)) }
 {
     match form {
-        ExprForm::Name(_) => Ok(()),
+        ExprForm::Name(name) => layouts.note(around, *name),
         ExprForm::Int(_) => Ok(()),
         ExprForm::Text(_) => Ok(()),
         ExprForm::Const(_) => Ok(()),
@@ -92,12 +94,13 @@ fn lay_out_form(
 #[tactic(auto, using(crate::proofs::Appends::appends))]
 fn lay_out_option(
     alloc: Global,
-    layouts: &mut Layouts,
+    layouts: &mut Scopes,
     around: usize,
     expr: &Option<Expr>,
 ) -> Result<(), Memory>
     ensures { OnOk result (layouts.new
-        ≡ layouts.old ++ b.maybe_blocks telling_scopes around (v.maybe_of (option_map v.view_expr expr.now))) }
+        ≡ layouts.old
+        ++ code_blocks.maybe_blocks telling_scopes around (views.maybe_of (option_map views.view_expr expr.now))) }
 {
     match expr {
         None => Ok(()),
@@ -109,12 +112,13 @@ fn lay_out_option(
 #[tactic(auto, using(crate::proofs::Appends::appends))]
 fn lay_out_exprs(
     alloc: Global,
-    layouts: &mut Layouts,
+    layouts: &mut Scopes,
     around: usize,
     exprs: &[Expr],
 ) -> Result<(), Memory>
     ensures { OnOk result (layouts.new
-        ≡ layouts.old ++ b.exprs_blocks telling_scopes around (v.exprs_of (map v.view_expr exprs.now))) }
+        ≡ layouts.old
+        ++ code_blocks.exprs_blocks telling_scopes around (views.exprs_of (map views.view_expr exprs.now))) }
 {
     'exprs: for expr in exprs {
         lay_out_expr(alloc, layouts, around, expr)?;
@@ -126,12 +130,13 @@ fn lay_out_exprs(
 #[tactic(auto, using(crate::proofs::Appends::appends))]
 fn lay_out_pairs(
     alloc: Global,
-    layouts: &mut Layouts,
+    layouts: &mut Scopes,
     around: usize,
     pairs: &[(Expr, Expr)],
 ) -> Result<(), Memory>
     ensures { OnOk result (layouts.new
-        ≡ layouts.old ++ b.pairs_blocks telling_scopes around (v.pairs_of (map v.view_pair pairs.now))) }
+        ≡ layouts.old
+        ++ code_blocks.pairs_blocks telling_scopes around (views.pairs_of (map views.view_pair pairs.now))) }
 {
     'pairs: for pair in pairs {
         lay_out_expr(alloc, layouts, around, &pair.0)?;
@@ -144,12 +149,13 @@ fn lay_out_pairs(
 #[tactic(auto, using(crate::proofs::Appends::appends))]
 fn lay_out_tests(
     alloc: Global,
-    layouts: &mut Layouts,
+    layouts: &mut Scopes,
     around: usize,
     tests: &[(Test, Expr)],
 ) -> Result<(), Memory>
     ensures { OnOk result (layouts.new
-        ≡ layouts.old ++ b.tests_blocks telling_scopes around (v.tests_of (map v.view_test tests.now))) }
+        ≡ layouts.old
+        ++ code_blocks.tests_blocks telling_scopes around (views.tests_of (map views.view_test tests.now))) }
 {
     'tests: for test in tests {
         lay_out_expr(alloc, layouts, around, &test.1)?;
@@ -161,12 +167,12 @@ fn lay_out_tests(
 #[tactic(auto, using(crate::proofs::Appends::appends))]
 fn lay_out_operands(
     alloc: Global,
-    layouts: &mut Layouts,
+    layouts: &mut Scopes,
     around: usize,
     operands: &[(BinOp, Expr)],
 ) -> Result<(), Memory>
     ensures { OnOk result (layouts.new
-        ≡ layouts.old ++ b.ops_blocks telling_scopes around (v.ops_of (map v.view_op operands.now))) }
+        ≡ layouts.old ++ code_blocks.ops_blocks telling_scopes around (views.ops_of (map views.view_op operands.now))) }
 {
     'operands: for operand in operands {
         lay_out_expr(alloc, layouts, around, &operand.1)?;
@@ -178,13 +184,14 @@ fn lay_out_operands(
 #[tactic(auto, using(crate::proofs::Appends::appends))]
 fn lay_out_clauses(
     alloc: Global,
-    layouts: &mut Layouts,
+    layouts: &mut Scopes,
     around: usize,
     inside: usize,
     clauses: &[Clause],
 ) -> Result<(), Memory>
     ensures { OnOk result (layouts.new
-        ≡ layouts.old ++ b.clauses_blocks telling_scopes around inside (v.clauses_of (map v.view_clause clauses.now))) }
+        ≡ layouts.old ++ code_blocks.clauses_blocks telling_scopes around inside
+        (views.clauses_of (map views.view_clause clauses.now))) }
 {
     let mut before = around;
     'clauses: for clause in clauses {
@@ -198,13 +205,13 @@ fn lay_out_clauses(
 #[tactic(auto, using(crate::proofs::Appends::appends))]
 fn lay_out_clause(
     alloc: Global,
-    layouts: &mut Layouts,
+    layouts: &mut Scopes,
     around: usize,
     inside: usize,
     clause: &Clause,
 ) -> Result<(), Memory>
     ensures { OnOk result (layouts.new
-        ≡ layouts.old ++ b.clause_blocks telling_scopes around inside (v.view_clause clause.now)) }
+        ≡ layouts.old ++ code_blocks.clause_blocks telling_scopes around inside (views.view_clause clause.now)) }
 {
     lay_out_walk(alloc, layouts, around, inside, &clause.walk)?;
     lay_out_exprs(alloc, layouts, inside, &clause.tests)
@@ -216,13 +223,13 @@ fn lay_out_clause(
 #[tactic(auto, using(crate::proofs::Appends::appends))]
 pub fn lay_out_walk(
     alloc: Global,
-    layouts: &mut Layouts,
+    layouts: &mut Scopes,
     around: usize,
     inside: usize,
     walk: &Walk,
 ) -> Result<(), Memory>
     ensures { OnOk result (layouts.new
-        ≡ layouts.old ++ b.walk_blocks telling_scopes around inside (v.view_walk walk.now)) }
+        ≡ layouts.old ++ code_blocks.walk_blocks telling_scopes around inside (views.view_walk walk.now)) }
 {
     lay_out_target(alloc, layouts, inside, &walk.target)?;
     lay_out_expr(alloc, layouts, around, &walk.of)
@@ -232,12 +239,12 @@ pub fn lay_out_walk(
 #[cycle(lay_out_expr)]
 pub fn lay_out_target(
     alloc: Global,
-    layouts: &mut Layouts,
+    layouts: &mut Scopes,
     around: usize,
     target: &Target,
 ) -> Result<(), Memory>
     ensures { OnOk result (layouts.new
-        ≡ layouts.old ++ b.target_blocks telling_scopes around (v.view_target target.now)) }
+        ≡ layouts.old ++ code_blocks.target_blocks telling_scopes around (views.view_target target.now)) }
 {
     match target {
         Target::Place(place) => lay_out_place(alloc, layouts, around, place),
@@ -249,12 +256,13 @@ pub fn lay_out_target(
 #[tactic(auto, using(crate::proofs::Appends::appends))]
 fn lay_out_targets(
     alloc: Global,
-    layouts: &mut Layouts,
+    layouts: &mut Scopes,
     around: usize,
     targets: &[Target],
 ) -> Result<(), Memory>
     ensures { OnOk result (layouts.new
-        ≡ layouts.old ++ b.targets_blocks telling_scopes around (v.targets_of (map v.view_target targets.now))) }
+        ≡ layouts.old
+        ++ code_blocks.targets_blocks telling_scopes around (views.targets_of (map views.view_target targets.now))) }
 {
     'targets: for target in targets {
         lay_out_target(alloc, layouts, around, target)?;
@@ -267,14 +275,15 @@ fn lay_out_targets(
 #[tactic(auto, using(crate::proofs::Appends::appends))]
 pub fn lay_out_place(
     alloc: Global,
-    layouts: &mut Layouts,
+    layouts: &mut Scopes,
     around: usize,
     place: &Place,
 ) -> Result<(), Memory>
-    ensures { OnOk result (layouts.new ≡ layouts.old ++ b.place_blocks telling_scopes around (v.view_place place.now)) }
+    ensures { OnOk result (layouts.new
+        ≡ layouts.old ++ code_blocks.place_blocks telling_scopes around (views.view_place place.now)) }
 {
     match place {
-        Place::Name(_) => Ok(()),
+        Place::Name(named) => layouts.note(around, named.name),
         Place::Attr(object, _, _) => lay_out_expr(alloc, layouts, around, object),
         Place::Item(container, key, _) => {
             lay_out_expr(alloc, layouts, around, container)?;
@@ -287,12 +296,12 @@ pub fn lay_out_place(
 #[cycle(lay_out_expr)]
 pub fn lay_out_params(
     alloc: Global,
-    layouts: &mut Layouts,
+    layouts: &mut Scopes,
     around: usize,
     params: &Params,
 ) -> Result<(), Memory>
     ensures { OnOk result (layouts.new
-        ≡ layouts.old ++ b.params_blocks telling_scopes around (v.view_params params.now)) }
+        ≡ layouts.old ++ code_blocks.params_blocks telling_scopes around (views.view_params params.now)) }
 {
     lay_out_defaults(alloc, layouts, around, &params.plain)
 }
@@ -301,12 +310,13 @@ pub fn lay_out_params(
 #[tactic(auto, using(crate::proofs::Appends::appends))]
 fn lay_out_defaults(
     alloc: Global,
-    layouts: &mut Layouts,
+    layouts: &mut Scopes,
     around: usize,
     plain: &[(Named, Option<Expr>)],
 ) -> Result<(), Memory>
     ensures { OnOk result (layouts.new
-        ≡ layouts.old ++ b.plain_blocks telling_scopes around (v.plain_of (map v.view_plain plain.now))) }
+        ≡ layouts.old
+        ++ code_blocks.plain_blocks telling_scopes around (views.plain_of (map views.view_plain plain.now))) }
 {
     'plain: for param in plain {
         if let Some(default) = &param.1 {
@@ -320,12 +330,12 @@ fn lay_out_defaults(
 #[tactic(auto, using(rp_tree::proofs::ExpressionEquations::trailer_slice, crate::proofs::Appends::appends))]
 fn lay_out_trailer(
     alloc: Global,
-    layouts: &mut Layouts,
+    layouts: &mut Scopes,
     around: usize,
     trailer: &Trailer,
 ) -> Result<(), Memory>
     ensures { OnOk result (layouts.new
-        ≡ layouts.old ++ b.trailer_blocks telling_scopes around (v.view_trailer trailer.now)) }
+        ≡ layouts.old ++ code_blocks.trailer_blocks telling_scopes around (views.view_trailer trailer.now)) }
 {
     match trailer {
         Trailer::Attr(_, _) => Ok(()),
@@ -339,11 +349,12 @@ fn lay_out_trailer(
 #[tactic(auto, using(crate::proofs::Appends::appends))]
 fn lay_out_slice(
     alloc: Global,
-    layouts: &mut Layouts,
+    layouts: &mut Scopes,
     around: usize,
     slice: &Slice,
 ) -> Result<(), Memory>
-    ensures { OnOk result (layouts.new ≡ layouts.old ++ slice_blocks telling_scopes around (v.view_slice slice.now)) }
+    ensures { OnOk result (layouts.new
+        ≡ layouts.old ++ slice_blocks telling_scopes around (views.view_slice slice.now)) }
 {
     lay_out_option(alloc, layouts, around, &slice.from)?;
     lay_out_option(alloc, layouts, around, &slice.to)?;
@@ -354,12 +365,13 @@ fn lay_out_slice(
 #[tactic(auto, using(crate::proofs::Appends::appends))]
 fn lay_out_trailers(
     alloc: Global,
-    layouts: &mut Layouts,
+    layouts: &mut Scopes,
     around: usize,
     trailers: &[Trailer],
 ) -> Result<(), Memory>
     ensures { OnOk result (layouts.new
-        ≡ layouts.old ++ b.trailers_blocks telling_scopes around (v.trailers_of (map v.view_trailer trailers.now))) }
+        ≡ layouts.old ++ code_blocks.trailers_blocks telling_scopes around
+        (views.trailers_of (map views.view_trailer trailers.now))) }
 {
     'trailers: for trailer in trailers {
         lay_out_trailer(alloc, layouts, around, trailer)?;
@@ -368,8 +380,9 @@ fn lay_out_trailers(
 }
 
 #[cycle(lay_out_expr)]
-fn lay_out_arg(alloc: Global, layouts: &mut Layouts, around: usize, arg: &Arg) -> Result<(), Memory>
-    ensures { OnOk result (layouts.new ≡ layouts.old ++ b.arg_blocks telling_scopes around (v.view_arg arg.now)) }
+fn lay_out_arg(alloc: Global, layouts: &mut Scopes, around: usize, arg: &Arg) -> Result<(), Memory>
+    ensures { OnOk result (layouts.new
+        ≡ layouts.old ++ code_blocks.arg_blocks telling_scopes around (views.view_arg arg.now)) }
 {
     match arg {
         Arg::Plain(expr) => lay_out_expr(alloc, layouts, around, expr),
@@ -383,12 +396,12 @@ fn lay_out_arg(alloc: Global, layouts: &mut Layouts, around: usize, arg: &Arg) -
 #[tactic(auto, using(crate::proofs::Appends::appends))]
 fn lay_out_args(
     alloc: Global,
-    layouts: &mut Layouts,
+    layouts: &mut Scopes,
     around: usize,
     args: &[Arg],
 ) -> Result<(), Memory>
     ensures { OnOk result (layouts.new
-        ≡ layouts.old ++ b.args_blocks telling_scopes around (v.args_of (map v.view_arg args.now))) }
+        ≡ layouts.old ++ code_blocks.args_blocks telling_scopes around (views.args_of (map views.view_arg args.now))) }
 {
     'arguments: for arg in args {
         lay_out_arg(alloc, layouts, around, arg)?;

@@ -3,8 +3,8 @@
 ghost use Rattle.std.specs.Prelude.{◌≡◌, ◌∷◌, [], ◌++◌, map, not, IfOk, OnOk};
 ghost use Rattle.std.specs.List.{filter, filter_map, list_any};
 ghost use Rattle.indexmap.specs.IndexSet.{insert_key, insert_all};
-ghost use Rattle.rp_tree.specs.ExpressionViews as e;
-ghost use Rattle.rp_tree.specs.StatementViews as v;
+ghost use Rattle.rp_tree.specs.ExpressionViews as views;
+ghost use Rattle.rp_tree.specs.StatementViews as stmt_views;
 ghost use Rattle.rp_scope.specs.Bindings.{bound_name, global_name, mentioned_name};
 ghost use Rattle.rp_scope.specs.Bindings.{function_block, lambda_block, comprehension_block};
 ghost use Rattle.rp_scope.specs.MentionSteps.{block_of, unlisted};
@@ -62,7 +62,8 @@ fn slot_place(outwards: usize, slot: usize) -> Place2
     }
 }
 
-fn add(names: &mut IndexSet<Name>, name: Name) -> Result<(), Memory>
+/// Adds a name behind the others, where it is new.
+pub fn add(names: &mut IndexSet<Name>, name: Name) -> Result<(), Memory>
     ensures { OnOk result (names.new.keys ≡ insert_key same_name names.old.keys name) }
 {
     names.insert(name)?;
@@ -188,7 +189,7 @@ pub fn function_layout(
     around: usize,
 ) -> Result<Layout, Memory>
     ensures { IfOk result (λ made. made
-        ≡ scope_in around (function_block (e.view_params params.now) (v.view_stmts body.now))) }
+        ≡ scope_in around (function_block (views.view_params params.now) (stmt_views.view_stmts body.now))) }
 {
     let mut mentions = Vec::new(alloc);
     note_params(&mut mentions, Listing::Function, params)?;
@@ -198,7 +199,7 @@ pub fn function_layout(
 
 /// A lambda in the block with the number `around`.
 pub fn lambda_layout(alloc: Global, params: &Params, around: usize) -> Result<Layout, Memory>
-    ensures { IfOk result (λ made. made ≡ scope_in around (lambda_block (e.view_params params.now))) }
+    ensures { IfOk result (λ made. made ≡ scope_in around (lambda_block (views.view_params params.now))) }
 {
     let mut mentions = Vec::new(alloc);
     note_params(&mut mentions, Listing::Function, params)?;
@@ -212,7 +213,7 @@ pub fn comprehension_layout(
     around: usize,
 ) -> Result<Layout, Memory>
     ensures { IfOk result (λ made. made
-        ≡ scope_in around (comprehension_block (e.clauses_of (map e.view_clause clauses.now)))) }
+        ≡ scope_in around (comprehension_block (views.clauses_of (map views.view_clause clauses.now)))) }
 {
     let mut mentions = Vec::new(alloc);
     note_clauses(&mut mentions, Listing::Function, clauses)?;
@@ -221,7 +222,7 @@ pub fn comprehension_layout(
 
 /// The program, which binds `first` before all else.
 pub fn program_layout(alloc: Global, first: &[Name], body: &[Stmt]) -> Result<Layout, Memory>
-    ensures { IfOk result (λ made. made ≡ program_scope first.now (v.view_stmts body.now)) }
+    ensures { IfOk result (λ made. made ≡ program_scope first.now (stmt_views.view_stmts body.now)) }
 {
     let mut mentions = Vec::new(alloc);
     note_stmts(&mut mentions, Listing::Program, body)?;

@@ -1,18 +1,18 @@
 //! The local names of the code blocks of a program, and where each block finds a name.
 
-ghost use Rattle.std.specs.Prelude.{◌≡◌, ◌∷◌, [], ◌++◌, ◌+◌, ◌^◌, ◌<◌, length, map, option_copied, position, IfOk, OnOk};
-ghost use Rattle.rp_tree.specs.ExpressionViews as e;
-ghost use Rattle.rp_tree.specs.StatementViews as v;
+ghost use Rattle.std.specs.Prelude.{◌≡◌, ◌+◌, ◌^◌, ◌<◌, IfOk, IfSome, OnOk, length, option_copied, position};
 ghost use Rattle.rp_tree.specs.StatementViews.{view_tree};
-ghost use Rattle.rp_scope.specs.Bindings.{function_block, lambda_block, comprehension_block};
 ghost use Rattle.rp_scope.specs.Numbers.{HasNumbers, block_count};
-ghost use Rattle.rp_scope.specs.Scopes.{AreScopesOf, scopes, scope_in, locals_of, found_from, block_at, same_name};
+ghost use Rattle.rp_scope.specs.Scopes.{AreScopesOf, scopes, locals_of, found_from, found_of, same_name};
+ghost use Rattle.rp_scope.specs.Tables.{AreTablesOf};
 
 use crate::block_layouts::lay_out_stmts;
-use crate::layout::{Layout, comprehension_layout, function_layout, lambda_layout, program_layout};
-use crate::place::Place2;
+use crate::layout::program_layout;
+use crate::place::{Found, Place2};
+use crate::scopes::Scopes;
+use crate::table::Table;
 use rp_base::{Memory, Name};
-use rp_tree::{Clause, Params, Stmt, Tree};
+use rp_tree::Tree;
 use std::alloc::Global;
 use std::marker::Model;
 
@@ -20,22 +20,27 @@ use std::marker::Model;
 /// binding).
 #[derive(Drop)]
 pub struct Layouts {
-    layouts: Vec<Layout>,
+    scopes: Scopes,
+    /// By the numbers of blocks: what each finds for the names that stand in it.
+    tables: Vec<Table>,
 }
 
 impl Model for Layouts {
     ghost use Rattle.std.specs.Prelude.{List};
     ghost use Rattle.rp_scope.specs.Scopes.{Scope};
+    ghost use Rattle.rp_scope.specs.Tables.{AreTablesOf};
 
     ghost Value = { List Scope };
 
-    ghost view = { λ x. x.layouts.items };
+    ghost view = { λ x. x.scopes };
+
+    ghost invariant = { λ x. AreTablesOf x.scopes x.tables.items };
 }
 
 /// The local names of each code block of a program, and where it finds a name. The code blocks have their numbers, as
 /// `number` sets them. The local names of the program begin with `first`, each once.
 ///
-/// It takes time by the size of the tree.
+/// It takes time by the size of the tree, and for each name that stands in a block by the number of blocks around.
 ///
 /// # Errors
 /// `Memory` where memory was refused.
@@ -46,69 +51,39 @@ pub fn resolve(alloc: Global, tree: &Tree, first: &[Name]) -> Result<Layouts, Me
     ensures by_number { IfOk result (λ layouts. HasNumbers (view_tree tree.now)
         → AreScopesOf layouts first.now (view_tree tree.now)) }
 {
-    let mut layouts = Layouts {
-        layouts: Vec::new(alloc),
-    };
-    layouts.add(program_layout(alloc, first, &tree.body)?)?;
+    let mut layouts = Scopes::new(alloc);
+    layouts.add(alloc, program_layout(alloc, first, &tree.body)?)?;
     lay_out_stmts(alloc, &mut layouts, 0, &tree.body)?;
     let _blocks = layouts.len();
-    Ok(layouts)
+    with_tables(alloc, layouts)
 }
 
-/// Adds a function that stands in the block with the number `around`.
-pub fn add_function(
-    alloc: Global,
-    layouts: &mut Layouts,
-    around: usize,
-    params: &Params,
-    body: &[Stmt],
-) -> Result<(), Memory>
-    ensures { OnOk result (layouts.new
-        ≡ layouts.old ++ scope_in around (function_block (e.view_params params.now) (v.view_stmts body.now)) ∷ []) }
+/// The scopes, with the tables of their blocks.
+fn with_tables(alloc: Global, mut scopes: Scopes) -> Result<Layouts, Memory>
+    ensures { IfOk result (λ layouts. layouts ≡ scopes) }
 {
-    layouts.add(function_layout(alloc, params, body, around)?)
+    let tables = tables_of(alloc, &scopes)?;
+    scopes.forget();
+    Ok(Layouts { scopes, tables })
 }
 
-/// Adds a lambda that stands in the block with the number `around`.
-pub fn add_lambda(
-    alloc: Global,
-    layouts: &mut Layouts,
-    around: usize,
-    params: &Params,
-) -> Result<(), Memory>
-    ensures { OnOk result (layouts.new
-        ≡ layouts.old ++ scope_in around (lambda_block (e.view_params params.now)) ∷ []) }
+/// The tables of all blocks.
+fn tables_of(alloc: Global, scopes: &Scopes) -> Result<Vec<Table>, Memory>
+    ensures { IfOk result (λ tables. AreTablesOf scopes.now tables.items) }
 {
-    layouts.add(lambda_layout(alloc, params, around)?)
-}
-
-/// Adds a comprehension that stands in the block with the number `around`.
-pub fn add_comprehension(
-    alloc: Global,
-    layouts: &mut Layouts,
-    around: usize,
-    clauses: &[Clause],
-) -> Result<(), Memory>
-    ensures { OnOk result (layouts.new
-        ≡ layouts.old ++ scope_in around (comprehension_block (e.clauses_of (map e.view_clause clauses.now))) ∷ []) }
-{
-    layouts.add(comprehension_layout(alloc, clauses, around)?)
+    let mut tables = Vec::new(alloc);
+    'blocks: for block in 0..scopes.len() {
+        tables.push(Table::of_block(alloc, scopes, block)?)?;
+    }
+    Ok(tables)
 }
 
 impl Layouts {
-    /// Adds a block behind the others.
-    pub(crate) fn add(&mut self, layout: Layout) -> Result<(), Memory>
-        ensures { OnOk result (self.new ≡ self.old ++ layout ∷ []) }
-    {
-        self.layouts.push(layout)?;
-        Ok(())
-    }
-
     /// The number of code blocks, the program itself among them.
     pub fn len(&self) -> usize
         ensures { result ≡ length self.now }
     {
-        self.layouts.len()
+        self.scopes.len()
     }
 
     /// The local names of a code block in the order of first binding, parameters first; those of block 0 begin with the
@@ -117,7 +92,7 @@ impl Layouts {
         requires { block < length self.now }
         ensures { result.now ≡ locals_of self.now block }
     {
-        self.layouts[block].locals.as_slice()
+        self.scopes.locals(block)
     }
 
     /// The place of a name among the local names of the program; none where it is not among them.
@@ -125,38 +100,48 @@ impl Layouts {
         requires { 0 < length self.now }
         ensures { result ≡ position (same_name name) (locals_of self.now 0) }
     {
-        self.layouts[0].locals.get_index_of(&name)
+        match self.ahead(0, name) {
+            Some(found) => found.global,
+            None => self.scopes.global(name),
+        }
     }
 
     /// Where a code block finds a name: among its own local names, among those of a block around it, or among the
     /// globals. A block that lists the name in a `global` statement sends it to the globals at once; what is found in
     /// block 0, or in no block, is global (Python Language Reference, Resolution of names).
     ///
-    /// It takes time by the number of blocks around.
+    /// It takes the time of one look-up for a name that stands in the block, and by the number of blocks around for
+    /// any other.
+    #[inline(always)]
     pub fn place(&self, block: usize, name: Name) -> Place2
         requires { block < length self.now }
         ensures { result ≡ found_from self.now block name }
     {
-        let mut number = block;
-        'blocks: for outwards in 0..self.layouts.len() {
-            let Some(layout) = self.block(number) else {
-                return Place2::Global;
-            };
-            if let Some(place) = layout.place(outwards, name) {
-                return place;
-            }
-            number = layout.around;
+        match self.ahead(block, name) {
+            Some(found) => found.place,
+            None => self.scopes.place(block, name),
         }
-        Place2::Global
     }
 
-    /// The block with this number; none where it is the program.
-    fn block(&self, number: usize) -> Option<&Layout>
-        ensures { option_copied result ≡ block_at self.now number }
+    /// Where a code block finds a name, as `place` tells, and the place of the name among the local names of the
+    /// program, as `global` does, by one look-up for a name that stands in the block.
+    #[inline(always)]
+    pub fn find(&self, block: usize, name: Name) -> Found
+        requires { block < length self.now }
+        ensures place { result.place ≡ found_from self.now block name }
+        ensures global { result.global ≡ position (same_name name) (locals_of self.now 0) }
     {
-        if number == 0 {
-            return None;
+        match self.ahead(block, name) {
+            Some(found) => *found,
+            None => self.scopes.find(block, name),
         }
-        self.layouts.get(number)
+    }
+
+    /// What the block finds for a name, where its table has that.
+    #[inline(always)]
+    fn ahead(&self, block: usize, name: Name) -> Option<&Found>
+        ensures { IfSome (option_copied result) (λ found. found ≡ found_of self.now block name) }
+    {
+        self.tables.get(block)?.get(name)
     }
 }

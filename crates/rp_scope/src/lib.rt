@@ -9,7 +9,9 @@ mod layouts;
 mod mentions;
 mod numbers;
 mod place;
+mod scopes;
+mod table;
 
 pub use block_numbers::number;
 pub use layouts::{Layouts, resolve};
-pub use place::Place2;
+pub use place::{Found, Place2};

@@ -1,9 +1,9 @@
 //! What statements say of names.
 
 ghost use Rattle.std.specs.Prelude.{◌≡◌, ◌∷◌, [], ◌++◌, map, OnOk};
-ghost use Rattle.rp_tree.specs.ExpressionViews as e;
-ghost use Rattle.rp_tree.specs.StatementViews as v;
-ghost use Rattle.rp_scope.specs.Bindings as b;
+ghost use Rattle.rp_tree.specs.ExpressionViews as views;
+ghost use Rattle.rp_tree.specs.StatementViews as stmt_views;
+ghost use Rattle.rp_scope.specs.Bindings as bindings;
 ghost use Rattle.rp_scope.specs.Bindings.{all_bound, within};
 ghost use Rattle.rp_scope.specs.declared.mentions.Mention.TheVariants.{Bound, Global};
 ghost use Rattle.rp_scope.specs.MentionSteps.{listed};
@@ -69,7 +69,8 @@ fn note_option(
     listing: Listing,
     named: &Option<Named>,
 ) -> Result<(), Memory>
-    ensures { OnOk result (list.new.items ≡ list.old.items ++ listed listing (all_bound (b.option_names named.now))) }
+    ensures { OnOk result (list.new.items
+        ≡ list.old.items ++ listed listing (all_bound (bindings.option_names named.now))) }
 {
     match named {
         None => Ok(()),
@@ -80,7 +81,7 @@ fn note_option(
 #[tactic(auto, using(crate::proofs::Listings::listings))]
 fn note_place(list: &mut Vec<Mention>, listing: Listing, place: &Place) -> Result<(), Memory>
     ensures { OnOk result (list.new.items
-        ≡ list.old.items ++ listed listing (all_bound (b.place_names (e.view_place place.now)))) }
+        ≡ list.old.items ++ listed listing (all_bound (bindings.place_names (views.view_place place.now)))) }
 {
     match place {
         Place::Name(named) => note_bound(list, listing, named.name),
@@ -92,7 +93,7 @@ fn note_place(list: &mut Vec<Mention>, listing: Listing, place: &Place) -> Resul
 #[tactic(auto, using(crate::proofs::Listings::listings))]
 fn note_places(list: &mut Vec<Mention>, listing: Listing, places: &[Place]) -> Result<(), Memory>
     ensures { OnOk result (list.new.items
-        ≡ list.old.items ++ listed listing (all_bound (b.places_names (map e.view_place places.now)))) }
+        ≡ list.old.items ++ listed listing (all_bound (bindings.places_names (map views.view_place places.now)))) }
 {
     'places: for place in places {
         note_place(list, listing, place)?;
@@ -104,7 +105,7 @@ fn note_places(list: &mut Vec<Mention>, listing: Listing, places: &[Place]) -> R
 #[tactic(auto, using(crate::proofs::Listings::listings))]
 fn note_target(list: &mut Vec<Mention>, listing: Listing, target: &Target) -> Result<(), Memory>
     ensures { OnOk result (list.new.items
-        ≡ list.old.items ++ listed listing (all_bound (b.target_names (e.view_target target.now)))) }
+        ≡ list.old.items ++ listed listing (all_bound (bindings.target_names (views.view_target target.now)))) }
 {
     match target {
         Target::Place(place) => note_place(list, listing, place),
@@ -117,7 +118,7 @@ fn note_target(list: &mut Vec<Mention>, listing: Listing, target: &Target) -> Re
 fn note_targets(list: &mut Vec<Mention>, listing: Listing, targets: &[Target]) -> Result<(), Memory>
     ensures { OnOk result (list.new.items
         ≡ list.old.items
-        ++ listed listing (all_bound (b.targets_names (e.targets_of (map e.view_target targets.now))))) }
+        ++ listed listing (all_bound (bindings.targets_names (views.targets_of (map views.view_target targets.now))))) }
 {
     'targets: for target in targets {
         note_target(list, listing, target)?;
@@ -134,7 +135,7 @@ pub fn note_clauses(
 ) -> Result<(), Memory>
     ensures { OnOk result (list.new.items
         ≡ list.old.items
-        ++ listed listing (all_bound (b.clauses_names (e.clauses_of (map e.view_clause clauses.now))))) }
+        ++ listed listing (all_bound (bindings.clauses_names (views.clauses_of (map views.view_clause clauses.now))))) }
 {
     'clauses: for clause in clauses {
         note_target(list, listing, &clause.walk.target)?;
@@ -146,7 +147,7 @@ pub fn note_clauses(
 #[tactic(auto, using(crate::proofs::Listings::listings))]
 pub fn note_params(list: &mut Vec<Mention>, listing: Listing, params: &Params) -> Result<(), Memory>
     ensures { OnOk result (list.new.items
-        ≡ list.old.items ++ listed listing (all_bound (b.params_names (e.view_params params.now)))) }
+        ≡ list.old.items ++ listed listing (all_bound (bindings.params_names (views.view_params params.now)))) }
 {
     note_plain(list, listing, &params.plain)?;
     note_option(list, listing, &params.list)?;
@@ -160,7 +161,8 @@ fn note_plain(
     plain: &[(Named, Option<Expr>)],
 ) -> Result<(), Memory>
     ensures { OnOk result (list.new.items
-        ≡ list.old.items ++ listed listing (all_bound (b.plain_names (e.plain_of (map e.view_plain plain.now))))) }
+        ≡ list.old.items
+        ++ listed listing (all_bound (bindings.plain_names (views.plain_of (map views.view_plain plain.now))))) }
 {
     'plain: for param in plain {
         note_bound(list, listing, param.0.name)?;
@@ -183,7 +185,7 @@ fn note_globals(list: &mut Vec<Mention>, listing: Listing, names: &[Named]) -> R
 #[tactic(auto, using(crate::proofs::Listings::listings))]
 pub fn note_stmts(list: &mut Vec<Mention>, listing: Listing, stmts: &[Stmt]) -> Result<(), Memory>
     ensures { OnOk result (list.new.items
-        ≡ list.old.items ++ listed listing (b.stmts_mentions (v.view_stmts stmts.now))) }
+        ≡ list.old.items ++ listed listing (bindings.stmts_mentions (stmt_views.view_stmts stmts.now))) }
 {
     'stmts: for stmt in stmts {
         note_form(list, listing, &stmt.form)?;
@@ -195,7 +197,7 @@ pub fn note_stmts(list: &mut Vec<Mention>, listing: Listing, stmts: &[Stmt]) -> 
 #[tactic(auto, using(rp_tree::proofs::StatementEquations::variants, crate::proofs::Listings::listings))]
 fn note_form(list: &mut Vec<Mention>, listing: Listing, form: &StmtForm) -> Result<(), Memory>
     ensures { OnOk result (list.new.items
-        ≡ list.old.items ++ listed listing (b.form_mentions (v.view_stmt_form form.now))) }
+        ≡ list.old.items ++ listed listing (bindings.form_mentions (stmt_views.view_stmt_form form.now))) }
 {
     match form {
         StmtForm::Expr(_) => Ok(()),
@@ -246,7 +248,7 @@ fn note_form(list: &mut Vec<Mention>, listing: Listing, form: &StmtForm) -> Resu
 #[tactic(auto, using(crate::proofs::Listings::listings))]
 fn note_inner(list: &mut Vec<Mention>, listing: Listing, stmts: &[Stmt]) -> Result<(), Memory>
     ensures { OnOk result (list.new.items
-        ≡ list.old.items ++ listed listing (within (b.stmts_mentions (v.view_stmts stmts.now)))) }
+        ≡ list.old.items ++ listed listing (within (bindings.stmts_mentions (stmt_views.view_stmts stmts.now)))) }
 {
     match listing {
         Listing::Program => note_stmts(list, Listing::Within, stmts),
@@ -263,7 +265,8 @@ fn note_branches(
     branches: &[Branch],
 ) -> Result<(), Memory>
     ensures { OnOk result (list.new.items
-        ≡ list.old.items ++ listed listing (b.branches_mentions (v.branches_of (map v.view_branch branches.now)))) }
+        ≡ list.old.items ++ listed listing
+        (bindings.branches_mentions (stmt_views.branches_of (map stmt_views.view_branch branches.now)))) }
 {
     'branches: for branch in branches {
         note_stmts(list, listing, &branch.body)?;
@@ -279,7 +282,8 @@ fn note_handlers(
     handlers: &[Except],
 ) -> Result<(), Memory>
     ensures { OnOk result (list.new.items
-        ≡ list.old.items ++ listed listing (b.excepts_mentions (v.excepts_of (map v.view_except handlers.now)))) }
+        ≡ list.old.items ++ listed listing
+        (bindings.excepts_mentions (stmt_views.excepts_of (map stmt_views.view_except handlers.now)))) }
 {
     'handlers: for handler in handlers {
         note_option(list, listing, &handler.name)?;

@@ -1,10 +1,10 @@
 //! The numbers of the code blocks in expressions and in their parts, set in place.
 
 ghost use Rattle.std.specs.Prelude.{◌≡◌, map, option_map};
-ghost use Rattle.rp_tree.specs.ExpressionViews as v;
-ghost use Rattle.rp_tree.specs.Maps as m;
+ghost use Rattle.rp_tree.specs.ExpressionViews as views;
+ghost use Rattle.rp_tree.specs.Maps as maps;
 ghost use Rattle.rp_tree.specs.Maps.{no_blocks};
-ghost use Rattle.rp_scope.specs.Numbers as n;
+ghost use Rattle.rp_scope.specs.Numbers as numbering;
 ghost use Rattle.rp_scope.specs.NumberSteps.{after, past, renumbered, slice_numbers};
 
 use rp_base::BinOp;
@@ -24,9 +24,11 @@ pub fn following(number: usize) -> usize
 /// that follows.
 #[cycle(number_expr)]
 pub fn number_expr(expr: &mut Expr, first: usize) -> usize
-    ensures kept { m.map_expr no_blocks (v.view_expr expr.new) ≡ m.map_expr no_blocks (v.view_expr expr.old) }
-    ensures numbers { n.expr_numbers (v.view_expr expr.new) ≡ renumbered first (n.expr_numbers (v.view_expr expr.old)) }
-    ensures next { result ≡ past (n.expr_numbers (v.view_expr expr.old)) first }
+    ensures kept { maps.map_expr no_blocks (views.view_expr expr.new)
+        ≡ maps.map_expr no_blocks (views.view_expr expr.old) }
+    ensures numbers { numbering.expr_numbers (views.view_expr expr.new)
+        ≡ renumbered first (numbering.expr_numbers (views.view_expr expr.old)) }
+    ensures next { result ≡ past (numbering.expr_numbers (views.view_expr expr.old)) first }
 {
     number_form(&mut expr.form, first)
 }
@@ -34,9 +36,11 @@ pub fn number_expr(expr: &mut Expr, first: usize) -> usize
 #[cycle(number_expr)]
 #[tactic(auto, using(rp_tree::proofs::ExpressionEquations::variants, crate::proofs::Runs::append_runs))]
 fn number_form(form: &mut ExprForm, first: usize) -> usize
-    ensures kept { m.map_form no_blocks (v.view_form form.new) ≡ m.map_form no_blocks (v.view_form form.old) }
-    ensures numbers { n.form_numbers (v.view_form form.new) ≡ renumbered first (n.form_numbers (v.view_form form.old)) }
-    ensures next { result ≡ past (n.form_numbers (v.view_form form.old)) first }
+    ensures kept { maps.map_form no_blocks (views.view_form form.new)
+        ≡ maps.map_form no_blocks (views.view_form form.old) }
+    ensures numbers { numbering.form_numbers (views.view_form form.new)
+        ≡ renumbered first (numbering.form_numbers (views.view_form form.old)) }
+    ensures next { result ≡ past (numbering.form_numbers (views.view_form form.old)) first }
 {
     match form {
         ExprForm::Name(_) => first,
@@ -79,11 +83,12 @@ fn number_form(form: &mut ExprForm, first: usize) -> usize
 /// Numbers the code blocks in an expression that may be missing.
 #[cycle(number_expr)]
 pub fn number_option(expr: &mut Option<Expr>, first: usize) -> usize
-    ensures kept { m.map_maybe no_blocks (v.maybe_of (option_map v.view_expr expr.new))
-        ≡ m.map_maybe no_blocks (v.maybe_of (option_map v.view_expr expr.old)) }
-    ensures numbers { n.maybe_numbers (v.maybe_of (option_map v.view_expr expr.new))
-        ≡ renumbered first (n.maybe_numbers (v.maybe_of (option_map v.view_expr expr.old))) }
-    ensures next { result ≡ past (n.maybe_numbers (v.maybe_of (option_map v.view_expr expr.old))) first }
+    ensures kept { maps.map_maybe no_blocks (views.maybe_of (option_map views.view_expr expr.new))
+        ≡ maps.map_maybe no_blocks (views.maybe_of (option_map views.view_expr expr.old)) }
+    ensures numbers { numbering.maybe_numbers (views.maybe_of (option_map views.view_expr expr.new))
+        ≡ renumbered first (numbering.maybe_numbers (views.maybe_of (option_map views.view_expr expr.old))) }
+    ensures next { result
+        ≡ past (numbering.maybe_numbers (views.maybe_of (option_map views.view_expr expr.old))) first }
 {
     match expr {
         None => first,
@@ -93,11 +98,11 @@ pub fn number_option(expr: &mut Option<Expr>, first: usize) -> usize
 
 #[cycle(number_expr)]
 fn number_exprs(exprs: &mut [Expr], first: usize) -> usize
-    ensures kept { m.map_exprs no_blocks (v.exprs_of (map v.view_expr exprs.new))
-        ≡ m.map_exprs no_blocks (v.exprs_of (map v.view_expr exprs.old)) }
-    ensures numbers { n.exprs_numbers (v.exprs_of (map v.view_expr exprs.new))
-        ≡ renumbered first (n.exprs_numbers (v.exprs_of (map v.view_expr exprs.old))) }
-    ensures next { result ≡ past (n.exprs_numbers (v.exprs_of (map v.view_expr exprs.old))) first }
+    ensures kept { maps.map_exprs no_blocks (views.exprs_of (map views.view_expr exprs.new))
+        ≡ maps.map_exprs no_blocks (views.exprs_of (map views.view_expr exprs.old)) }
+    ensures numbers { numbering.exprs_numbers (views.exprs_of (map views.view_expr exprs.new))
+        ≡ renumbered first (numbering.exprs_numbers (views.exprs_of (map views.view_expr exprs.old))) }
+    ensures next { result ≡ past (numbering.exprs_numbers (views.exprs_of (map views.view_expr exprs.old))) first }
 {
     let mut next = first;
     'exprs: for expr in exprs.iter_mut() {
@@ -108,11 +113,11 @@ fn number_exprs(exprs: &mut [Expr], first: usize) -> usize
 
 #[cycle(number_expr)]
 fn number_pairs(pairs: &mut [(Expr, Expr)], first: usize) -> usize
-    ensures kept { m.map_pairs no_blocks (v.pairs_of (map v.view_pair pairs.new))
-        ≡ m.map_pairs no_blocks (v.pairs_of (map v.view_pair pairs.old)) }
-    ensures numbers { n.pairs_numbers (v.pairs_of (map v.view_pair pairs.new))
-        ≡ renumbered first (n.pairs_numbers (v.pairs_of (map v.view_pair pairs.old))) }
-    ensures next { result ≡ past (n.pairs_numbers (v.pairs_of (map v.view_pair pairs.old))) first }
+    ensures kept { maps.map_pairs no_blocks (views.pairs_of (map views.view_pair pairs.new))
+        ≡ maps.map_pairs no_blocks (views.pairs_of (map views.view_pair pairs.old)) }
+    ensures numbers { numbering.pairs_numbers (views.pairs_of (map views.view_pair pairs.new))
+        ≡ renumbered first (numbering.pairs_numbers (views.pairs_of (map views.view_pair pairs.old))) }
+    ensures next { result ≡ past (numbering.pairs_numbers (views.pairs_of (map views.view_pair pairs.old))) first }
 {
     let mut next = first;
     'pairs: for pair in pairs.iter_mut() {
@@ -124,11 +129,11 @@ fn number_pairs(pairs: &mut [(Expr, Expr)], first: usize) -> usize
 
 #[cycle(number_expr)]
 fn number_tests(tests: &mut [(Test, Expr)], first: usize) -> usize
-    ensures kept { m.map_tests no_blocks (v.tests_of (map v.view_test tests.new))
-        ≡ m.map_tests no_blocks (v.tests_of (map v.view_test tests.old)) }
-    ensures numbers { n.tests_numbers (v.tests_of (map v.view_test tests.new))
-        ≡ renumbered first (n.tests_numbers (v.tests_of (map v.view_test tests.old))) }
-    ensures next { result ≡ past (n.tests_numbers (v.tests_of (map v.view_test tests.old))) first }
+    ensures kept { maps.map_tests no_blocks (views.tests_of (map views.view_test tests.new))
+        ≡ maps.map_tests no_blocks (views.tests_of (map views.view_test tests.old)) }
+    ensures numbers { numbering.tests_numbers (views.tests_of (map views.view_test tests.new))
+        ≡ renumbered first (numbering.tests_numbers (views.tests_of (map views.view_test tests.old))) }
+    ensures next { result ≡ past (numbering.tests_numbers (views.tests_of (map views.view_test tests.old))) first }
 {
     let mut next = first;
     'tests: for test in tests.iter_mut() {
@@ -139,11 +144,11 @@ fn number_tests(tests: &mut [(Test, Expr)], first: usize) -> usize
 
 #[cycle(number_expr)]
 fn number_operands(operands: &mut [(BinOp, Expr)], first: usize) -> usize
-    ensures kept { m.map_ops no_blocks (v.ops_of (map v.view_op operands.new))
-        ≡ m.map_ops no_blocks (v.ops_of (map v.view_op operands.old)) }
-    ensures numbers { n.ops_numbers (v.ops_of (map v.view_op operands.new))
-        ≡ renumbered first (n.ops_numbers (v.ops_of (map v.view_op operands.old))) }
-    ensures next { result ≡ past (n.ops_numbers (v.ops_of (map v.view_op operands.old))) first }
+    ensures kept { maps.map_ops no_blocks (views.ops_of (map views.view_op operands.new))
+        ≡ maps.map_ops no_blocks (views.ops_of (map views.view_op operands.old)) }
+    ensures numbers { numbering.ops_numbers (views.ops_of (map views.view_op operands.new))
+        ≡ renumbered first (numbering.ops_numbers (views.ops_of (map views.view_op operands.old))) }
+    ensures next { result ≡ past (numbering.ops_numbers (views.ops_of (map views.view_op operands.old))) first }
 {
     let mut next = first;
     'operands: for operand in operands.iter_mut() {
@@ -154,11 +159,12 @@ fn number_operands(operands: &mut [(BinOp, Expr)], first: usize) -> usize
 
 #[cycle(number_expr)]
 fn number_clauses(clauses: &mut [Clause], first: usize) -> usize
-    ensures kept { m.map_clauses no_blocks (v.clauses_of (map v.view_clause clauses.new))
-        ≡ m.map_clauses no_blocks (v.clauses_of (map v.view_clause clauses.old)) }
-    ensures numbers { n.clauses_numbers (v.clauses_of (map v.view_clause clauses.new))
-        ≡ renumbered first (n.clauses_numbers (v.clauses_of (map v.view_clause clauses.old))) }
-    ensures next { result ≡ past (n.clauses_numbers (v.clauses_of (map v.view_clause clauses.old))) first }
+    ensures kept { maps.map_clauses no_blocks (views.clauses_of (map views.view_clause clauses.new))
+        ≡ maps.map_clauses no_blocks (views.clauses_of (map views.view_clause clauses.old)) }
+    ensures numbers { numbering.clauses_numbers (views.clauses_of (map views.view_clause clauses.new))
+        ≡ renumbered first (numbering.clauses_numbers (views.clauses_of (map views.view_clause clauses.old))) }
+    ensures next { result
+        ≡ past (numbering.clauses_numbers (views.clauses_of (map views.view_clause clauses.old))) first }
 {
     let mut next = first;
     'clauses: for clause in clauses.iter_mut() {
@@ -170,11 +176,11 @@ fn number_clauses(clauses: &mut [Clause], first: usize) -> usize
 #[cycle(number_expr)]
 #[tactic(auto, using(crate::proofs::Runs::append_runs))]
 fn number_clause(clause: &mut Clause, first: usize) -> usize
-    ensures kept { m.map_clause no_blocks (v.view_clause clause.new)
-        ≡ m.map_clause no_blocks (v.view_clause clause.old) }
-    ensures numbers { n.clause_numbers (v.view_clause clause.new)
-        ≡ renumbered first (n.clause_numbers (v.view_clause clause.old)) }
-    ensures next { result ≡ past (n.clause_numbers (v.view_clause clause.old)) first }
+    ensures kept { maps.map_clause no_blocks (views.view_clause clause.new)
+        ≡ maps.map_clause no_blocks (views.view_clause clause.old) }
+    ensures numbers { numbering.clause_numbers (views.view_clause clause.new)
+        ≡ renumbered first (numbering.clause_numbers (views.view_clause clause.old)) }
+    ensures next { result ≡ past (numbering.clause_numbers (views.view_clause clause.old)) first }
 {
     let tests_first = number_walk(&mut clause.walk, first);
     number_exprs(&mut clause.tests, tests_first)
@@ -184,9 +190,11 @@ fn number_clause(clause: &mut Clause, first: usize) -> usize
 #[cycle(number_expr)]
 #[tactic(auto, using(crate::proofs::Runs::append_runs))]
 pub fn number_walk(walk: &mut Walk, first: usize) -> usize
-    ensures kept { m.map_walk no_blocks (v.view_walk walk.new) ≡ m.map_walk no_blocks (v.view_walk walk.old) }
-    ensures numbers { n.walk_numbers (v.view_walk walk.new) ≡ renumbered first (n.walk_numbers (v.view_walk walk.old)) }
-    ensures next { result ≡ past (n.walk_numbers (v.view_walk walk.old)) first }
+    ensures kept { maps.map_walk no_blocks (views.view_walk walk.new)
+        ≡ maps.map_walk no_blocks (views.view_walk walk.old) }
+    ensures numbers { numbering.walk_numbers (views.view_walk walk.new)
+        ≡ renumbered first (numbering.walk_numbers (views.view_walk walk.old)) }
+    ensures next { result ≡ past (numbering.walk_numbers (views.view_walk walk.old)) first }
 {
     let of_first = number_target(&mut walk.target, first);
     number_expr(&mut walk.of, of_first)
@@ -195,11 +203,11 @@ pub fn number_walk(walk: &mut Walk, first: usize) -> usize
 /// Numbers the code blocks in a target.
 #[cycle(number_expr)]
 pub fn number_target(target: &mut Target, first: usize) -> usize
-    ensures kept { m.map_target no_blocks (v.view_target target.new)
-        ≡ m.map_target no_blocks (v.view_target target.old) }
-    ensures numbers { n.target_numbers (v.view_target target.new)
-        ≡ renumbered first (n.target_numbers (v.view_target target.old)) }
-    ensures next { result ≡ past (n.target_numbers (v.view_target target.old)) first }
+    ensures kept { maps.map_target no_blocks (views.view_target target.new)
+        ≡ maps.map_target no_blocks (views.view_target target.old) }
+    ensures numbers { numbering.target_numbers (views.view_target target.new)
+        ≡ renumbered first (numbering.target_numbers (views.view_target target.old)) }
+    ensures next { result ≡ past (numbering.target_numbers (views.view_target target.old)) first }
 {
     match target {
         Target::Place(place) => number_place(place, first),
@@ -209,11 +217,12 @@ pub fn number_target(target: &mut Target, first: usize) -> usize
 
 #[cycle(number_expr)]
 fn number_targets(targets: &mut [Target], first: usize) -> usize
-    ensures kept { m.map_targets no_blocks (v.targets_of (map v.view_target targets.new))
-        ≡ m.map_targets no_blocks (v.targets_of (map v.view_target targets.old)) }
-    ensures numbers { n.targets_numbers (v.targets_of (map v.view_target targets.new))
-        ≡ renumbered first (n.targets_numbers (v.targets_of (map v.view_target targets.old))) }
-    ensures next { result ≡ past (n.targets_numbers (v.targets_of (map v.view_target targets.old))) first }
+    ensures kept { maps.map_targets no_blocks (views.targets_of (map views.view_target targets.new))
+        ≡ maps.map_targets no_blocks (views.targets_of (map views.view_target targets.old)) }
+    ensures numbers { numbering.targets_numbers (views.targets_of (map views.view_target targets.new))
+        ≡ renumbered first (numbering.targets_numbers (views.targets_of (map views.view_target targets.old))) }
+    ensures next { result
+        ≡ past (numbering.targets_numbers (views.targets_of (map views.view_target targets.old))) first }
 {
     let mut next = first;
     'targets: for target in targets.iter_mut() {
@@ -226,10 +235,11 @@ fn number_targets(targets: &mut [Target], first: usize) -> usize
 #[cycle(number_expr)]
 #[tactic(auto, using(crate::proofs::Runs::append_runs))]
 pub fn number_place(place: &mut Place, first: usize) -> usize
-    ensures kept { m.map_place no_blocks (v.view_place place.new) ≡ m.map_place no_blocks (v.view_place place.old) }
-    ensures numbers { n.place_numbers (v.view_place place.new)
-        ≡ renumbered first (n.place_numbers (v.view_place place.old)) }
-    ensures next { result ≡ past (n.place_numbers (v.view_place place.old)) first }
+    ensures kept { maps.map_place no_blocks (views.view_place place.new)
+        ≡ maps.map_place no_blocks (views.view_place place.old) }
+    ensures numbers { numbering.place_numbers (views.view_place place.new)
+        ≡ renumbered first (numbering.place_numbers (views.view_place place.old)) }
+    ensures next { result ≡ past (numbering.place_numbers (views.view_place place.old)) first }
 {
     match place {
         Place::Name(_) => first,
@@ -244,22 +254,22 @@ pub fn number_place(place: &mut Place, first: usize) -> usize
 /// Numbers the code blocks in the defaults of parameters.
 #[cycle(number_expr)]
 pub fn number_params(params: &mut Params, first: usize) -> usize
-    ensures kept { m.map_params no_blocks (v.view_params params.new)
-        ≡ m.map_params no_blocks (v.view_params params.old) }
-    ensures numbers { n.params_numbers (v.view_params params.new)
-        ≡ renumbered first (n.params_numbers (v.view_params params.old)) }
-    ensures next { result ≡ past (n.params_numbers (v.view_params params.old)) first }
+    ensures kept { maps.map_params no_blocks (views.view_params params.new)
+        ≡ maps.map_params no_blocks (views.view_params params.old) }
+    ensures numbers { numbering.params_numbers (views.view_params params.new)
+        ≡ renumbered first (numbering.params_numbers (views.view_params params.old)) }
+    ensures next { result ≡ past (numbering.params_numbers (views.view_params params.old)) first }
 {
     number_defaults(&mut params.plain, first)
 }
 
 #[cycle(number_expr)]
 fn number_defaults(plain: &mut [(Named, Option<Expr>)], first: usize) -> usize
-    ensures kept { m.map_plain no_blocks (v.plain_of (map v.view_plain plain.new))
-        ≡ m.map_plain no_blocks (v.plain_of (map v.view_plain plain.old)) }
-    ensures numbers { n.plain_numbers (v.plain_of (map v.view_plain plain.new))
-        ≡ renumbered first (n.plain_numbers (v.plain_of (map v.view_plain plain.old))) }
-    ensures next { result ≡ past (n.plain_numbers (v.plain_of (map v.view_plain plain.old))) first }
+    ensures kept { maps.map_plain no_blocks (views.plain_of (map views.view_plain plain.new))
+        ≡ maps.map_plain no_blocks (views.plain_of (map views.view_plain plain.old)) }
+    ensures numbers { numbering.plain_numbers (views.plain_of (map views.view_plain plain.new))
+        ≡ renumbered first (numbering.plain_numbers (views.plain_of (map views.view_plain plain.old))) }
+    ensures next { result ≡ past (numbering.plain_numbers (views.plain_of (map views.view_plain plain.old))) first }
 {
     let mut next = first;
     'plain: for param in plain.iter_mut() {
@@ -273,11 +283,11 @@ fn number_defaults(plain: &mut [(Named, Option<Expr>)], first: usize) -> usize
 #[cycle(number_expr)]
 #[tactic(auto, using(rp_tree::proofs::ExpressionEquations::trailer_slice))]
 fn number_trailer(trailer: &mut Trailer, first: usize) -> usize
-    ensures kept { m.map_trailer no_blocks (v.view_trailer trailer.new)
-        ≡ m.map_trailer no_blocks (v.view_trailer trailer.old) }
-    ensures numbers { n.trailer_numbers (v.view_trailer trailer.new)
-        ≡ renumbered first (n.trailer_numbers (v.view_trailer trailer.old)) }
-    ensures next { result ≡ past (n.trailer_numbers (v.view_trailer trailer.old)) first }
+    ensures kept { maps.map_trailer no_blocks (views.view_trailer trailer.new)
+        ≡ maps.map_trailer no_blocks (views.view_trailer trailer.old) }
+    ensures numbers { numbering.trailer_numbers (views.view_trailer trailer.new)
+        ≡ renumbered first (numbering.trailer_numbers (views.view_trailer trailer.old)) }
+    ensures next { result ≡ past (numbering.trailer_numbers (views.view_trailer trailer.old)) first }
 {
     match trailer {
         Trailer::Attr(_, _) => first,
@@ -290,12 +300,15 @@ fn number_trailer(trailer: &mut Trailer, first: usize) -> usize
 #[cycle(number_expr)]
 #[tactic(auto, using(crate::proofs::Runs::append_runs))]
 fn number_slice(slice: &mut Slice, first: usize) -> usize
-    ensures from { m.map_maybe no_blocks (v.view_slice slice.new).0 ≡ m.map_maybe no_blocks (v.view_slice slice.old).0 }
-    ensures to { m.map_maybe no_blocks (v.view_slice slice.new).1 ≡ m.map_maybe no_blocks (v.view_slice slice.old).1 }
-    ensures step { m.map_maybe no_blocks (v.view_slice slice.new).2 ≡ m.map_maybe no_blocks (v.view_slice slice.old).2 }
-    ensures numbers { slice_numbers (v.view_slice slice.new)
-        ≡ renumbered first (slice_numbers (v.view_slice slice.old)) }
-    ensures next { result ≡ past (slice_numbers (v.view_slice slice.old)) first }
+    ensures from { maps.map_maybe no_blocks (views.view_slice slice.new).0
+        ≡ maps.map_maybe no_blocks (views.view_slice slice.old).0 }
+    ensures to { maps.map_maybe no_blocks (views.view_slice slice.new).1
+        ≡ maps.map_maybe no_blocks (views.view_slice slice.old).1 }
+    ensures step { maps.map_maybe no_blocks (views.view_slice slice.new).2
+        ≡ maps.map_maybe no_blocks (views.view_slice slice.old).2 }
+    ensures numbers { slice_numbers (views.view_slice slice.new)
+        ≡ renumbered first (slice_numbers (views.view_slice slice.old)) }
+    ensures next { result ≡ past (slice_numbers (views.view_slice slice.old)) first }
 {
     let to_first = number_option(&mut slice.from, first);
     let step_first = number_option(&mut slice.to, to_first);
@@ -304,11 +317,12 @@ fn number_slice(slice: &mut Slice, first: usize) -> usize
 
 #[cycle(number_expr)]
 fn number_trailers(trailers: &mut [Trailer], first: usize) -> usize
-    ensures kept { m.map_trailers no_blocks (v.trailers_of (map v.view_trailer trailers.new))
-        ≡ m.map_trailers no_blocks (v.trailers_of (map v.view_trailer trailers.old)) }
-    ensures numbers { n.trailers_numbers (v.trailers_of (map v.view_trailer trailers.new))
-        ≡ renumbered first (n.trailers_numbers (v.trailers_of (map v.view_trailer trailers.old))) }
-    ensures next { result ≡ past (n.trailers_numbers (v.trailers_of (map v.view_trailer trailers.old))) first }
+    ensures kept { maps.map_trailers no_blocks (views.trailers_of (map views.view_trailer trailers.new))
+        ≡ maps.map_trailers no_blocks (views.trailers_of (map views.view_trailer trailers.old)) }
+    ensures numbers { numbering.trailers_numbers (views.trailers_of (map views.view_trailer trailers.new))
+        ≡ renumbered first (numbering.trailers_numbers (views.trailers_of (map views.view_trailer trailers.old))) }
+    ensures next { result
+        ≡ past (numbering.trailers_numbers (views.trailers_of (map views.view_trailer trailers.old))) first }
 {
     let mut next = first;
     'trailers: for trailer in trailers.iter_mut() {
@@ -319,9 +333,10 @@ fn number_trailers(trailers: &mut [Trailer], first: usize) -> usize
 
 #[cycle(number_expr)]
 fn number_arg(arg: &mut Arg, first: usize) -> usize
-    ensures kept { m.map_arg no_blocks (v.view_arg arg.new) ≡ m.map_arg no_blocks (v.view_arg arg.old) }
-    ensures numbers { n.arg_numbers (v.view_arg arg.new) ≡ renumbered first (n.arg_numbers (v.view_arg arg.old)) }
-    ensures next { result ≡ past (n.arg_numbers (v.view_arg arg.old)) first }
+    ensures kept { maps.map_arg no_blocks (views.view_arg arg.new) ≡ maps.map_arg no_blocks (views.view_arg arg.old) }
+    ensures numbers { numbering.arg_numbers (views.view_arg arg.new)
+        ≡ renumbered first (numbering.arg_numbers (views.view_arg arg.old)) }
+    ensures next { result ≡ past (numbering.arg_numbers (views.view_arg arg.old)) first }
 {
     match arg {
         Arg::Plain(expr) => number_expr(expr, first),
@@ -333,11 +348,11 @@ fn number_arg(arg: &mut Arg, first: usize) -> usize
 
 #[cycle(number_expr)]
 fn number_args(args: &mut [Arg], first: usize) -> usize
-    ensures kept { m.map_args no_blocks (v.args_of (map v.view_arg args.new))
-        ≡ m.map_args no_blocks (v.args_of (map v.view_arg args.old)) }
-    ensures numbers { n.args_numbers (v.args_of (map v.view_arg args.new))
-        ≡ renumbered first (n.args_numbers (v.args_of (map v.view_arg args.old))) }
-    ensures next { result ≡ past (n.args_numbers (v.args_of (map v.view_arg args.old))) first }
+    ensures kept { maps.map_args no_blocks (views.args_of (map views.view_arg args.new))
+        ≡ maps.map_args no_blocks (views.args_of (map views.view_arg args.old)) }
+    ensures numbers { numbering.args_numbers (views.args_of (map views.view_arg args.new))
+        ≡ renumbered first (numbering.args_numbers (views.args_of (map views.view_arg args.old))) }
+    ensures next { result ≡ past (numbering.args_numbers (views.args_of (map views.view_arg args.old))) first }
 {
     let mut next = first;
     'arguments: for arg in args.iter_mut() {

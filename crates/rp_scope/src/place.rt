@@ -10,3 +10,12 @@ pub enum Place2 {
     /// In the program's block, or in none.
     Global,
 }
+
+/// What there is to know of a name in a code block.
+#[derive(Clone, Copy, Debug)]
+pub struct Found {
+    /// Where the block finds the name.
+    pub place: Place2,
+    /// The place of the name among the local names of the program; none where it is not among them.
+    pub global: Option<usize>,
+}

@@ -1,7 +1,7 @@
 //! Scripts from bytes.
 
-ghost use Rattle.std.specs.Prelude.{◌≡◌, ◌≢◌, ℕ, [], IfErr, IfOk, List, MatchResult};
-ghost use Rattle.rp_base.specs.Names.{word_of};
+ghost use Rattle.std.specs.Prelude.{◌≡◌, ◌≢◌, ℕ, [], IfErr, IfOk, List, MatchResult, OnOk};
+ghost use Rattle.rp_base.specs.Names.{with_words, word_of};
 ghost use Rattle.rp_token.specs.Lexer.{IsGrown};
 ghost use Rattle.rp_tree.specs.Augmented.{AugmentsNames};
 ghost use Rattle.rp_tree.specs.Maps.{named};
@@ -12,6 +12,7 @@ ghost use Rattle.rp_grammar.specs.Kinds.{Tokens};
 ghost use Rattle.rp_grammar.specs.Program.{Spells};
 ghost use Rattle.rp_program.specs.Leaves.{IsTreeHeld};
 ghost use Rattle.rp_program.specs.Program.{IsProgram};
+ghost use Rattle.rp_program.specs.ProgramWords.{program_words};
 ghost use Rattle.rp_policy.specs.Offences.{offences, offences_by};
 ghost use Rattle.rp_script.specs.Refusal.{IsRefused};
 
@@ -40,6 +41,7 @@ pub fn read_script(alloc: Global, bytes: &[u8], names: &mut Names) -> Result<Tre
     ensures unaugmented { IfOk result (λ t. AugmentsNames (view_tree t)) }
     ensures refused { IfErr result (λ r. r ≢ Refusal.Memory → IsRefused names.new bytes.now r) }
     ensures names { IsGrown names.old names.new }
+    ensures words { OnOk result (names.new ≡ with_words names.old (program_words bytes.now)) }
 {
     let source = read_program(alloc, bytes, names)?;
     let found = offences(alloc, &source, names)?;

@@ -6,7 +6,7 @@ use Rattle.rp_meaning.specs.Meaning.{exec}
 use Rattle.rp_meaning.specs.Running.{program_frame}
 use Rattle.rp_meaning.specs.Sessions.{count, end_after, first_end, statement_at}
 use Rattle.rp_meaning.specs.State.{Outcome, Flow, next, broke, continued, returned, on_next}
-use Rattle.rp_meaning.specs.Statements as d
+use Rattle.rp_meaning.specs.Statements as stmt_forms
 use Rattle.rp_proxy.specs.declared.world.World.{World}
 use Rattle.rp_step.specs.Does as does
 use Rattle.rp_tree.specs.StatementViews.{view_stmt, view_stmts}
@@ -45,9 +45,9 @@ one-statement xs i d inside =
     let e : i + 1 - i ≡ 1 = omega arith in
     ap (λ n. take n (drop i xs)) e ∙ one-taken xs i d inside
 
-single : (o : Outcome Flow) (frame : Frame) → on_next o (d.block [] frame) ≡ o
+single : (o : Outcome Flow) (frame : Frame) → on_next o (stmt_forms.block [] frame) ≡ o
 single o frame = by o.answer where
-  by : (answer : Result Flow End) → on_next (record { answer = answer; state = o.state }) (d.block [] frame) ≡ record { answer = answer; state = o.state }
+  by : (answer : Result Flow End) → on_next (record { answer = answer; state = o.state }) (stmt_forms.block [] frame) ≡ record { answer = answer; state = o.state }
   by (Ok next) = refl
   by (Ok broke) = refl
   by (Ok continued) = refl

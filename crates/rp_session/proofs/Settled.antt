@@ -13,7 +13,7 @@ use Rattle.rp_session_laws.proofs.Statements as statement
 use Rattle.rp_session_laws.proofs.Trees as tree
 use Rattle.rp_session_laws.specs.Setting.{Keeping, Stays, setting_of}
 use Rattle.rp_step.specs.Does as does
-use Rattle.rp_tree.specs.Statements as s
+use Rattle.rp_tree.specs.Statements as stmt_tree
 use Rattle.rp_tree.specs.StatementViews.{view_stmt}
 use Rattle.rp_tree.specs.declared.stmt.Stmt.{Stmt}
 use Rattle.rp_session.specs.Turns.{comes_of, moment}
@@ -35,7 +35,7 @@ no_natives = record {
 
 abbrev pub some_run : Run
 some_run = record {
-  programs = λ side. program_of s.no_stmts (record { locals = λ block. []; place = λ block name. global });
+  programs = λ side. program_of stmt_tree.no_stmts (record { locals = λ block. []; place = λ block name. global });
   natives = no_natives;
   is_identifier = λ word. false;
   is_forbidden = λ word. false;

@@ -17,7 +17,7 @@ use Rattle.rp_meaning.specs.Sessions.{count, finished, played, session_after, tu
 use Rattle.rp_meaning.specs.State.{State, Outcome, Flow}
 use Rattle.rp_proxy.specs.Faithful.{IsFaithful}
 use Rattle.rp_proxy.specs.declared.world.World.{World}
-use Rattle.rp_tree.specs.Statements as s
+use Rattle.rp_tree.specs.Statements as stmt_tree
 use Rattle.rp_tree.specs.StatementViews.{view_stmt, view_stmts}
 use Rattle.rp_tree.specs.declared.stmt.Stmt.{Stmt}
 use Rattle.rp_session.specs.Ready.{AreNumberedFrom, AreReady, IsAtHome}

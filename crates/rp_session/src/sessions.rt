@@ -45,8 +45,8 @@ impl Sessions {
         }
     }
 
-    /// Adds a session of these principals, which may take so many steps. Its program is the one of its number; its global
-    /// scope is put into the store, and costs nothing.
+    /// Adds a session of these principals, which may take so many steps. Its program is the one of its number; its
+    /// global scope is put into the store, and costs nothing.
     ///
     /// # Errors
     /// `Memory` where a growth was refused; then there is no session more.
@@ -100,8 +100,8 @@ impl Sessions {
         )
     }
 
-    /// A turn of the session of a number: it runs its next top-level statement. Where it has ended, and where there is no
-    /// such session, nothing changes.
+    /// A turn of the session of a number: it runs its next top-level statement. Where it has ended, and where there is
+    /// no such session, nothing changes.
     ///
     /// # Errors
     /// As those of `Machine::run_block`.

@@ -20,7 +20,7 @@ use Rattle.rp_meaning.specs.Exceptions as exception
 use Rattle.rp_meaning.specs.Exceptions.{Handler, after, finally, handled, kinds_named, matches, otherwise, raise_value, raise_again, takes_raised}
 use Rattle.rp_meaning.specs.Frame.{Meaning, Doing, bind_name, without_name}
 use Rattle.rp_meaning.specs.State.{State, Outcome, Flow, next, broke, continued, returned, on_next, heap_of}
-use Rattle.rp_meaning.specs.Statements as d
+use Rattle.rp_meaning.specs.Statements as stmt_forms
 use Rattle.rp_meaning.specs.Statements.{Store}
 use Rattle.rp_session_laws.specs.Setting.{Setting, IsIn, Keeps, Keeping}
 use Rattle.rp_session_laws.proofs.Going.{Does, Each, ask_for, same, bind, op, chosen, step, charge, andthen, turns_keep, by_option}
@@ -30,14 +30,14 @@ use Rattle.rp_session_laws.proofs.Parts.{OptionKeeps, makes_function}
 abbrev pub StoreKeeps : Store → Type 0
 StoreKeeps store = (v : Value) → Keeping (store v)
 
-pub block : (ds : List Doing) → Each (λ d. Keeping d) ds → Keeping (d.block ds)
+pub block : (ds : List Doing) → Each (λ d. Keeping d) ds → Keeping (stmt_forms.block ds)
 block [] i k f c s h = same h
 block (x ∷ xs) i k f c s h = andthen (i.0 k f c s h) (λ s h. block xs i.1 k f c s h)
 
-pub nothing : Keeping d.nothing
+pub nothing : Keeping stmt_forms.nothing
 nothing k f c s h = same h
 
-pub evaluate : (m : Meaning) → Keeping m → Keeping (d.evaluate m)
+pub evaluate : (m : Meaning) → Keeping m → Keeping (stmt_forms.evaluate m)
 evaluate m i k f c s h = bind (i k f c s h) (λ v s h. same h)
 
 -- storing
@@ -45,68 +45,68 @@ evaluate m i k f c s h = bind (i k f c s h) (λ v s h. same h)
 pub store_name : (n : Name) → StoreKeeps (bind_name n)
 store_name n v k f c s h = form.bound n v k f c s h
 
-pub store_attribute : (m : Meaning) (n : Name) → Keeping m → StoreKeeps (d.store_attribute m n)
+pub store_attribute : (m : Meaning) (n : Name) → Keeping m → StoreKeeps (stmt_forms.store_attribute m n)
 store_attribute m n i v k f c s h = bind (i k f c s h) (λ o s h. form.attribute_set o n v k f c s h)
 
-pub store_item : (m x : Meaning) → Keeping m → Keeping x → StoreKeeps (d.store_item m x)
+pub store_item : (m x : Meaning) → Keeping m → Keeping x → StoreKeeps (stmt_forms.store_item m x)
 store_item m x i j v k f c s h = bind (i k f c s h) (λ o s h. bind (j k f c s h) (λ y s h. form.item_set o y v k f c s h))
 
-pub store_all : (ds : List Store) → Each StoreKeeps ds → StoreKeeps (d.store_all ds)
+pub store_all : (ds : List Store) → Each StoreKeeps ds → StoreKeeps (stmt_forms.store_all ds)
 store_all [] i v k f c s h = same h
 store_all (x ∷ xs) i v k f c s h = andthen (i.0 v k f c s h) (λ s h. store_all xs i.1 v k f c s h)
 
-at_end : {k : Setting} (x : Option (Value × Cursor)) → Does k (d.at_end x)
+at_end : {k : Setting} (x : Option (Value × Cursor)) → Does k (stmt_forms.at_end x)
 at_end None s h = same h
 at_end (Some x) s h = same h
 
 on_element : {k : Setting} (go : Value → Cursor → State → Outcome (List Value)) (x : Option (Value × Cursor)) → ((v : Value) (w : Cursor) → Does k (go v w))
-    → Does k (λ s. d.on_element x s go)
+    → Does k (λ s. stmt_forms.on_element x s go)
 on_element go None more s h = same h
 on_element go (Some x) more s h = more x.0 x.1 s h
 
-exactly : (n : ℕ) (w : Cursor) → Keeping (d.exactly n w)
+exactly : (n : ℕ) (w : Cursor) → Keeping (stmt_forms.exactly n w)
 exactly zero w k f c s h = bind (form.element w k f c s h) (λ x s h. at_end x s h)
 exactly (suc n) w k f c s h = bind (form.element w k f c s h) (λ x s h.
-    on_element (λ v w s. on_value (d.exactly n w f s) (λ vs s. gives (v ∷ vs) s)) x (λ v w s h. bind (exactly n w k f c s h) (λ vs s h. same h)) s h)
+    on_element (λ v w s. on_value (stmt_forms.exactly n w f s) (λ vs s. gives (v ∷ vs) s)) x (λ v w s h. bind (exactly n w k f c s h) (λ vs s h. same h)) s h)
 
-store_each : (ds : List Store) (vs : List Value) → Each StoreKeeps ds → Keeping (d.store_each ds vs)
+store_each : (ds : List Store) (vs : List Value) → Each StoreKeeps ds → Keeping (stmt_forms.store_each ds vs)
 store_each [] vs i k f c s h = same h
 store_each (x ∷ xs) [] i k f c s h = same h
 store_each (x ∷ xs) (v ∷ vs) i k f c s h = andthen (i.0 v k f c s h) (λ s h. store_each xs vs i.1 k f c s h)
 
-pub unpack : (ds : List Store) → Each StoreKeeps ds → StoreKeeps (d.unpack ds)
+pub unpack : (ds : List Store) → Each StoreKeeps ds → StoreKeeps (stmt_forms.unpack ds)
 unpack ds i v k f c s h =
     bind (form.walks v k f c s h) (λ w s h. bind (exactly (length ds) w k f c s h) (λ vs s h. store_each ds vs i k f c s h))
 
-pub assign : (m : Meaning) (store : Store) → Keeping m → StoreKeeps store → Keeping (d.assign m store)
+pub assign : (m : Meaning) (store : Store) → Keeping m → StoreKeeps store → Keeping (stmt_forms.assign m store)
 assign m store i j k f c s h = bind (i k f c s h) (λ v s h. j v k f c s h)
 
 -- augmented assignment
 
-pub augment_name : (n : Name) (o : BinOp) (m : Meaning) → Keeping m → Keeping (d.augment_name n o m)
+pub augment_name : (n : Name) (o : BinOp) (m : Meaning) → Keeping m → Keeping (stmt_forms.augment_name n o m)
 augment_name n o m i k f c s h = bind (form.read n k f c s h) (λ a s h. bind (i k f c s h) (λ b s h. bind (form.augmented o a b k f c s h) (λ v s h.
     form.bound n v k f c s h)))
 
-pub augment_attribute : (x : Meaning) (n : Name) (o : BinOp) (m : Meaning) → Keeping x → Keeping m → Keeping (d.augment_attribute x n o m)
+pub augment_attribute : (x : Meaning) (n : Name) (o : BinOp) (m : Meaning) → Keeping x → Keeping m → Keeping (stmt_forms.augment_attribute x n o m)
 augment_attribute x n o m i j k f c s h = bind (i k f c s h) (λ y s h. bind (form.attribute_got y n k f c s h) (λ a s h.
     bind (j k f c s h) (λ b s h. bind (form.augmented o a b k f c s h) (λ v s h. form.attribute_set y n v k f c s h))))
 
-pub augment_item : (x y : Meaning) (o : BinOp) (m : Meaning) → Keeping x → Keeping y → Keeping m → Keeping (d.augment_item x y o m)
+pub augment_item : (x y : Meaning) (o : BinOp) (m : Meaning) → Keeping x → Keeping y → Keeping m → Keeping (stmt_forms.augment_item x y o m)
 augment_item x y o m i l j k f c s h = bind (i k f c s h) (λ u s h. bind (l k f c s h) (λ w s h. bind (form.item_got u w k f c s h) (λ a s h.
     bind (j k f c s h) (λ b s h. bind (form.augmented o a b k f c s h) (λ v s h. form.item_set u w v k f c s h)))))
 
 -- deleting and leaving
 
-pub delete_attribute : (m : Meaning) (n : Name) → Keeping m → Keeping (d.delete_attribute m n)
+pub delete_attribute : (m : Meaning) (n : Name) → Keeping m → Keeping (stmt_forms.delete_attribute m n)
 delete_attribute m n i k f c s h = bind (i k f c s h) (λ o s h. form.attribute_deleted o n k f c s h)
 
-pub delete_item : (m x : Meaning) → Keeping m → Keeping x → Keeping (d.delete_item m x)
+pub delete_item : (m x : Meaning) → Keeping m → Keeping x → Keeping (stmt_forms.delete_item m x)
 delete_item m x i j k f c s h = bind (i k f c s h) (λ o s h. bind (j k f c s h) (λ y s h. form.item_deleted o y k f c s h))
 
-pub leave : (flow : Flow) → Keeping (d.leave flow)
+pub leave : (flow : Flow) → Keeping (stmt_forms.leave flow)
 leave flow k f c s h = same h
 
-pub give_back : (m : Option Meaning) → OptionKeeps m → Keeping (d.give_back m)
+pub give_back : (m : Option Meaning) → OptionKeeps m → Keeping (stmt_forms.give_back m)
 give_back None i k f c s h = same h
 give_back (Some m) i k f c s h = bind (i k f c s h) (λ v s h. same h)
 
@@ -119,16 +119,16 @@ value_raised (value.Rock (rock.Exc kind t)) s h = same h
 value_raised (value.Rock (rock.Kind kind)) s h = same h
 value_raised _ s h = same h
 
-pub raise : (m : Option Meaning) → OptionKeeps m → Keeping (d.raise m)
+pub raise : (m : Option Meaning) → OptionKeeps m → Keeping (stmt_forms.raise m)
 raise None i k f c s h = raised_again f.handling s h
 raise (Some m) i k f c s h = bind (i k f c s h) (λ v s h. value_raised v s h)
 
-failed : (m : Option Meaning) → OptionKeeps m → Keeping (d.failed m)
+failed : (m : Option Meaning) → OptionKeeps m → Keeping (stmt_forms.failed m)
 failed None i k f c s h = same h
 failed (Some m) i k f c s h = bind (i k f c s h) (λ v s h. ask_for f STR v s h (λ s h.
     bind (op (show s.names v s.plain) s h) (λ t s h. same h)))
 
-pub assert : (m : Meaning) (message : Option Meaning) → Keeping m → OptionKeeps message → Keeping (d.assert m message)
+pub assert : (m : Meaning) (message : Option Meaning) → Keeping m → OptionKeeps message → Keeping (stmt_forms.assert m message)
 assert m message i j k f c s h =
     bind (i k f c s h) (λ v s h. form.truth v f s h (λ s h. same h) (λ s h. failed message j k f c s h))
 
@@ -137,22 +137,22 @@ assert m message i j k f c s h =
 abbrev pub BranchKeeps : Meaning × Doing → Type 0
 BranchKeeps b = Keeping b.0 × Keeping b.1
 
-pub choose : (bs : List (Meaning × Doing)) (last : Doing) → Each BranchKeeps bs → Keeping last → Keeping (d.choose bs last)
+pub choose : (bs : List (Meaning × Doing)) (last : Doing) → Each BranchKeeps bs → Keeping last → Keeping (stmt_forms.choose bs last)
 choose [] last i j k f c s h = j k f c s h
 choose (b ∷ bs) last i j k f c s h = bind (i.0.0 k f c s h) (λ v s h.
     form.truth v f s h (λ s h. i.0.1 k f c s h) (λ s h. choose bs last i.1 j k f c s h))
 
-tested : (m : Meaning) → Keeping m → (w : Unit {0}) → Keeping (λ f. d.tested m f w)
+tested : (m : Meaning) → Keeping m → (w : Unit {0}) → Keeping (λ f. stmt_forms.tested m f w)
 tested m i w k f c s h = step s h (λ s h. bind (i k f c s h) (λ v s h. form.truth v f s h (λ s h. same h) (λ s h. same h)))
 
-pub while : (m : Meaning) (body : Doing) → Keeping m → Keeping body → Keeping (d.while m body)
+pub while : (m : Meaning) (body : Doing) → Keeping m → Keeping body → Keeping (stmt_forms.while m body)
 while m body i j k f c s h = turns_keep (s.plain.steps + 1) (λ w s h. tested m i w k f c s h) (λ v s h. j k f c s h) (tt {0}) s h
 
-pub for : (m : Meaning) (store : Store) (body : Doing) → Keeping m → StoreKeeps store → Keeping body → Keeping (d.for m store body)
+pub for : (m : Meaning) (store : Store) (body : Doing) → Keeping m → StoreKeeps store → Keeping body → Keeping (stmt_forms.for m store body)
 for m store body i j l k f c s h = bind (i k f c s h) (λ v s h. bind (form.walks v k f c s h) (λ w s h.
     form.each_keeps (λ v frame s. on_next (store v frame s) (body frame)) f c (λ v s h. andthen (j v k f c s h) (λ s h. l k f c s h)) w s h))
 
-pub define : (n : Name) (block : ℕ) (ms : List Meaning) → Each (λ m. Keeping m) ms → Keeping (d.define n block ms)
+pub define : (n : Name) (block : ℕ) (ms : List Meaning) → Each (λ m. Keeping m) ms → Keeping (stmt_forms.define n block ms)
 define n block ms i k f c s h = bind (makes_function (Some n) block ms i k f c s h) (λ at s h. form.bound n (value.Ref at) k f c s h)
 
 -- exceptions

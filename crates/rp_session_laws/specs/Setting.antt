@@ -5,8 +5,8 @@ use Rattle.rp_base.specs.declared.value.Oid.{Oid}
 use Rattle.rp_base.specs.declared.value.Side.{Side}
 use Rattle.rp_decl.specs.Places.{GrowsTo}
 use Rattle.rp_decl.specs.Records.{Declarations}
-use Rattle.rp_tree.specs.Expressions as t
-use Rattle.rp_tree.specs.Statements as s
+use Rattle.rp_tree.specs.Expressions as tree
+use Rattle.rp_tree.specs.Statements as stmt_tree
 use Rattle.rp_meaning.specs.Binding.{Arguments}
 use Rattle.rp_meaning.specs.Frame.{Frame, Calls, Run}
 use Rattle.rp_meaning.specs.Meaning.{eval, exec, block}
@@ -47,17 +47,17 @@ Keeping does = (k : Setting) (frame : Frame) → CallsKeep k frame.calls → (s 
 -- Every expression, statement and block does, and every call of a function.
 
 abbrev pub ExpressionsKeep : Type 0
-ExpressionsKeep = (x : t.Expr) → Keeping (eval x)
+ExpressionsKeep = (x : tree.Expr) → Keeping (eval x)
 
 abbrev pub StatementsKeep : Type 0
-StatementsKeep = (x : s.Stmt) → Keeping (exec x)
+StatementsKeep = (x : stmt_tree.Stmt) → Keeping (exec x)
 
 abbrev pub BlocksKeep : Type 0
-BlocksKeep = (b : s.Stmts) → Keeping (block b)
+BlocksKeep = (b : stmt_tree.Stmts) → Keeping (block b)
 
 abbrev pub FunctionsKeep : Type 0
 FunctionsKeep = (run : Run) (k : Setting) → CallsKeep k (calls run)
 
 -- So does a statement of a program of its own, in any run.
 abbrev pub ProgramsKeep : Type 0
-ProgramsKeep = (run : Run) (side : Side) (globals : Oid) (x : s.Stmt) (s : State) → Keeps (exec x (program_frame run side globals) s) (setting_of s)
+ProgramsKeep = (run : Run) (side : Side) (globals : Oid) (x : stmt_tree.Stmt) (s : State) → Keeps (exec x (program_frame run side globals) s) (setting_of s)

@@ -1,2 +1,2 @@
-//! The law that code changes neither who runs nor the declarations, and that names keep their places. Definitions and laws alone.
+//! The law that code changes neither who runs nor the declarations, and that names keep their places; no code.
 #![tactic(auto)]

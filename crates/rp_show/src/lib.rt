@@ -2,11 +2,11 @@
 #![tactic(auto)]
 
 mod brackets;
-mod named;
+mod object_names;
 mod printer;
 mod purse;
+mod rock_texts;
 mod showing;
-mod shown;
 
+pub use rock_texts::shown_inside;
 pub use showing::show;
-pub use shown::shown_inside;

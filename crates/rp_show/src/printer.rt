@@ -10,7 +10,7 @@ ghost use Rattle.rp_show.specs.Prints.{Prints};
 ghost use Rattle.rp_store.specs.Heap.{Owned};
 
 use crate::purse::Purse;
-use crate::shown::{Line, shown_inside};
+use crate::rock_texts::{Line, shown_inside};
 use rp_base::{OpEnd, Rock};
 use rp_store::Store;
 use std::alloc::Global;

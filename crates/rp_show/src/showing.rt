@@ -14,10 +14,10 @@ ghost use Rattle.rp_show.specs.ShowView.{item_of, items, object_within, opening,
 ghost use Rattle.rp_show.specs.Prints.{Prints};
 
 use crate::brackets::{closing, cut_text, is_container, opening};
-use crate::named::print_named;
+use crate::object_names::print_named;
 use crate::printer::Printer;
 use crate::purse::Purse;
-use crate::shown::shown_inside;
+use crate::rock_texts::shown_inside;
 use rp_base::{Memory, Meter, Names, Oid, OpEnd, Rock, Text, Value};
 use rp_dict::Dict;
 use rp_ops::{Refusal, step};

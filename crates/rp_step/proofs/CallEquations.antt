@@ -6,21 +6,21 @@ use Rattle.rp_tree.specs.declared.expr.Arg.TheVariants as arg
 use Rattle.rp_tree.specs.declared.expr.Expr.{Expr}
 use Rattle.rp_tree.specs.declared.expr.Trailer.TheVariants as trailer
 use Rattle.rp_tree.specs.ExpressionViews.{view_arg, args_of}
-use Rattle.rp_tree.proofs.ExpressionEquations as v
+use Rattle.rp_tree.proofs.ExpressionEquations as equations
 use Rattle.rp_meaning.specs.Calls.{plain_argument}
-use Rattle.rp_meaning.specs.Expressions as e
-use Rattle.rp_meaning.specs.Meaning as m
+use Rattle.rp_meaning.specs.Expressions as forms
+use Rattle.rp_meaning.specs.Meaning as meaning
 use Rattle.rp_step.specs.Does as does
 
-args_are : (xs : List Arg) → m.args (args_of (map view_arg xs)) ≡ does.args xs
+args_are : (xs : List Arg) → meaning.args (args_of (map view_arg xs)) ≡ does.args xs
 unfolding does.arg
 args_are [] = refl
-args_are (x ∷ xs) = ap (λ ms. m.arg (view_arg x) ∷ ms) (args_are xs)
+args_are (x ∷ xs) = ap (λ ms. meaning.arg (view_arg x) ∷ ms) (args_are xs)
 
-pub trailer_call : (xs : Vec Arg Global) (g : Option Guard) → does.trailer (trailer.Call xs g) ≡ e.call (does.args xs.items)
+pub trailer_call : (xs : Vec Arg Global) (g : Option Guard) → does.trailer (trailer.Call xs g) ≡ forms.call (does.args xs.items)
 unfolding does.trailer
-trailer_call xs g = ap m.trailer (v.trailer_call xs g) ∙ ap e.call (args_are xs.items)
+trailer_call xs g = ap meaning.trailer (equations.trailer_call xs g) ∙ ap forms.call (args_are xs.items)
 
 pub arg_plain : (x : Expr) → does.arg (arg.Plain x) ≡ plain_argument (does.expr x)
 unfolding does.arg does.expr
-arg_plain x = ap m.arg (v.arg_plain x)
+arg_plain x = ap meaning.arg (equations.arg_plain x)

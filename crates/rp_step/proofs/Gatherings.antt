@@ -3,6 +3,7 @@ use Rattle.std.proofs.Common.{◌≡◌, ℕ, suc, ◌+◌, List, [], ◌∷◌,
 use Rattle.std.specs.Prelude.{OnOk}
 use Rattle.std.proofs.lemmas.List.{append-nil}
 use Rattle.rp_base.specs.declared.value.OpEnd.{OpEnd}
+use Rattle.rp_base.specs.declared.value.OpEnd.TheVariants as end
 use Rattle.rp_base.specs.declared.value.Oid.{Oid}
 use Rattle.rp_base.specs.declared.value.Side.{Side}
 use Rattle.rp_base.specs.declared.value.Value.{Value}
@@ -14,13 +15,13 @@ use Rattle.rp_meaning.specs.State.{State, Outcome, lifted, plainly}
 use Rattle.rp_meaning.proofs.Laws.{items_more}
 use Rattle.rp_ops.specs.Binary.{new_object}
 use Rattle.rp_ops.specs.Outcome as plain
-use Rattle.rp_ops.specs.Outcome.{End, gives, on_answer, on_value}
+use Rattle.rp_ops.specs.Outcome.{Answers, End, gives, on_answer, on_found, on_value}
 use Rattle.rp_proxy.specs.declared.world.World.{World}
 use Rattle.rp_proxy.proofs.LaterStores.{with_store}
 use Rattle.rp_store.specs.Object.{Content}
 use Rattle.rp_store.specs.Store.{Cells}
 use Rattle.rp_access.specs.Comes.{Comes, IsEnd}
-use Rattle.rp_step.specs.DisplaySteps.{display, displayed, elements, makes_of}
+use Rattle.rp_step.specs.DisplaySteps.{display, displayed, elements, makes_display, makes_of}
 use Rattle.rp_step.specs.Gathering.{Gathers}
 use Rattle.rp_step.specs.Law.{Evaluates, frame_in, rest_of}
 use Rattle.rp_access.specs.Moment.{state_of}
@@ -36,6 +37,7 @@ use Rattle.rp_step.proofs.Moves.{on_ok}
 display_is : (d : Display) (ms : List Meaning) (f : Frame) (s : State) → display d ms f s ≡ on_value (step_end s) (λ _ s. elements d ms [] f s)
 display_is kind.List ms f s = refl
 display_is kind.Tuple ms f s = refl
+display_is kind.Dict ms f s = refl
 
 module _ (m n : Machine) (w u v : World) (r : Result (Unit {0}) Halt) (d : Display) where
   -- it begins with no element at hand
@@ -53,7 +55,7 @@ module _ (m n : Machine) (w : World) (r : Result (Unit {0}) Halt) (d : Display) 
   pub gathers_more : (x : Meaning) (ms : List Meaning) → OnOk r (Waits x ms) → OnOk r (Gathers d i (x ∷ ms) m w n w)
   gathers_more x ms h = on_ok r (Waits x ms) (Gathers d i (x ∷ ms) m w n w)
       (λ law base. law base (state_of w) ∙ ap (λ o. rest m.tasks (gave (frame_in base m) (drop i m.values) o))
-      (sym (items_more x ms (reverse (take i m.values)) (λ vs s. makes_of (frame_in base m).side (displayed d vs) s) (frame_in base m) (state_of w)))) h
+      (sym (items_more x ms (reverse (take i m.values)) (λ vs s. makes_display (frame_in base m).side d vs s) (frame_in base m) (state_of w)))) h
 
 -- the world is as it was
 pub gathers_waits : (m n : Machine) (w u : World) (r : Result (Unit {0}) Halt) (d : Display) (i : ℕ) (x : Meaning) (ms : List Meaning) → u ≡ w → OnOk r (Waits m n w r d i x ms) → OnOk r (Gathers d i (x ∷ ms) m w n u)
@@ -67,7 +69,7 @@ gathers_value m n w u r d i x ms a is h =
     on_ok r ((base : Run) (s : State) → rest_of base n s ≡ rest m.tasks (gave (frame_in base m) (drop i m.values) (elements d ms (reverse (take i m.values) ++ a ∷ []) (frame_in base m) s)))
     (Gathers d i (x ∷ ms) m w n u)
     (λ law base. law base (state_of u) ∙ ap (λ o. rest m.tasks (gave (frame_in base m) (drop i m.values) o))
-    (sym (items_more x ms (reverse (take i m.values)) (λ vs s. makes_of (frame_in base m).side (displayed d vs) s) (frame_in base m) (state_of w)
+    (sym (items_more x ms (reverse (take i m.values)) (λ vs s. makes_display (frame_in base m).side d vs s) (frame_in base m) (state_of w)
     ∙ gives-then a (state_of u) (x (frame_in base m) (state_of w)) (λ v s. elements d ms (reverse (take i m.values) ++ v ∷ []) (frame_in base m) s) (is base)))) h
 
 -- it has none
@@ -77,7 +79,7 @@ pub gathers_end : (m n : Machine) (w u : World) (r : Result (Unit {0}) Halt) (d 
 gathers_end m n w u r d i x ms e is h =
     on_ok r ((base : Run) (s : State) (o : Outcome Value) → IsEnd e s o → rest_of base n s ≡ rest m.tasks (gave (frame_in base m) (drop i m.values) o)) (Gathers d i (x ∷ ms) m w n u)
     (λ law base. law base (state_of u) _ (IsEnd-same e (state_of u) _ _
-    (items_more x ms (reverse (take i m.values)) (λ vs s. makes_of (frame_in base m).side (displayed d vs) s) (frame_in base m) (state_of w))
+    (items_more x ms (reverse (take i m.values)) (λ vs s. makes_display (frame_in base m).side d vs s) (frame_in base m) (state_of w))
     (IsEnd-then e (state_of u) (x (frame_in base m) (state_of w)) (λ v s. elements d ms (reverse (take i m.values) ++ v ∷ []) (frame_in base m) s) (is base)))) h
 
 -- some values were dropped before
@@ -89,21 +91,21 @@ forgot_end m z n r i e is h =
 
 -- all are at hand
 gathers_all : (m n : Machine) (w v : World) (r : Result (Unit {0}) Halt) (d : Display) (i : ℕ) (vs : List Value) (a : Result Value OpEnd) → vs ≡ reverse (take i m.values)
-    → Comes a (state_of v) (makes_of m.frame.side (displayed d vs) (state_of w))
+    → Comes a (state_of v) (makes_display m.frame.side d vs (state_of w))
     → OnOk r ((base : Run) (s : State) (o : Outcome Value) → Comes a s o → rest_of base n s ≡ rest m.tasks (gave (frame_in base m) (drop i m.values) o))
     → OnOk r (Gathers d i [] m w n v)
 gathers_all m n w v r d i vs a are is h =
     on_ok r ((base : Run) (s : State) (o : Outcome Value) → Comes a s o → rest_of base n s ≡ rest m.tasks (gave (frame_in base m) (drop i m.values) o)) (Gathers d i [] m w n v)
-    (λ law base. law base (state_of v) _ (subst (λ (us : List Value). Comes a (state_of v) (makes_of m.frame.side (displayed d us) (state_of w)))
+    (λ law base. law base (state_of v) _ (subst (λ (us : List Value). Comes a (state_of v) (makes_display m.frame.side d us (state_of w)))
     (are ∙ sym (append-nil (reverse (take i m.values)))) is)) h
 
 -- they were taken off
 pub gathers_taken : (m z n : Machine) (w v : World) (r : Result (Unit {0}) Halt) (d : Display) (i : ℕ) (vs : List Value) (a : Result Value OpEnd) → z ≡ record m { values = drop i m.values }
-    → vs ≡ reverse (take i m.values) → Comes a (state_of v) (makes_of z.frame.side (displayed d vs) (state_of w))
+    → vs ≡ reverse (take i m.values) → Comes a (state_of v) (makes_display z.frame.side d vs (state_of w))
     → OnOk r ((base : Run) (s : State) (o : Outcome Value) → Comes a s o → rest_of base n s ≡ rest z.tasks (gave (frame_in base z) z.values o))
     → OnOk r (Gathers d i [] m w n v)
 gathers_taken m z n w v r d i vs a left are is h =
-    gathers_all m n w v r d i vs a are (subst (λ (z : Machine). Comes a (state_of v) (makes_of z.frame.side (displayed d vs) (state_of w))) left is)
+    gathers_all m n w v r d i vs a are (subst (λ (z : Machine). Comes a (state_of v) (makes_display z.frame.side d vs (state_of w))) left is)
     (subst (λ (z : Machine). OnOk r ((base : Run) (s : State) (o : Outcome Value) → Comes a s o → rest_of base n s ≡ rest z.tasks (gave (frame_in base z) z.values o))) left h)
 
 -- one more element is at hand
@@ -130,10 +132,16 @@ makes_plainly : (side : Side) (c : Content) (s : State) → makes_of side c s �
 makes_plainly side c s = made_by (plain.makes side c s.plain).answer (plain.makes side c s.plain).state s
 
 -- a display is made, in a world with another store
-pub display_made : (w : World) (store : Cells) (r : Result Value OpEnd) (side : Side) (c d : Content) → c ≡ d
+pub display_made : (w : World) (store : Cells) (r : Result Value OpEnd) (side : Side) (d : Display) (vs : List Value) (c : Content) → displayed d vs ≡ Ok c
     → plain.Meets r (plain.state_of store w.running.meter.left) (new_object side c (plain.state_of w.store w.running.meter.left))
-    → Comes r (state_of (with_store w store)) (makes_of side d (state_of w))
-display_made w store r side c d same is =
-    subst (λ (d : Content). Comes r (state_of (with_store w store)) (makes_of side d (state_of w))) same
-    (Comes-same r (state_of (with_store w store)) _ _ (makes_plainly side c (state_of w))
-    (Comes-lifted r (state_of w) (plain.state_of store w.running.meter.left) (new_object side c (plain.state_of w.store w.running.meter.left)) is))
+    → Comes r (state_of (with_store w store)) (makes_display side d vs (state_of w))
+display_made w store r side d vs c found is =
+    Comes-same r (state_of (with_store w store)) _ _ (ap (λ x. on_found x (state_of w) (makes_of side)) found ∙ makes_plainly side c (state_of w))
+    (Comes-lifted r (state_of w) (plain.state_of store w.running.meter.left) (new_object side c (plain.state_of w.store w.running.meter.left)) is)
+
+-- or its parts make none
+pub display_refused : (w : World) (e : OpEnd) (side : Side) (d : Display) (vs : List Value) → Answers {A = Content} (Err e) (displayed d vs) → IsEnd e (state_of w) (makes_display side d vs (state_of w))
+display_refused w (end.Raised r) side d vs is = ap (λ x. on_found x (state_of w) (makes_of side)) is
+display_refused w end.StopSteps side d vs is = absurd is
+display_refused w end.StopCells side d vs is = absurd is
+display_refused w end.Memory side d vs is = tt

@@ -5,6 +5,7 @@ pub mod AtHand
 pub mod CallEquations
 pub mod Callings
 pub mod Changed
+pub mod DictDisplays
 pub mod Doings
 pub mod Equations
 pub mod Firsts
@@ -19,11 +20,14 @@ pub mod Namings
 pub mod Operands
 pub mod Passing
 pub mod PlaceEquations
+pub mod Raisings
 pub mod Settling
+pub mod Slicings
 pub mod Slots
 pub mod Steps
 pub mod Trailing
 pub mod Truths
 pub mod Unbinding
+pub mod Unpacked
 pub mod Walked
 pub mod Worlds

@@ -7,7 +7,7 @@ use Rattle.rp_checker.specs.RowOf.{reading}
 use Rattle.rp_meaning.specs.Expressions.{nil}
 use Rattle.rp_meaning.specs.Frame.{Frame, Meaning, Doing, on_decision}
 use Rattle.rp_meaning.specs.State.{State, Outcome, Flow, broke, choose, heap_of, monitor_of, with_monitor}
-use Rattle.rp_meaning.specs.Statements as d
+use Rattle.rp_meaning.specs.Statements as stmt_forms
 use Rattle.rp_meaning.specs.Walks.{on_more, on_truth, on_turn}
 use Rattle.rp_meaning.proofs.Laws.{then_then}
 use Rattle.rp_ops.specs.Operand.{truth_of}
@@ -41,7 +41,7 @@ module _ (body : Doing) (f : Frame) (again : State → Outcome Flow) where
       let d = f.run.decide v (reading (word_of s.names BOOL)) (monitor_of s) in
       decided d.0 v (with_monitor d.1 s)
 
-  pub first_turn : (m : Meaning) (s : State) → on_value (d.tested m f (tt {0}) s) more ≡ on_turn (turn m body f s) again
+  pub first_turn : (m : Meaning) (s : State) → on_value (stmt_forms.tested m f (tt {0}) s) more ≡ on_turn (turn m body f s) again
   first_turn m s =
       then_then (step_end s) (λ _ s. on_value (m f s) (λ v s. on_truth v f s (gives (Some (nil, tt {0}))) (gives None))) more
       ∙ on_same (step_end s) _ _ (λ u t.

@@ -2,8 +2,10 @@
 use Rattle.std.proofs.Common.{◌≡◌, ℕ, ◌+◌, Bool, true, false, List, [], ◌∷◌, ◌++◌, Some, Result, Ok, Err, refl, sym, ap, subst, if◌then◌else◌, length}
 use Rattle.std.specs.Prelude.{slice_get, nat_lt, IfOk, OnOk, OnErr}
 use Rattle.std.specs.Option.{option_map}
+use Rattle.std.proofs.lemmas.List.Elements.{All-weaker}
 use Rattle.rp_base.specs.declared.value.Oid.{Oid}
 use Rattle.rp_base.specs.declared.value.OpEnd.{OpEnd}
+use Rattle.rp_base.specs.declared.value.Raised.{Raised}
 use Rattle.rp_base.specs.declared.value.Side.{Side}
 use Rattle.rp_base.specs.declared.value.Value.{Value}
 use Rattle.rp_base.specs.declared.value.Value.TheVariants as value
@@ -18,23 +20,45 @@ use Rattle.rp_proxy.specs.Held.{AreNamed, IsNamed}
 use Rattle.rp_proxy.specs.declared.world.World.{World}
 use Rattle.rp_store.specs.Cost.{cost}
 use Rattle.rp_store.specs.Heap.{Owned, owner_at}
-use Rattle.rp_store.specs.Kept.{IsFit, IsSafe, IsSound}
+use Rattle.rp_store.specs.Kept.{AreFit, AreSound, Holds, IsFit, IsSafe, IsSound}
+use Rattle.rp_store.specs.Object as object
 use Rattle.rp_store.specs.Object.{Content}
+use Rattle.rp_store.specs.Parts.{IsScope}
 use Rattle.rp_store.specs.Store.{Cells, made}
+use Rattle.rp_access.proofs.Coupled.{display_held}
 use Rattle.rp_access.proofs.Namings.{more_named, same_heap_faithful}
 use Rattle.rp_step.specs.DisplaySteps.{displayed}
 
-displayed_named : (names : List (List ℕ)) (d : Display) (vs : List Value) → IsNamed names (displayed d vs)
-displayed_named names kind.List vs = tt
-displayed_named names kind.Tuple vs = tt
+ok_same : (x : Result Content Raised) (a c : Content) → x ≡ Ok a → x ≡ Ok c → a ≡ c
+ok_same x a c this is = cc
+
+-- what a display holds: a list, a tuple or a dict of what is fit
+module _ (heap : List Owned) (side : Side) (vs : List Value) (c : Content) (fit : AreFit heap side vs) where
+  all_sound : AreSound heap vs
+  all_sound = All-weaker (IsFit heap side) (IsSound heap) (λ v h. h.0) vs fit
+
+  pub display_holds : (d : Display) → displayed d vs ≡ Ok c → Holds heap side c
+  display_holds kind.List is = subst (Holds heap side) (ok_same (displayed kind.List vs) (object.list vs) c refl is) all_sound
+  display_holds kind.Tuple is = subst (Holds heap side) (ok_same (displayed kind.Tuple vs) (object.tuple vs) c refl is) all_sound
+  display_holds kind.Dict is = let held = display_held heap vs c is all_sound in subst (Holds heap side) (sym held.is) held.held
+
+  pub display_value : (d : Display) → displayed d vs ≡ Ok c → ¬ (IsScope c)
+  display_value kind.List is = subst (λ (c : Content). ¬ (IsScope c)) (ok_same (displayed kind.List vs) (object.list vs) c refl is) (λ h. h)
+  display_value kind.Tuple is = subst (λ (c : Content). ¬ (IsScope c)) (ok_same (displayed kind.Tuple vs) (object.tuple vs) c refl is) (λ h. h)
+  display_value kind.Dict is = let held = display_held heap vs c is all_sound in subst (λ (c : Content). ¬ (IsScope c)) (sym held.is) (λ h. h)
+
+  display_named : (names : List (List ℕ)) (d : Display) → displayed d vs ≡ Ok c → IsNamed names c
+  display_named names kind.List is = subst (IsNamed names) (ok_same (displayed kind.List vs) (object.list vs) c refl is) tt
+  display_named names kind.Tuple is = subst (IsNamed names) (ok_same (displayed kind.Tuple vs) (object.tuple vs) c refl is) tt
+  display_named names kind.Dict is = let held = display_held heap vs c is all_sound in subst (IsNamed names) (sym held.is) tt
 
 -- after a display
-pub display_faithful : (w : World) (store : Cells) (r : Result Value OpEnd) (side : Side) (d : Display) (vs : List Value) (c : Content) → c ≡ displayed d vs
+pub display_faithful : (w : World) (store : Cells) (r : Result Value OpEnd) (side : Side) (d : Display) (vs : List Value) (c : Content) → AreFit w.store.heap side vs → displayed d vs ≡ Ok c
     → OnOk r (store ≡ made w.store side c) → OnErr r (store ≡ w.store) → IsFaithful w → IsFaithful (with_store w store)
-display_faithful w store (Ok v) side d vs c are is same h =
+display_faithful w store (Ok v) side d vs c fit are is same h =
     IsFaithful-stored w store (subst (λ (s : Cells). AreNamed w.names s.heap) (sym is)
-    (more_named w.names w.store.heap (record { owner = side; content = c }) (subst (IsNamed w.names) (sym are) (displayed_named w.names d vs)) h.classes)) h
-display_faithful w store (Err e) side d vs c are is same h = same_heap_faithful w store (ap (λ (s : Cells). s.heap) same) h
+    (more_named w.names w.store.heap (record { owner = side; content = c }) (display_named w.store.heap side vs c fit w.names d are) h.classes)) h
+display_faithful w store (Err e) side d vs c fit are is same h = same_heap_faithful w store (ap (λ (s : Cells). s.heap) same) h
 
 -- a new object is fit for its side
 last_owned : (heap : List Owned) (o : Owned) → slice_get (heap ++ o ∷ []) (length heap) ≡ Some o

@@ -31,6 +31,10 @@ below_twice : (vs : List Value) → below (below vs) ≡ drop 2 vs
 below_twice [] = refl
 below_twice (v ∷ vs) = below_drop vs
 
+below_thrice : (vs : List Value) → below (below (below vs)) ≡ drop 3 vs
+below_thrice [] = refl
+below_thrice (v ∷ vs) = below_twice vs
+
 module _ (f : Frame) (vs : List Value) where
   -- an expression that has no value
   pub expr_cut : (t : ExprTask) (e : End) (s : State) → after (task.Expr t) (gave f vs (ends e s)) ≡ gave f (drop (at_hand t) vs) (ends e s)
@@ -48,6 +52,11 @@ module _ (f : Frame) (vs : List Value) where
   expr_cut (expr.Key ts) e s = ap (λ vs. gave f vs (ends e s)) (below_drop vs)
   expr_cut (expr.Items d n es) e s = refl
   expr_cut (expr.Argument n as' ts) e s = refl
+  expr_cut (expr.SliceFrom b c ts) e s = ap (λ vs. gave f vs (ends e s)) (below_drop vs)
+  expr_cut (expr.SliceTo c ts) e s = ap (λ vs. gave f vs (ends e s)) (below_twice vs)
+  expr_cut (expr.SliceStep ts) e s = ap (λ vs. gave f vs (ends e s)) (below_thrice vs)
+  expr_cut (expr.DictKey n x ps) e s = refl
+  expr_cut (expr.DictValue n ps) e s = refl
 
   pub stmt_cut : (t : StmtTask) (e : End) (s : State) → after (task.Stmt t) (gave f vs (ends e s)) ≡ did f (drop (stmt_with t) vs) (ends e s)
   stmt_cut stmt.Evaluate e s = refl
@@ -64,6 +73,13 @@ module _ (f : Frame) (vs : List Value) where
   stmt_cut stmt.DeleteKey e s = ap (λ vs. did f vs (ends e s)) (below_drop vs)
   stmt_cut (stmt.AugmentName n op) e s = ap (λ vs. did f vs (ends e s)) (below_drop vs)
   stmt_cut (stmt.For x) e s = refl
+  stmt_cut stmt.Raise e s = refl
+  stmt_cut (stmt.AugmentAttr n op x) e s = refl
+  stmt_cut (stmt.AugmentedAttr n op) e s = ap (λ vs. did f vs (ends e s)) (below_twice vs)
+  stmt_cut (stmt.AugmentItem k op x) e s = refl
+  stmt_cut (stmt.AugmentKey op x) e s = ap (λ vs. did f vs (ends e s)) (below_drop vs)
+  stmt_cut (stmt.AugmentedItem op) e s = ap (λ vs. did f vs (ends e s)) (below_thrice vs)
+  stmt_cut (stmt.Unpack t) e s = refl
 
   -- a statement that was cut off
   pub did_cut : (t : Task) (e : End) (s : State) → after t (did f vs (ends e s)) ≡ did f (drop (flow_with t) vs) (ends e s)
@@ -74,6 +90,7 @@ module _ (f : Frame) (vs : List Value) where
   did_cut (task.Flow (flow.Store ps)) e s = ap (λ vs. did f vs (ends e s)) (below_drop vs)
   did_cut (task.Flow (flow.Delete ps)) e s = refl
   did_cut (task.Flow (flow.For n p x)) e s = ap (λ vs. did f vs (ends e s)) (below_drop vs)
+  did_cut (task.Flow (flow.StoreEach ts)) e s = refl
 
 -- a task that was taken off
 pub leaves_by : (m n : Machine) (w v : World) (t : Task) (ts : List Task) → m.tasks ≡ t ∷ ts → Takes t (record m { tasks = ts }) w n v → Leaves m w n v

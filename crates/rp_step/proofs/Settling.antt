@@ -4,7 +4,7 @@ use mathlib.Core.Bool.{beq}
 use Rattle.std.specs.Prelude.{OnOk}
 use Rattle.rp_base.specs.declared.value.OpEnd.{OpEnd}
 use Rattle.rp_base.specs.declared.value.Value.{Value}
-use Rattle.rp_meaning.specs.Expressions as e
+use Rattle.rp_meaning.specs.Expressions as forms
 use Rattle.rp_meaning.specs.Frame.{Frame, Meaning, Run}
 use Rattle.rp_meaning.specs.State.{State, Outcome}
 use Rattle.rp_ops.specs.Outcome.{gives}
@@ -26,7 +26,7 @@ pub later_none : (all : Bool) (v : Value) (f : Frame) (s : State) → later all 
 later_none true v f s = refl
 later_none false v f s = refl
 
-pub joined_none : (all : Bool) (f : Frame) (s : State) → joined all [] f s ≡ gives e.nil s
+pub joined_none : (all : Bool) (f : Frame) (s : State) → joined all [] f s ≡ gives forms.nil s
 joined_none true f s = refl
 joined_none false f s = refl
 

@@ -3,7 +3,7 @@ use Rattle.std.proofs.Common.{◌≡◌, List, ◌∙◌}
 use Rattle.rp_base.specs.declared.value.Name.{Name}
 use Rattle.rp_base.specs.declared.value.Value.{Value}
 use Rattle.rp_meaning.specs.Access.{get_attribute, get_item}
-use Rattle.rp_meaning.specs.Expressions as e
+use Rattle.rp_meaning.specs.Expressions as forms
 use Rattle.rp_meaning.specs.Frame.{Frame, Meaning}
 use Rattle.rp_meaning.specs.State.{State, Outcome}
 use Rattle.rp_meaning.proofs.Laws.{then_then}
@@ -15,12 +15,12 @@ use Rattle.rp_access.proofs.Going.{on_same}
 
 module _ (ts : List (Value → Meaning)) (v : Value) (f : Frame) (s : State) where
   abbrev behind : Value → State → Outcome Value
-  behind w s = e.trailers ts w f s
+  behind w s = forms.trailers ts w f s
 
-  pub attribute_stepped : (n : Name) → next_trailer (e.attribute n) ts v f s ≡ on_value (step_end s) (λ _ s. with_attribute n ts v f s)
+  pub attribute_stepped : (n : Name) → next_trailer (forms.attribute n) ts v f s ≡ on_value (step_end s) (λ _ s. with_attribute n ts v f s)
   attribute_stepped n = then_then (step_end s) (λ _ s. get_attribute v n f s) behind
 
-  pub item_stepped : (x : Meaning) → next_trailer (e.item x) ts v f s ≡ step_to x (with_item v ts) f s
+  pub item_stepped : (x : Meaning) → next_trailer (forms.item x) ts v f s ≡ step_to x (with_item v ts) f s
   item_stepped x =
       then_then (step_end s) (λ _ s. on_value (x f s) (λ i s. get_item v i f s)) behind
       ∙ on_same (step_end s) (λ _ s. on_value (on_value (x f s) (λ i s. get_item v i f s)) behind) (λ _ s. on_value (x f s) (λ i s. with_item v ts i f s))

@@ -3,7 +3,7 @@ use Rattle.std.proofs.Common.{◌≡◌, Bool, true, false, Result, Ok, Err, ref
 use Rattle.std.specs.Prelude.{not, OnOk}
 use Rattle.rp_base.specs.declared.value.OpEnd.{OpEnd}
 use Rattle.rp_base.specs.declared.value.Value.{Value}
-use Rattle.rp_meaning.specs.Expressions as e
+use Rattle.rp_meaning.specs.Expressions as forms
 use Rattle.rp_meaning.specs.Frame.{Meaning, Run}
 use Rattle.rp_meaning.specs.State.{State, Outcome, choose}
 use Rattle.rp_ops.specs.Outcome.{gives}
@@ -43,14 +43,14 @@ module _ (m n : Machine) (w u : World) (r : Result (Unit {0}) Halt) (a : Value) 
       → OnOk r ((base : Run) (s : State) (o : Outcome Value) → IsEnd e s o → rest_of base n s ≡ rest m.tasks (gave (frame_in base m) m.values o)) → OnOk r (Evaluates (either A B a) m w n u)
   no_truth A B e is law = end_ok m n w u r (either A B a) e (either_ends m w u a A B e is) law
 
-  not_is : (b : Bool) (s : State) → choose b (gives (e.truth false)) (gives (e.truth true)) s ≡ gives (e.truth (not b)) s
+  not_is : (b : Bool) (s : State) → choose b (gives (forms.truth false)) (gives (forms.truth true)) s ≡ gives (forms.truth (not b)) s
   not_is true s = refl
   not_is false s = refl
 
   pub not_given : (b : Bool) → truth_asked a (state_of w) ≡ gives b (state_of u)
-      → OnOk r ((base : Run) (s : State) → rest_of base n s ≡ rest m.tasks (gave (frame_in base m) m.values (gives (e.truth (not b)) s))) → OnOk r (Evaluates (not_of a) m w n u)
-  not_given b is law = goes_ok m n w u r (not_of a) (λ f s. gives (e.truth (not b)) s)
-      (λ base. either_is m w u a (λ f s. gives (e.truth false) s) (λ f s. gives (e.truth true) s) b is base ∙ not_is b (state_of u)) law
+      → OnOk r ((base : Run) (s : State) → rest_of base n s ≡ rest m.tasks (gave (frame_in base m) m.values (gives (forms.truth (not b)) s))) → OnOk r (Evaluates (not_of a) m w n u)
+  not_given b is law = goes_ok m n w u r (not_of a) (λ f s. gives (forms.truth (not b)) s)
+      (λ base. either_is m w u a (λ f s. gives (forms.truth false) s) (λ f s. gives (forms.truth true) s) b is base ∙ not_is b (state_of u)) law
 
 -- whatever is answered
 pub anyway : {A E : Type 0} (r : Result A E) (P : Type 0) → P → OnOk r P

@@ -17,37 +17,37 @@ use Rattle.rp_tree.specs.ExpressionViews.{view_arg, view_expr, view_form, view_p
 use Rattle.rp_tree.specs.StatementViews.{view_branch, view_stmt, view_stmt_form}
 use Rattle.rp_meaning.specs.Calls.{Argument}
 use Rattle.rp_meaning.specs.Frame.{Meaning, Doing}
-use Rattle.rp_meaning.specs.Meaning as m
-use Rattle.rp_meaning.specs.Statements as d
+use Rattle.rp_meaning.specs.Meaning as meaning
+use Rattle.rp_meaning.specs.Statements as stmt_forms
 use Rattle.rp_meaning.specs.Statements.{Store}
 
 unfoldable pub expr : Expr → Meaning
-expr x = m.eval (view_expr x)
+expr x = meaning.eval (view_expr x)
 
 unfoldable pub form : ExprForm → Meaning
-form x = m.eval_form (view_form x)
+form x = meaning.eval_form (view_form x)
 
 unfoldable pub place : Place → Store
-place x = m.place (view_place x)
+place x = meaning.place (view_place x)
 
 unfoldable pub target : Target → Store
-target x = m.target (view_target x)
+target x = meaning.target (view_target x)
 
 unfoldable pub stmt : Stmt → Doing
-stmt x = m.exec (view_stmt x)
+stmt x = meaning.exec (view_stmt x)
 
 unfoldable pub stmt_form : StmtForm → Doing
-stmt_form x = m.exec_form (view_stmt_form x)
+stmt_form x = meaning.exec_form (view_stmt_form x)
 
 unfoldable pub delete : Place → Doing
-delete x = m.delete (view_place x)
+delete x = meaning.delete (view_place x)
 
 unfoldable pub augment : Place → BinOp → Meaning → Doing
-augment x op value = m.augment (view_place x) op value
+augment x op value = meaning.augment (view_place x) op value
 
 -- a branch of `if`: its test and its block
 unfoldable pub branch : Branch → Meaning × Doing
-branch x = (m.eval (view_branch x).0, d.block (m.stmts (view_branch x).1))
+branch x = (meaning.eval (view_branch x).0, stmt_forms.block (meaning.stmts (view_branch x).1))
 
 -- one that may be missing
 abbrev pub maybe : Option Expr → Option Meaning
@@ -64,20 +64,30 @@ ops ps = map op ps
 abbrev pub places : List Place → List Store
 places ps = map place ps
 
+abbrev pub targets : List Target → List Store
+targets ts = map target ts
+
 abbrev pub deletes : List Place → Doing
-deletes ps = d.block (map delete ps)
+deletes ps = stmt_forms.block (map delete ps)
 
 abbrev pub branches : List Branch → List (Meaning × Doing)
 branches bs = map branch bs
 
 -- a block
 abbrev pub block : List Stmt → Doing
-block xs = d.block (map stmt xs)
+block xs = stmt_forms.block (map stmt xs)
 
 -- operands, and the tests of a comparison
 
 abbrev pub exprs : List Expr → List Meaning
 exprs xs = map expr xs
+
+-- a key with its value
+abbrev pub pair : Expr × Expr → Meaning × Meaning
+pair p = (expr p.0, expr p.1)
+
+abbrev pub pairs : List (Expr × Expr) → List (Meaning × Meaning)
+pairs ps = map pair ps
 
 abbrev pub test : Test × Expr → Test × Meaning
 test p = (p.0, expr p.1)
@@ -88,7 +98,7 @@ tests ps = map test ps
 -- what trails a primary
 
 unfoldable pub trailer : Trailer → Value → Meaning
-trailer x = m.trailer (view_trailer x)
+trailer x = meaning.trailer (view_trailer x)
 
 abbrev pub trailers : List Trailer → List (Value → Meaning)
 trailers ts = map trailer ts
@@ -96,7 +106,7 @@ trailers ts = map trailer ts
 -- the arguments of a call
 
 unfoldable pub arg : Arg → Argument
-arg x = m.arg (view_arg x)
+arg x = meaning.arg (view_arg x)
 
 abbrev pub args : List Arg → List Argument
 args xs = map arg xs

@@ -2,7 +2,7 @@
 use Rattle.std.specs.Prelude.{Bool, true, false}
 use Rattle.rp_base.specs.declared.operator.BinOp.TheVariants.{Pow}
 use Rattle.rp_base.specs.declared.value.Value.{Value}
-use Rattle.rp_meaning.specs.Expressions as e
+use Rattle.rp_meaning.specs.Expressions as forms
 use Rattle.rp_meaning.specs.Frame.{Meaning}
 use Rattle.rp_meaning.specs.Operators.{operate}
 use Rattle.rp_meaning.specs.State.{choose, stepped}
@@ -19,7 +19,7 @@ step_to x go frame s = stepped s (put_to x go frame)
 
 -- `not v`
 abbrev pub not_of : Value → Meaning
-not_of v frame s = on_truth v frame s (gives (e.truth false)) (gives (e.truth true))
+not_of v frame s = on_truth v frame s (gives (forms.truth false)) (gives (forms.truth true))
 
 -- one of two expressions
 abbrev pub one_of : Bool → Meaning → Meaning → Meaning

@@ -1,5 +1,5 @@
 -- How the code tells that a block was left, and how many values a task has at hand.
-use Rattle.std.specs.Prelude.{ℕ, suc, Result, Ok, Err}
+use Rattle.std.specs.Prelude.{ℕ, suc, length, Result, Ok, Err}
 use Rattle.rp_base.specs.declared.value.OpEnd.{OpEnd}
 use Rattle.rp_frame.specs.declared.task.ExprTask.{ExprTask}
 use Rattle.rp_frame.specs.declared.task.ExprTask.TheVariants as expr
@@ -30,6 +30,11 @@ at_hand (expr.Test t ts) = 1
 at_hand (expr.Key ts) = 1
 at_hand (expr.Items d n es) = n
 at_hand (expr.Argument n as' ts) = suc n
+at_hand (expr.SliceFrom b c ts) = 1
+at_hand (expr.SliceTo c ts) = 2
+at_hand (expr.SliceStep ts) = 3
+at_hand (expr.DictKey n x ps) = n
+at_hand (expr.DictValue n ps) = n
 at_hand _ = 0
 
 -- those that a statement waits with for the value of an expression
@@ -39,10 +44,14 @@ stmt_with (stmt.StoreItem k) = 1
 stmt_with stmt.StoreKey = 2
 stmt_with stmt.DeleteKey = 1
 stmt_with (stmt.AugmentName n op) = 1
+stmt_with (stmt.AugmentedAttr n op) = 2
+stmt_with (stmt.AugmentKey op x) = 1
+stmt_with (stmt.AugmentedItem op) = 3
 stmt_with _ = 0
 
 -- and what waits for the end of a statement
 abbrev pub flow_with : Task → ℕ
 flow_with (task.Flow (flow.Store ps)) = 1
 flow_with (task.Flow (flow.For n p e)) = 1
+flow_with (task.Flow (flow.StoreEach ts)) = length ts.now
 flow_with _ = 0

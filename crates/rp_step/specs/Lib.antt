@@ -12,7 +12,10 @@ pub mod Law
 pub mod Left
 pub mod Loops
 pub mod Moment
+pub mod Raising
 pub mod Ready
 pub mod Rest
+pub mod SliceSteps
 pub mod Slots
 pub mod TrailerSteps
+pub mod Unpackings

@@ -1,5 +1,5 @@
 -- What a machine still has to do.
-use Rattle.std.specs.Prelude.{ℕ, suc, true, false, List, [], ◌∷◌, ◌++◌, drop, take, reverse, Option}
+use Rattle.std.specs.Prelude.{ℕ, suc, true, false, List, [], ◌∷◌, ◌++◌, drop, length, take, reverse, Option}
 use Rattle.rp_base.specs.declared.operator.BinOp.{BinOp}
 use Rattle.rp_base.specs.declared.operator.BinOp.TheVariants.{Pow}
 use Rattle.rp_base.specs.declared.kind.Kind.TheVariants.{AssertionError}
@@ -9,6 +9,7 @@ use Rattle.rp_base.specs.declared.word.TheConstants.{STR}
 use Rattle.rp_frame.specs.Top.{top, below}
 use Rattle.rp_frame.specs.declared.control.Control.{Control}
 use Rattle.rp_frame.specs.declared.control.Control.TheVariants as control
+use Rattle.rp_frame.specs.declared.display.Display.TheVariants as kind
 use Rattle.rp_frame.specs.declared.task.ExprTask.{ExprTask}
 use Rattle.rp_frame.specs.declared.task.ExprTask.TheVariants as expr
 use Rattle.rp_frame.specs.declared.task.FlowTask.{FlowTask}
@@ -18,23 +19,26 @@ use Rattle.rp_frame.specs.declared.task.StmtTask.TheVariants as stmt
 use Rattle.rp_frame.specs.declared.task.Task.{Task}
 use Rattle.rp_frame.specs.declared.task.Task.TheVariants as task
 use Rattle.rp_meaning.specs.Access as access
-use Rattle.rp_meaning.specs.Expressions as e
+use Rattle.rp_meaning.specs.Expressions as forms
 use Rattle.rp_meaning.specs.Frame.{Frame, Meaning, Doing, asked_for}
 use Rattle.rp_meaning.specs.Operators.{operate, operate_unary}
 use Rattle.rp_meaning.specs.State.{State, Outcome, Flow, next, broke, continued, on_next, stepped, done, plainly}
-use Rattle.rp_meaning.specs.Statements as d
+use Rattle.rp_meaning.specs.Statements as stmt_forms
 use Rattle.rp_meaning.specs.Walks.{on_truth, on_turn, turns}
 use Rattle.rp_ops.specs.Outcome.{gives, ends, raises, on_value}
 use Rattle.rp_show.specs.Show.{show}
 use Rattle.rp_step.specs.ArgumentSteps.{with_arguments}
-use Rattle.rp_step.specs.Augments.{name_augmented}
+use Rattle.rp_step.specs.Augments.{attribute_augmented, attribute_from, item_augmented, item_from, key_from, name_augmented}
 use Rattle.rp_step.specs.Ends.{end_of}
 use Rattle.rp_step.specs.ComparisonSteps.{with_test}
-use Rattle.rp_step.specs.DisplaySteps.{elements}
+use Rattle.rp_step.specs.DisplaySteps.{elements, parts}
 use Rattle.rp_step.specs.Does as does
 use Rattle.rp_step.specs.JoinSteps.{later}
+use Rattle.rp_step.specs.Raising.{raised_value}
+use Rattle.rp_step.specs.SliceSteps.{from_stride, from_upper, with_slice}
 use Rattle.rp_step.specs.TrailerSteps.{with_item}
 use Rattle.rp_step.specs.Loops.{over, walked}
+use Rattle.rp_step.specs.Unpackings.{store_from}
 use Rattle.rp_access.specs.Spots.{cursor_at}
 
 -- how a part ends, in a frame with values at hand
@@ -53,14 +57,14 @@ turn m body f s = stepped s (λ s. on_value (m f s) (λ v s. tested_turn v body 
 -- `assert`, from its test, or from its message
 
 abbrev pub asserted : Value → Option Meaning → Doing
-asserted v message f s = on_truth v f s done (d.failed message f)
+asserted v message f s = on_truth v f s done (stmt_forms.failed message f)
 
 abbrev pub failed_with : Value → Doing
 failed_with v f s = asked_for f STR v s (λ s. on_value (plainly (show s.names v) s) (λ t s. raises AssertionError t s))
 
 -- the operators behind an operator on two values
 abbrev pub with_operands : BinOp → Value → Value → List (BinOp × Meaning) → Meaning
-with_operands op a b os f s = on_value (operate op a b f s) (λ v s. e.operands os v f s)
+with_operands op a b os f s = on_value (operate op a b f s) (λ v s. forms.operands os v f s)
 
 -- the operators behind a value, from the next one on
 abbrev pub next_operand : BinOp → Meaning → List (BinOp × Meaning) → Value → Meaning
@@ -69,29 +73,39 @@ next_operand op m os a f s = stepped s (λ s. on_value (m f s) (λ b s. with_ope
 -- what a task does with the end of the part that it waits for
 
 abbrev pub after_expr : ExprTask → Frame → List Value → Outcome Value → Held
-after_expr (expr.Operands os) f vs o = gave f vs (on_value o (λ a s. e.operands (does.ops os.now) a f s))
+after_expr (expr.Operands os) f vs o = gave f vs (on_value o (λ a s. forms.operands (does.ops os.now) a f s))
 after_expr (expr.Operand op os) f vs o =
     gave f (below vs) (on_value o (λ b s. with_operands op (top vs) b (does.ops os.now) f s))
-after_expr expr.Not f vs o = gave f vs (on_value o (λ v s. on_truth v f s (gives (e.truth false)) (gives (e.truth true))))
+after_expr expr.Not f vs o = gave f vs (on_value o (λ v s. on_truth v f s (gives (forms.truth false)) (gives (forms.truth true))))
 after_expr (expr.Cond a b) f vs o = gave f vs (on_value o (λ v s. on_truth v f s (does.expr a.now f) (does.expr b.now f)))
 after_expr (expr.Unary op) f vs o = gave f vs (on_value o (λ a s. operate_unary op a f s))
 after_expr (expr.Power x) f vs o = gave f vs (on_value o (λ a s. on_value (does.expr x.now f s) (λ b s. operate Pow a b f s)))
 after_expr expr.Exponent f vs o = gave f (below vs) (on_value o (λ b s. operate Pow (top vs) b f s))
-after_expr (expr.Tests ts) f vs o = gave f vs (on_value o (λ a s. e.tests (does.tests ts.now) a f s))
+after_expr (expr.Tests ts) f vs o = gave f vs (on_value o (λ a s. forms.tests (does.tests ts.now) a f s))
 after_expr (expr.Test t ts) f vs o = gave f (below vs) (on_value o (λ b s. with_test t (top vs) (does.tests ts.now) b f s))
 after_expr (expr.Joined all es) f vs o = gave f vs (on_value o (λ v s. later all (does.exprs es.now) v f s))
-after_expr (expr.Trailers ts) f vs o = gave f vs (on_value o (λ v s. e.trailers (does.trailers ts.now) v f s))
+after_expr (expr.Trailers ts) f vs o = gave f vs (on_value o (λ v s. forms.trailers (does.trailers ts.now) v f s))
 after_expr (expr.Key ts) f vs o = gave f (below vs) (on_value o (λ i s. with_item (top vs) (does.trailers ts.now) i f s))
 after_expr (expr.Items d n es) f vs o =
     gave f (drop n vs) (on_value o (λ v s. elements d (does.exprs es.now) (reverse (take n vs) ++ v ∷ []) f s))
 after_expr (expr.Argument n as' ts) f vs o = gave f (drop (suc n) vs)
     (on_value o (λ v s. with_arguments (does.args as'.now) (does.trailers ts.now) (top (drop n vs)) (reverse (take n vs) ++ v ∷ []) f s))
+after_expr (expr.SliceFrom b c ts) f vs o =
+    gave f (below vs) (on_value o (λ x s. from_upper (top vs) (does.maybe b.now) (does.maybe c.now) (does.trailers ts.now) x f s))
+after_expr (expr.SliceTo c ts) f vs o =
+    gave f (below (below vs)) (on_value o (λ y s. from_stride (top (below vs)) (top vs) (does.maybe c.now) (does.trailers ts.now) y f s))
+after_expr (expr.SliceStep ts) f vs o = gave f (below (below (below vs)))
+    (on_value o (λ z s. with_slice (top (below (below vs))) (top (below vs)) (top vs) (does.trailers ts.now) z f s))
+after_expr (expr.DictKey n x ps) f vs o = gave f (drop n vs)
+    (on_value o (λ k s. elements kind.Dict (does.expr x.now ∷ parts (does.pairs ps.now)) (reverse (take n vs) ++ k ∷ []) f s))
+after_expr (expr.DictValue n ps) f vs o =
+    gave f (drop n vs) (on_value o (λ v s. elements kind.Dict (parts (does.pairs ps.now)) (reverse (take n vs) ++ v ∷ []) f s))
 
 abbrev pub after_stmt : StmtTask → Frame → List Value → Outcome Value → Held
 after_stmt stmt.Evaluate f vs o = did f vs (on_value o (λ v s. done s))
-after_stmt (stmt.Assign ps) f vs o = did f vs (on_value o (λ v s. d.store_all (does.places ps.now) v f s))
+after_stmt (stmt.Assign ps) f vs o = did f vs (on_value o (λ v s. stmt_forms.store_all (does.places ps.now) v f s))
 after_stmt (stmt.Branch b bs x) f vs o =
-    did f vs (on_value o (λ v s. on_truth v f s (does.block b.now f) (d.choose (does.branches bs.now) (does.block x.now) f)))
+    did f vs (on_value o (λ v s. on_truth v f s (does.block b.now f) (stmt_forms.choose (does.branches bs.now) (does.block x.now) f)))
 after_stmt (stmt.Test b) f vs o = did f vs (on_value o (λ v s. tested_turn v (does.block b.now) f s))
 after_stmt (stmt.Assert m) f vs o = did f vs (on_value o (λ v s. asserted v (does.maybe m.now) f s))
 after_stmt stmt.Fail f vs o = did f vs (on_value o (λ v s. failed_with v f s))
@@ -104,17 +118,27 @@ after_stmt (stmt.DeleteItem k) f vs o = did f vs (on_value o (λ a s. on_value (
 after_stmt stmt.DeleteKey f vs o = did f (below vs) (on_value o (λ i s. access.del_item (top vs) i f s))
 after_stmt (stmt.AugmentName n op) f vs o = did f (below vs) (on_value o (λ b s. name_augmented n op (top vs) b f s))
 after_stmt (stmt.For e) f vs o = did f vs (on_value o (λ v s. over (does.target e.target.now) (does.block e.body.now) v f s))
+after_stmt stmt.Raise f vs o = did f vs (on_value o (λ v s. raised_value v f s))
+after_stmt (stmt.AugmentAttr n op x) f vs o = did f vs (on_value o (λ v s. attribute_from n op (does.expr x.now) v f s))
+after_stmt (stmt.AugmentedAttr n op) f vs o =
+    did f (below (below vs)) (on_value o (λ b s. attribute_augmented (top (below vs)) n op (top vs) b f s))
+after_stmt (stmt.AugmentItem k op x) f vs o = did f vs (on_value o (λ v s. item_from (does.expr k.now) op (does.expr x.now) v f s))
+after_stmt (stmt.AugmentKey op x) f vs o = did f (below vs) (on_value o (λ i s. key_from (top vs) op (does.expr x.now) i f s))
+after_stmt (stmt.AugmentedItem op) f vs o = did f (below (below (below vs)))
+    (on_value o (λ b s. item_augmented (top (below (below vs))) (top (below vs)) op (top vs) b f s))
+after_stmt (stmt.Unpack t) f vs o = did f vs (on_value o (λ v s. does.target t.now v f s))
 
 -- the turns that a loop may still make
 abbrev pub loop : ℕ → Meaning → Doing → Doing
-loop n m body f s = turns n (d.tested m f) (λ v s. body f s) (tt {0}) s
+loop n m body f s = turns n (stmt_forms.tested m f) (λ v s. body f s) (tt {0}) s
 
 abbrev pub after_flow : FlowTask → Frame → List Value → Outcome Flow → Held
 after_flow (flow.Block xs) f vs o = did f vs (on_next o (does.block xs.now f))
 after_flow (flow.While n x b) f vs o = did f vs (on_turn o (loop n (does.expr x.now) (does.block b.now) f))
-after_flow (flow.Store ps) f vs o = did f (below vs) (on_next o (d.store_all (does.places ps.now) (top vs) f))
+after_flow (flow.Store ps) f vs o = did f (below vs) (on_next o (stmt_forms.store_all (does.places ps.now) (top vs) f))
 after_flow (flow.Delete ps) f vs o = did f vs (on_next o (does.deletes ps.now f))
 after_flow (flow.For n p e) f vs o = did f (below vs) (on_turn o (walked n (does.target e.target.now) (does.block e.body.now) (cursor_at (top vs) p) f))
+after_flow (flow.StoreEach ts) f vs o = did f (drop (length ts.now) vs) (on_next o (store_from (does.targets ts.now) vs f))
 
 abbrev pub after : Task → Held → Held
 after (task.Expr t) (gave f vs o) = after_expr t f vs o

@@ -4,7 +4,7 @@
 ghost use Rattle.std.specs.Prelude.{◌≡◌, ◌∷◌, [], suc, IfOk, IfSome, OnOk, drop, reverse, take};
 ghost use Rattle.rp_base.specs.declared.value.Value.{Value as TheValue};
 ghost use Rattle.rp_frame.specs.Top.{top};
-ghost use Rattle.rp_meaning.specs.Expressions as e;
+ghost use Rattle.rp_meaning.specs.Expressions as forms;
 ghost use Rattle.rp_meaning.specs.Frame.{Run};
 ghost use Rattle.rp_meaning.specs.State.{Outcome, State};
 ghost use Rattle.rp_proxy.specs.Faithful.{IsFaithful};
@@ -48,7 +48,7 @@ impl<'u> Machine<'u> {
     ) -> Result<(), Halt>
         requires ready { IsReady self.old.units.now self.old.frame self.old.values world.old }
         requires value { IsFit world.old.store.heap self.old.frame.side f }
-        ensures law { OnOk result (Evaluates (next_trailer (e.call (does.args args.now)) (does.trailers rest.now) f)
+        ensures law { OnOk result (Evaluates (next_trailer (forms.call (does.args args.now)) (does.trailers rest.now) f)
             self.old world.old self.new world.new) }
         ensures ready { IsReady self.new.units.now self.new.frame self.new.values world.new }
         ensures shape { KeepsShape world.old.store.heap world.new.store.heap }
@@ -172,7 +172,7 @@ impl<'u> Machine<'u> {
     fn with_result(&mut self, count: u32, value: Value, trailers: &'u [Trailer]) -> Result<(), Halt>
         ensures law { OnOk result ((w : TheWorld) (base : Run) → rest_of base self.new (state_of w)
             ≡ rest self.old.tasks (gave (frame_in base self.old) (drop (suc count) self.old.values)
-            (e.trailers (does.trailers trailers.now) value (frame_in base self.old) (state_of w)))) }
+            (forms.trailers (does.trailers trailers.now) value (frame_in base self.old) (state_of w)))) }
         ensures ready { (w : TheWorld) → IsReady self.old.units.now self.old.frame self.old.values w
             → IsFit w.store.heap self.old.frame.side value
             → IsReady self.new.units.now self.new.frame self.new.values w }

@@ -2,7 +2,7 @@
 #![tactic(auto, using(rp_store::proofs::Shapes::goes_on))]
 
 ghost use Rattle.std.specs.Prelude.{OnOk};
-ghost use Rattle.rp_meaning.specs.Statements as d;
+ghost use Rattle.rp_meaning.specs.Statements as stmt_forms;
 ghost use Rattle.rp_proxy.specs.declared.world.World.{World as TheWorld};
 ghost use Rattle.rp_store.specs.Kept.{IsFit};
 ghost use Rattle.rp_store.specs.Shape.{KeepsShape};
@@ -47,7 +47,7 @@ impl<'u> Machine<'u> {
     #[inline(never)]
     fn fail(&mut self, message: &'u Option<Expr>) -> Result<(), Halt>
         ensures law { OnOk result ((w : TheWorld)
-            → Executes (d.failed (does.maybe message.now)) self.old w self.new w) }
+            → Executes (stmt_forms.failed (does.maybe message.now)) self.old w self.new w) }
         ensures ready { (w : TheWorld) → IsReady self.old.units.now self.old.frame self.old.values w
             → IsReady self.new.units.now self.new.frame self.new.values w }
     {

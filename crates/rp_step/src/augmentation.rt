@@ -3,7 +3,7 @@
 
 ghost use Rattle.std.specs.Prelude.{OnOk};
 ghost use Rattle.rp_meaning.specs.Frame.{bind_name};
-ghost use Rattle.rp_meaning.specs.Statements as d;
+ghost use Rattle.rp_meaning.specs.Statements as stmt_forms;
 ghost use Rattle.rp_store.specs.Kept.{IsFit};
 ghost use Rattle.rp_store.specs.Shape.{KeepsShape};
 ghost use Rattle.rp_step.specs.Augments.{name_augmented};
@@ -20,7 +20,10 @@ use rp_proxy::World;
 use rp_tree::{Expr, Place};
 
 impl<'u> Machine<'u> {
-    /// An augmented assignment. Names that the program binds run.
+    /// An augmented assignment.
+    ///
+    /// # Errors
+    /// `Memory` where a growth was refused, `NotBuilt` where an item would call a special method, as all that follow.
     #[inline(never)]
     pub(crate) fn augmented(
         &mut self,
@@ -37,7 +40,10 @@ impl<'u> Machine<'u> {
     {
         match place {
             Place::Name(name) => self.augment_name(world, name.name, op, value),
-            _ => Err(Halt::NotBuilt),
+            Place::Attr(object, name, _) => {
+                self.augment_attribute(world, object, name.name, op, value)
+            }
+            Place::Item(object, key, _) => self.augment_item(world, object, key, op, value),
         }
     }
 
@@ -51,7 +57,7 @@ impl<'u> Machine<'u> {
         value: &'u Expr,
     ) -> Result<(), Halt>
         requires ready { IsReady self.old.units.now self.old.frame self.old.values world.old }
-        ensures law { OnOk result (Executes (d.augment_name name op (does.expr value.now))
+        ensures law { OnOk result (Executes (stmt_forms.augment_name name op (does.expr value.now))
             self.old world.old self.new world.new) }
         ensures ready { IsReady self.new.units.now self.new.frame self.new.values world.new }
         ensures shape { KeepsShape world.old.store.heap world.new.store.heap }
@@ -74,7 +80,7 @@ impl<'u> Machine<'u> {
     ) -> Result<(), Halt>
         requires ready { IsReady self.old.units.now self.old.frame self.old.values world.old }
         requires a { IsFit world.old.store.heap self.old.frame.side a }
-        ensures law { OnOk result (Executes (d.assign (does.expr value.now) (name_augmented name op a))
+        ensures law { OnOk result (Executes (stmt_forms.assign (does.expr value.now) (name_augmented name op a))
             self.old world.old self.new world.new) }
         ensures ready { IsReady self.new.units.now self.new.frame self.new.values world.new }
         ensures shape { KeepsShape world.old.store.heap world.new.store.heap }

@@ -2,7 +2,7 @@
 #![tactic(auto, using(rp_store::proofs::Shapes::goes_on))]
 
 ghost use Rattle.std.specs.Prelude.{OnOk};
-ghost use Rattle.rp_meaning.specs.Expressions as e;
+ghost use Rattle.rp_meaning.specs.Expressions as forms;
 ghost use Rattle.rp_proxy.specs.declared.world.World.{World as TheWorld};
 ghost use Rattle.rp_store.specs.Kept.{IsFit};
 ghost use Rattle.rp_store.specs.Shape.{KeepsShape};
@@ -32,7 +32,7 @@ impl<'u> Machine<'u> {
         rest: &'u [(BinOp, Expr)],
     ) -> Result<(), Halt>
         requires ready { IsReady self.old.units.now self.old.frame self.old.values world.old }
-        ensures law { OnOk result (Evaluates (e.chain (does.expr first.now) (does.ops rest.now))
+        ensures law { OnOk result (Evaluates (forms.chain (does.expr first.now) (does.ops rest.now))
             self.old world.old self.new world.new) }
         ensures ready { IsReady self.new.units.now self.new.frame self.new.values world.new }
         ensures shape { KeepsShape world.old.store.heap world.new.store.heap }
@@ -57,7 +57,8 @@ impl<'u> Machine<'u> {
     ) -> Result<(), Halt>
         requires ready { IsReady self.old.units.now self.old.frame self.old.values world.old }
         requires a { IsFit world.old.store.heap self.old.frame.side a }
-        ensures law { OnOk result (Evaluates (e.operands (does.ops rest.now) a) self.old world.old self.new world.new) }
+        ensures law { OnOk result
+            (Evaluates (forms.operands (does.ops rest.now) a) self.old world.old self.new world.new) }
         ensures ready { IsReady self.new.units.now self.new.frame self.new.values world.new }
         ensures shape { KeepsShape world.old.store.heap world.new.store.heap }
     {
@@ -123,7 +124,7 @@ impl<'u> Machine<'u> {
     #[inline(always)]
     fn more_operands(&mut self, a: Value, rest: &'u [(BinOp, Expr)]) -> Result<(), Halt>
         ensures law { OnOk result ((w : TheWorld)
-            → Evaluates (e.operands (does.ops rest.now) a) self.old w self.new w) }
+            → Evaluates (forms.operands (does.ops rest.now) a) self.old w self.new w) }
         ensures ready { (w : TheWorld) → IsReady self.old.units.now self.old.frame self.old.values w
             → IsFit w.store.heap self.old.frame.side a
             → IsReady self.new.units.now self.new.frame self.new.values w }

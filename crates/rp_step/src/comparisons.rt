@@ -2,7 +2,7 @@
 #![tactic(auto, using(rp_store::proofs::Shapes::goes_on))]
 
 ghost use Rattle.std.specs.Prelude.{OnOk};
-ghost use Rattle.rp_meaning.specs.Expressions as e;
+ghost use Rattle.rp_meaning.specs.Expressions as forms;
 ghost use Rattle.rp_proxy.specs.declared.world.World.{World as TheWorld};
 ghost use Rattle.rp_store.specs.Kept.{IsFit};
 ghost use Rattle.rp_store.specs.Shape.{KeepsShape};
@@ -33,7 +33,7 @@ impl<'u> Machine<'u> {
         rest: &'u [(Test, Expr)],
     ) -> Result<(), Halt>
         requires ready { IsReady self.old.units.now self.old.frame self.old.values world.old }
-        ensures law { OnOk result (Evaluates (e.compare (does.expr first.now) (does.tests rest.now))
+        ensures law { OnOk result (Evaluates (forms.compare (does.expr first.now) (does.tests rest.now))
             self.old world.old self.new world.new) }
         ensures ready { IsReady self.new.units.now self.new.frame self.new.values world.new }
         ensures shape { KeepsShape world.old.store.heap world.new.store.heap }
@@ -58,7 +58,8 @@ impl<'u> Machine<'u> {
     ) -> Result<(), Halt>
         requires ready { IsReady self.old.units.now self.old.frame self.old.values world.old }
         requires a { IsFit world.old.store.heap self.old.frame.side a }
-        ensures law { OnOk result (Evaluates (e.tests (does.tests rest.now) a) self.old world.old self.new world.new) }
+        ensures law { OnOk result
+            (Evaluates (forms.tests (does.tests rest.now) a) self.old world.old self.new world.new) }
         ensures ready { IsReady self.new.units.now self.new.frame self.new.values world.new }
         ensures shape { KeepsShape world.old.store.heap world.new.store.heap }
     {
@@ -140,7 +141,8 @@ impl<'u> Machine<'u> {
     /// Goes on with the tests that are left, where there are any.
     #[inline(always)]
     fn more_tests(&mut self, b: Value, rest: &'u [(Test, Expr)]) -> Result<(), Halt>
-        ensures law { OnOk result ((w : TheWorld) → Evaluates (e.tests (does.tests rest.now) b) self.old w self.new w) }
+        ensures law { OnOk result ((w : TheWorld)
+            → Evaluates (forms.tests (does.tests rest.now) b) self.old w self.new w) }
         ensures ready { (w : TheWorld) → IsReady self.old.units.now self.old.frame self.old.values w
             → IsFit w.store.heap self.old.frame.side b
             → IsReady self.new.units.now self.new.frame self.new.values w }

@@ -3,7 +3,7 @@
 #![tactic(auto, using(rp_store::proofs::Shapes::goes_on))]
 
 ghost use Rattle.std.specs.Prelude.{OnOk};
-ghost use Rattle.rp_meaning.specs.Expressions as e;
+ghost use Rattle.rp_meaning.specs.Expressions as forms;
 ghost use Rattle.rp_proxy.specs.declared.world.World.{World as TheWorld};
 ghost use Rattle.rp_store.specs.Kept.{IsFit};
 ghost use Rattle.rp_store.specs.Shape.{KeepsShape};
@@ -28,7 +28,7 @@ impl<'u> Machine<'u> {
     #[inline(never)]
     pub fn negation(&mut self, world: &mut World, x: &'u Expr) -> Result<(), Halt>
         requires ready { IsReady self.old.units.now self.old.frame self.old.values world.old }
-        ensures law { OnOk result (Evaluates (e.negated (does.expr x.now)) self.old world.old self.new world.new) }
+        ensures law { OnOk result (Evaluates (forms.negated (does.expr x.now)) self.old world.old self.new world.new) }
         ensures ready { IsReady self.new.units.now self.new.frame self.new.values world.new }
         ensures shape { KeepsShape world.old.store.heap world.new.store.heap }
     {
@@ -64,7 +64,8 @@ impl<'u> Machine<'u> {
         other: &'u Expr,
     ) -> Result<(), Halt>
         requires ready { IsReady self.old.units.now self.old.frame self.old.values world.old }
-        ensures law { OnOk result (Evaluates (e.cond (does.expr test.now) (does.expr this.now) (does.expr other.now))
+        ensures law { OnOk result
+            (Evaluates (forms.cond (does.expr test.now) (does.expr this.now) (does.expr other.now))
             self.old world.old self.new world.new) }
         ensures ready { IsReady self.new.units.now self.new.frame self.new.values world.new }
         ensures shape { KeepsShape world.old.store.heap world.new.store.heap }

@@ -3,7 +3,7 @@
 
 ghost use Rattle.std.specs.Prelude.{OnOk};
 ghost use Rattle.rp_meaning.specs.Access as access;
-ghost use Rattle.rp_meaning.specs.Statements as d;
+ghost use Rattle.rp_meaning.specs.Statements as stmt_forms;
 ghost use Rattle.rp_store.specs.Kept.{IsFit};
 ghost use Rattle.rp_store.specs.Shape.{KeepsShape};
 ghost use Rattle.rp_step.specs.Does as does;
@@ -28,7 +28,7 @@ impl<'u> Machine<'u> {
         name: Name,
     ) -> Result<(), Halt>
         requires ready { IsReady self.old.units.now self.old.frame self.old.values world.old }
-        ensures law { OnOk result (Executes (d.delete_attribute (does.expr object.now) name)
+        ensures law { OnOk result (Executes (stmt_forms.delete_attribute (does.expr object.now) name)
             self.old world.old self.new world.new) }
         ensures ready { IsReady self.new.units.now self.new.frame self.new.values world.new }
         ensures shape { KeepsShape world.old.store.heap world.new.store.heap }
@@ -72,7 +72,7 @@ impl<'u> Machine<'u> {
         key: &'u Expr,
     ) -> Result<(), Halt>
         requires ready { IsReady self.old.units.now self.old.frame self.old.values world.old }
-        ensures law { OnOk result (Executes (d.delete_item (does.expr object.now) (does.expr key.now))
+        ensures law { OnOk result (Executes (stmt_forms.delete_item (does.expr object.now) (does.expr key.now))
             self.old world.old self.new world.new) }
         ensures ready { IsReady self.new.units.now self.new.frame self.new.values world.new }
         ensures shape { KeepsShape world.old.store.heap world.new.store.heap }
@@ -97,7 +97,7 @@ impl<'u> Machine<'u> {
     ) -> Result<(), Halt>
         requires ready { IsReady self.old.units.now self.old.frame self.old.values world.old }
         requires o { IsFit world.old.store.heap self.old.frame.side o }
-        ensures law { OnOk result (Executes (d.assign (does.expr key.now) (access.del_item o))
+        ensures law { OnOk result (Executes (stmt_forms.assign (does.expr key.now) (access.del_item o))
             self.old world.old self.new world.new) }
         ensures ready { IsReady self.new.units.now self.new.frame self.new.values world.new }
         ensures shape { KeepsShape world.old.store.heap world.new.store.heap }

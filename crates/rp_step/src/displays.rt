@@ -1,17 +1,17 @@
-//! Displays of lists and tuples (Python Language Reference, Displays for lists, sets and dictionaries).
+//! Displays, and the objects that they make (Python Language Reference, Displays for lists, sets and dictionaries).
 #![tactic(auto, using(rp_store::proofs::Shapes::goes_on))]
 
 ghost use Rattle.std.specs.Prelude.{◌≡◌, ◌∷◌, [], IfOk, OnOk, drop};
 ghost use Rattle.rp_base.specs.declared.value.Value.{Value as TheValue};
 ghost use Rattle.rp_meaning.specs.Frame.{Run};
 ghost use Rattle.rp_meaning.specs.State.{Outcome, State};
+ghost use Rattle.rp_ops.specs.Outcome.{Answers};
 ghost use Rattle.rp_proxy.specs.Faithful.{IsFaithful};
 ghost use Rattle.rp_proxy.specs.declared.world.World.{World as TheWorld};
 ghost use Rattle.rp_store.specs.Kept.{AreFit, IsFit};
-ghost use Rattle.rp_store.specs.Object.{content_of};
 ghost use Rattle.rp_store.specs.Shape.{KeepsShape};
 ghost use Rattle.rp_access.specs.Comes.{Comes, IsEnd};
-ghost use Rattle.rp_step.specs.DisplaySteps.{display, displayed, makes_of};
+ghost use Rattle.rp_step.specs.DisplaySteps.{content_found, display, displayed, makes_display};
 ghost use Rattle.rp_step.specs.Does as does;
 ghost use Rattle.rp_step.specs.Gathering.{Gathers};
 ghost use Rattle.rp_step.specs.Law.{Evaluates, Resumes, frame_in, rest_of};
@@ -22,13 +22,14 @@ ghost use Rattle.rp_step.specs.Rest.{gave, rest};
 use crate::halt::Halt;
 use crate::hand::one_more;
 use crate::machine::Machine;
-use rp_access::take_step;
-use rp_base::{OpEnd, Side, Value};
+use rp_access::{entries_of, take_step};
+use rp_base::{OpEnd, Seed, Side, Value};
 use rp_frame::{Control, Display, ExprTask, Task};
 use rp_ops::new_object;
 use rp_proxy::World;
 use rp_store::Object;
 use rp_tree::Expr;
+use std::alloc::Global;
 
 impl<'u> Machine<'u> {
     /// A display.
@@ -107,7 +108,7 @@ impl<'u> Machine<'u> {
 
     /// An element has no value: those at hand are dropped.
     #[inline(never)]
-    fn no_element(&mut self, count: u32, end: OpEnd) -> Result<(), Halt>
+    pub(crate) fn no_element(&mut self, count: u32, end: OpEnd) -> Result<(), Halt>
         ensures law { OnOk result ((base : Run) (s : State) (o : Outcome TheValue) → IsEnd end s o
             → rest_of base self.new s
             ≡ rest self.old.tasks (gave (frame_in base self.old) (drop count self.old.values) o)) }
@@ -142,20 +143,26 @@ impl<'u> Machine<'u> {
 
     /// Makes the object of a display, of which all elements are at hand.
     #[inline(never)]
-    fn make_display(&mut self, world: &mut World, kind: Display, count: u32) -> Result<(), Halt>
+    pub(crate) fn make_display(
+        &mut self,
+        world: &mut World,
+        kind: Display,
+        count: u32,
+    ) -> Result<(), Halt>
         requires ready { IsReady self.old.units.now self.old.frame self.old.values world.old }
         ensures law { OnOk result (Gathers kind count [] self.old world.old self.new world.new) }
         ensures ready { IsReady self.new.units.now self.new.frame self.new.values world.new }
         ensures shape { KeepsShape world.old.store.heap world.new.store.heap }
     {
         let elements = self.all_at_hand(count as usize)?;
-        self.give(new_display(world, self.frame.side, kind, elements))
+        self.give(new_display(self.alloc, world, self.frame.side, kind, elements))
     }
 }
 
-/// A new list or tuple of a side.
+/// The new object of a display, of a side.
 #[inline(always)]
 fn new_display(
+    alloc: Global,
     world: &mut World,
     side: Side,
     kind: Display,
@@ -164,21 +171,30 @@ fn new_display(
     requires faithful { IsFaithful world.old }
     requires fit { AreFit world.old.store.heap side elements.items }
     ensures law { Comes result (state_of world.new)
-        (makes_of side (displayed kind elements.items) (state_of world.old)) }
+        (makes_display side kind elements.items (state_of world.old)) }
     ensures faithful { IsFaithful world.new }
     ensures shape { KeepsShape world.old.store.heap world.new.store.heap }
     ensures fit { IfOk result (IsFit world.new.store.heap side) }
 {
-    new_object(&mut world.store, side, object_of(kind, elements))
+    let object = object_of(alloc, world.store.seed(), kind, elements)?;
+    new_object(&mut world.store, side, object)
 }
 
 /// The object of a display.
-#[inline(always)]
-fn object_of(kind: Display, elements: Vec<Value>) -> Object
-    ensures { content_of result ≡ displayed kind elements.items }
+fn object_of(
+    alloc: Global,
+    seed: Seed,
+    kind: Display,
+    elements: Vec<Value>,
+) -> Result<Object, OpEnd>
+    ensures { Answers (content_found result) (displayed kind elements.items) }
 {
     match kind {
-        Display::List => Object::List(elements),
-        Display::Tuple => Object::Tuple(elements),
+        Display::List => Ok(Object::List(elements)),
+        Display::Tuple => Ok(Object::Tuple(elements)),
+        Display::Dict => {
+            let entries = entries_of(alloc, seed, &elements)?;
+            Ok(Object::Dict(entries))
+        }
     }
 }

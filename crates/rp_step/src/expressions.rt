@@ -23,8 +23,8 @@ use rp_tree::{Expr, ExprForm};
 
 impl<'u> Machine<'u> {
     /// Begins an expression. Names, literals, chains of operators, powers, unary operators, `not`, conditional
-    /// expressions, comparisons, `and`, `or`, reads of attributes and items, displays of lists and tuples, and calls of
-    /// built-in functions and methods run.
+    /// expressions, comparisons, `and`, `or`, reads of attributes, items and slices, displays, and calls of built-in
+    /// functions and methods run.
     ///
     /// # Errors
     /// `Memory` where a growth was refused, `NotBuilt` where the form is none that runs, as all that follow.
@@ -120,6 +120,15 @@ impl<'u> Machine<'u> {
             ExprTask::Argument(count, args, rest) => {
                 self.after_argument(world, count, value, args, rest)
             }
+            ExprTask::SliceFrom(to, stride, rest) => {
+                self.after_from(world, value, to, stride, rest)
+            }
+            ExprTask::SliceTo(stride, rest) => self.after_to(world, value, stride, rest),
+            ExprTask::SliceStep(rest) => self.after_stride(world, value, rest),
+            ExprTask::DictKey(count, x, rest) => {
+                self.after_dict_key(world, count, value, x, rest)
+            }
+            ExprTask::DictValue(count, rest) => { self.after_dict_value(world, count, value, rest) }
         }
     }
 }

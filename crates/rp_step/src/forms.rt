@@ -14,7 +14,7 @@ use rp_proxy::World;
 use rp_tree::ExprForm;
 
 impl<'u> Machine<'u> {
-    /// Begins a comparison, `and`, `or`, a primary, or the display of a list or a tuple.
+    /// Begins a comparison, `and`, `or`, a primary, or a display.
     ///
     /// # Errors
     /// `Memory` where a growth was refused, `NotBuilt` where it is another form, or as `comparison` and `primary`.
@@ -32,6 +32,7 @@ impl<'u> Machine<'u> {
             ExprForm::Primary(first, rest) => self.primary(world, first, rest),
             ExprForm::Tuple(items) => self.display(world, Display::Tuple, items),
             ExprForm::List(items) => self.display(world, Display::List, items),
+            ExprForm::Dict(pairs) => self.dict_display(world, pairs),
             _ => Err(Halt::NotBuilt),
         }
     }

@@ -5,7 +5,7 @@ ghost use Rattle.std.specs.Prelude.{◌≡◌, ◌≢◌, Some, None, Ok, IfOk, 
 ghost use Rattle.rp_meaning.specs.State.{stepped};
 ghost use Rattle.rp_ops.specs.Outcome.{gives};
 ghost use Rattle.rp_access.specs.Parts.{step_end};
-ghost use Rattle.rp_meaning.specs.Expressions as e;
+ghost use Rattle.rp_meaning.specs.Expressions as forms;
 ghost use Rattle.rp_meaning.specs.Frame.{Frame, Run};
 ghost use Rattle.rp_meaning.specs.Meaning.{constant};
 ghost use Rattle.rp_proxy.specs.Faithful.{IsFaithful};
@@ -95,7 +95,7 @@ impl<'u> Machine<'u> {
     fn known_name(&self, world: &mut World, name: Name) -> Result<Option<Value>, OpEnd>
         requires ready { IsReady self.now.units.now self.now.frame self.now.values world.old }
         ensures law { (base : Run) → ComesIfAny result (state_of world.new)
-            (e.name name (frame_in base self.now) (state_of world.old)) }
+            (forms.name name (frame_in base self.now) (state_of world.old)) }
         ensures some { result ≢ Ok None }
         ensures faithful { IsFaithful world.new }
         ensures store { world.new.store ≡ world.old.store }
@@ -110,7 +110,7 @@ impl<'u> Machine<'u> {
     fn name(&self, world: &mut World, name: Name) -> Result<Value, OpEnd>
         requires ready { IsReady self.now.units.now self.now.frame self.now.values world.old }
         ensures law { (base : Run) → Comes result (state_of world.new)
-            (e.name name (frame_in base self.now) (state_of world.old)) }
+            (forms.name name (frame_in base self.now) (state_of world.old)) }
         ensures faithful { IsFaithful world.new }
         ensures store { world.new.store ≡ world.old.store }
         ensures shape { KeepsShape world.old.store.heap world.new.store.heap }
@@ -125,7 +125,8 @@ impl<'u> Machine<'u> {
 #[inline(always)]
 fn literal(world: &mut World, value: Value) -> Result<Value, OpEnd>
     requires faithful { IsFaithful world.old }
-    ensures law { (frame : Frame) → Comes result (state_of world.new) (e.constant value frame (state_of world.old)) }
+    ensures law { (frame : Frame)
+        → Comes result (state_of world.new) (forms.constant value frame (state_of world.old)) }
     ensures faithful { IsFaithful world.new }
     ensures store { world.new.store ≡ world.old.store }
     ensures shape { KeepsShape world.old.store.heap world.new.store.heap }

@@ -4,10 +4,12 @@
 mod arguments;
 mod asserting;
 mod augmentation;
+mod augmented_places;
 mod chains;
 mod comparisons;
 mod conditions;
 mod deleting;
+mod dict_displays;
 mod displays;
 mod expressions;
 mod forms;
@@ -20,11 +22,14 @@ mod machine;
 mod names;
 mod numbers;
 mod places;
+mod raising;
 mod run;
+mod slices;
 mod statements;
 mod storing;
 mod trailers;
 mod units;
+mod unpacking;
 mod unwinding;
 
 pub use halt::Halt;

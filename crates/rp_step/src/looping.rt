@@ -4,7 +4,7 @@
 ghost use Rattle.std.specs.Prelude.{◌≡◌, OnOk, suc};
 ghost use Rattle.rp_frame.specs.Top.{below, top};
 ghost use Rattle.rp_meaning.specs.Frame.{Run};
-ghost use Rattle.rp_meaning.specs.Statements as d;
+ghost use Rattle.rp_meaning.specs.Statements as stmt_forms;
 ghost use Rattle.rp_store.specs.Kept.{IsFit};
 ghost use Rattle.rp_store.specs.Shape.{KeepsShape};
 ghost use Rattle.rp_step.specs.Does as does;
@@ -21,7 +21,7 @@ use rp_access::{next_element, walk};
 use rp_base::{OpEnd, Value};
 use rp_frame::{Control, Each, FlowTask, Spot, StmtTask, Task};
 use rp_proxy::World;
-use rp_tree::{Expr, Target};
+use rp_tree::Expr;
 
 impl<'u> Machine<'u> {
     /// A `for` statement. Loops over lists, tuples, dicts and texts run.
@@ -33,7 +33,7 @@ impl<'u> Machine<'u> {
         each: Each<'u>,
     ) -> Result<(), Halt>
         requires ready { IsReady self.old.units.now self.old.frame self.old.values world.old }
-        ensures law { OnOk result (Executes (d.for (does.expr of.now) (does.target each.entry.target.now)
+        ensures law { OnOk result (Executes (stmt_forms.for (does.expr of.now) (does.target each.entry.target.now)
             (does.block each.entry.body.now)) self.old world.old self.new world.new) }
         ensures ready { IsReady self.new.units.now self.new.frame self.new.values world.new }
         ensures shape { KeepsShape world.old.store.heap world.new.store.heap }
@@ -189,25 +189,5 @@ impl<'u> Machine<'u> {
     {
         self.tasks.push(Task::Flow(FlowTask::Block(each.body)))?;
         self.store_target(world, each.target, element)
-    }
-
-    /// Assigns a value to a target. Places run.
-    #[inline(always)]
-    fn store_target(
-        &mut self,
-        world: &mut World,
-        target: &'u Target,
-        value: Value,
-    ) -> Result<(), Halt>
-        requires ready { IsReady self.old.units.now self.old.frame self.old.values world.old }
-        requires value { IsFit world.old.store.heap self.old.frame.side value }
-        ensures law { OnOk result (Executes (does.target target.now value) self.old world.old self.new world.new) }
-        ensures ready { IsReady self.new.units.now self.new.frame self.new.values world.new }
-        ensures shape { KeepsShape world.old.store.heap world.new.store.heap }
-    {
-        match target {
-            Target::Place(place) => self.store(world, place, value),
-            Target::Group(_) => Err(Halt::NotBuilt),
-        }
     }
 }

@@ -68,6 +68,49 @@ impl<'u> Machine<'u> {
         self.wait(task, control)
     }
 
+    /// The same, with two more.
+    #[inline(always)]
+    pub(crate) fn wait_with_two(
+        &mut self,
+        first: Value,
+        second: Value,
+        task: Task<'u>,
+        control: Control<'u>,
+    ) -> Result<(), Halt>
+        ensures law { OnOk result ((base : Run) (s : State) → rest_of base self.new s
+            ≡ rest self.old.tasks (after task.entry
+            (begun (frame_in base self.old) control.entry (second ∷ first ∷ self.old.values) self.old.end s))) }
+        ensures ready { (w : World) → IsReady self.old.units.now self.old.frame self.old.values w
+            → IsFit w.store.heap self.old.frame.side first → IsFit w.store.heap self.old.frame.side second
+            → IsReady self.new.units.now self.new.frame self.new.values w }
+    {
+        self.values.push(first)?;
+        self.wait_with(second, task, control)
+    }
+
+    /// The same, with three more.
+    #[inline(always)]
+    pub(crate) fn wait_with_three(
+        &mut self,
+        first: Value,
+        second: Value,
+        third: Value,
+        task: Task<'u>,
+        control: Control<'u>,
+    ) -> Result<(), Halt>
+        ensures law { OnOk result ((base : Run) (s : State) → rest_of base self.new s
+            ≡ rest self.old.tasks (after task.entry
+            (begun (frame_in base self.old) control.entry (third ∷ second ∷ first ∷ self.old.values)
+            self.old.end s))) }
+        ensures ready { (w : World) → IsReady self.old.units.now self.old.frame self.old.values w
+            → IsFit w.store.heap self.old.frame.side first → IsFit w.store.heap self.old.frame.side second
+            → IsFit w.store.heap self.old.frame.side third
+            → IsReady self.new.units.now self.new.frame self.new.values w }
+    {
+        self.values.push(first)?;
+        self.wait_with_two(second, third, task, control)
+    }
+
     /// An expression gives a value.
     #[inline(always)]
     pub fn back(&mut self, value: Value) -> Result<(), Halt>

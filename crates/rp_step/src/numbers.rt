@@ -2,7 +2,7 @@
 #![tactic(auto, using(rp_store::proofs::Shapes::goes_on))]
 
 ghost use Rattle.std.specs.Prelude.{OnOk};
-ghost use Rattle.rp_meaning.specs.Expressions as e;
+ghost use Rattle.rp_meaning.specs.Expressions as forms;
 ghost use Rattle.rp_meaning.specs.Operators.{operate, operate_unary};
 ghost use Rattle.rp_store.specs.Kept.{IsFit};
 ghost use Rattle.rp_store.specs.Shape.{KeepsShape};
@@ -27,7 +27,7 @@ impl<'u> Machine<'u> {
     #[inline(never)]
     pub fn unary(&mut self, world: &mut World, op: UnOp, x: &'u Expr) -> Result<(), Halt>
         requires ready { IsReady self.old.units.now self.old.frame self.old.values world.old }
-        ensures law { OnOk result (Evaluates (e.unary op (does.expr x.now)) self.old world.old self.new world.new) }
+        ensures law { OnOk result (Evaluates (forms.unary op (does.expr x.now)) self.old world.old self.new world.new) }
         ensures ready { IsReady self.new.units.now self.new.frame self.new.values world.new }
         ensures shape { KeepsShape world.old.store.heap world.new.store.heap }
     {
@@ -59,7 +59,7 @@ impl<'u> Machine<'u> {
         exponent: &'u Expr,
     ) -> Result<(), Halt>
         requires ready { IsReady self.old.units.now self.old.frame self.old.values world.old }
-        ensures law { OnOk result (Evaluates (e.power (does.expr base.now) (does.expr exponent.now))
+        ensures law { OnOk result (Evaluates (forms.power (does.expr base.now) (does.expr exponent.now))
             self.old world.old self.new world.new) }
         ensures ready { IsReady self.new.units.now self.new.frame self.new.values world.new }
         ensures shape { KeepsShape world.old.store.heap world.new.store.heap }

@@ -4,7 +4,7 @@
 ghost use Rattle.std.specs.Prelude.{◌≡◌, ◌∷◌, map, OnOk};
 ghost use Rattle.rp_frame.specs.Top.{top, below};
 ghost use Rattle.rp_meaning.specs.Frame.{Run, unbind_name};
-ghost use Rattle.rp_meaning.specs.Statements as d;
+ghost use Rattle.rp_meaning.specs.Statements as stmt_forms;
 ghost use Rattle.rp_store.specs.Kept.{IsFit};
 ghost use Rattle.rp_store.specs.Shape.{KeepsShape};
 ghost use Rattle.rp_step.specs.Does as does;
@@ -31,7 +31,7 @@ impl<'u> Machine<'u> {
     ) -> Result<(), Halt>
         requires ready { IsReady self.old.units.now self.old.frame self.old.values world.old }
         requires value { IsFit world.old.store.heap self.old.frame.side value }
-        ensures law { OnOk result (Executes (d.store_all (does.places places.now) value)
+        ensures law { OnOk result (Executes (stmt_forms.store_all (does.places places.now) value)
             self.old world.old self.new world.new) }
         ensures ready { IsReady self.new.units.now self.new.frame self.new.values world.new }
         ensures shape { KeepsShape world.old.store.heap world.new.store.heap }
@@ -54,7 +54,7 @@ impl<'u> Machine<'u> {
     ) -> Result<(), Halt>
         requires ready { IsReady self.old.units.now self.old.frame self.old.values world.old }
         requires value { IsFit world.old.store.heap self.old.frame.side value }
-        ensures law { OnOk result (Executes (d.store_all (does.place place.now ∷ does.places rest.now) value)
+        ensures law { OnOk result (Executes (stmt_forms.store_all (does.place place.now ∷ does.places rest.now) value)
             self.old world.old self.new world.new) }
         ensures ready { IsReady self.new.units.now self.new.frame self.new.values world.new }
         ensures shape { KeepsShape world.old.store.heap world.new.store.heap }
@@ -70,7 +70,7 @@ impl<'u> Machine<'u> {
     pub(crate) fn store_more(&mut self, world: &mut World, places: &'u [Place]) -> Result<(), Halt>
         requires ready { IsReady self.old.units.now self.old.frame self.old.values world.old }
         ensures law { OnOk result ((base : Run) → rest_of base self.new (state_of world.new) ≡ rest self.old.tasks
-            (did (frame_in base self.old) (below self.old.values) (d.store_all (does.places places.now)
+            (did (frame_in base self.old) (below self.old.values) (stmt_forms.store_all (does.places places.now)
             (top self.old.values) (frame_in base self.old) (state_of world.old)))) }
         ensures ready { IsReady self.new.units.now self.new.frame self.new.values world.new }
         ensures shape { KeepsShape world.old.store.heap world.new.store.heap }
@@ -126,7 +126,7 @@ impl<'u> Machine<'u> {
         rest: &'u [Place],
     ) -> Result<(), Halt>
         requires ready { IsReady self.old.units.now self.old.frame self.old.values world.old }
-        ensures law { OnOk result (Executes (d.block (does.delete place.now ∷ map does.delete rest.now))
+        ensures law { OnOk result (Executes (stmt_forms.block (does.delete place.now ∷ map does.delete rest.now))
             self.old world.old self.new world.new) }
         ensures ready { IsReady self.new.units.now self.new.frame self.new.values world.new }
         ensures shape { KeepsShape world.old.store.heap world.new.store.heap }

@@ -2,7 +2,7 @@
 #![tactic(auto, using(rp_store::proofs::Shapes::goes_on))]
 
 ghost use Rattle.std.specs.Prelude.{OnOk, suc};
-ghost use Rattle.rp_meaning.specs.Statements as d;
+ghost use Rattle.rp_meaning.specs.Statements as stmt_forms;
 ghost use Rattle.rp_proxy.specs.declared.world.World.{World as TheWorld};
 ghost use Rattle.rp_store.specs.Kept.{IsFit};
 ghost use Rattle.rp_store.specs.Shape.{KeepsShape};
@@ -20,9 +20,8 @@ use rp_proxy::World;
 use rp_tree::{Branch, Expr, Place, Stmt, StmtForm, stmts_of};
 
 impl<'u> Machine<'u> {
-    /// Begins a statement, with its step. Expression statements, assignments, augmented assignments to names, `if`,
-    /// `while`, `for` with one place as its target over what can be walked, `break`, `continue`, `pass`,
-    /// `global`, `del` and `assert` run.
+    /// Begins a statement, with its step. Expression statements, assignments, unpacking too, augmented assignments,
+    /// `if`, `while`, `for`, `break`, `continue`, `pass`, `global`, `del`, `raise` and `assert` run.
     ///
     /// # Errors
     /// `Memory` where a growth was refused, `NotBuilt` where the form is none that runs, as all that follow.
@@ -80,6 +79,8 @@ impl<'u> Machine<'u> {
                     body,
                 },
             ),
+            StmtForm::Raise(value) => self.raise(world, value),
+            StmtForm::Unpack(target, value, _) => self.assign_target(world, target, value),
             _ => Err(Halt::NotBuilt),
         }
     }
@@ -93,7 +94,8 @@ impl<'u> Machine<'u> {
         value: &'u Expr,
     ) -> Result<(), Halt>
         requires ready { IsReady self.old.units.now self.old.frame self.old.values world.old }
-        ensures law { OnOk result (Executes (d.assign (does.expr value.now) (d.store_all (does.places places.now)))
+        ensures law { OnOk result
+            (Executes (stmt_forms.assign (does.expr value.now) (stmt_forms.store_all (does.places places.now)))
             self.old world.old self.new world.new) }
         ensures ready { IsReady self.new.units.now self.new.frame self.new.values world.new }
         ensures shape { KeepsShape world.old.store.heap world.new.store.heap }
@@ -112,7 +114,7 @@ impl<'u> Machine<'u> {
     #[inline(always)]
     fn choose(&mut self, branches: &'u [Branch], other: &'u [Stmt]) -> Result<(), Halt>
         ensures law { OnOk result ((w : TheWorld)
-            → Executes (d.choose (does.branches branches.now) (does.block other.now)) self.old w self.new w) }
+            → Executes (stmt_forms.choose (does.branches branches.now) (does.block other.now)) self.old w self.new w) }
         ensures ready { (w : TheWorld) → IsReady self.old.units.now self.old.frame self.old.values w
             → IsReady self.new.units.now self.new.frame self.new.values w }
     {
@@ -134,7 +136,7 @@ impl<'u> Machine<'u> {
         body: &'u [Stmt],
     ) -> Result<(), Halt>
         requires ready { IsReady self.old.units.now self.old.frame self.old.values world.old }
-        ensures law { OnOk result (Executes (d.while (does.expr test.now) (does.block body.now))
+        ensures law { OnOk result (Executes (stmt_forms.while (does.expr test.now) (does.block body.now))
             self.old world.old self.new world.new) }
         ensures ready { IsReady self.new.units.now self.new.frame self.new.values world.new }
         ensures shape { KeepsShape world.old.store.heap world.new.store.heap }
@@ -275,6 +277,13 @@ impl<'u> Machine<'u> {
             StmtTask::DeleteKey => self.after_deleted_key(world, value),
             StmtTask::AugmentName(name, op) => self.after_augment(world, name, op, value),
             StmtTask::For(each) => self.walk_over(world, value, each),
+            StmtTask::Raise => self.raised(value),
+            StmtTask::AugmentAttr(name, op, x) => self.augment_read(world, value, name, op, x),
+            StmtTask::AugmentedAttr(name, op) => self.after_attribute(world, name, op, value),
+            StmtTask::AugmentItem(key, op, x) => self.augment_key(world, value, key, op, x),
+            StmtTask::AugmentKey(op, x) => self.after_augmented_key(world, op, value, x),
+            StmtTask::AugmentedItem(op) => self.after_augmented_item(world, op, value),
+            StmtTask::Unpack(target) => self.store_target(world, target, value),
         }
     }
 }

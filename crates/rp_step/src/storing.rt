@@ -3,7 +3,7 @@
 
 ghost use Rattle.std.specs.Prelude.{OnOk};
 ghost use Rattle.rp_meaning.specs.Access as access;
-ghost use Rattle.rp_meaning.specs.Statements as d;
+ghost use Rattle.rp_meaning.specs.Statements as stmt_forms;
 ghost use Rattle.rp_proxy.specs.declared.world.World.{World as TheWorld};
 ghost use Rattle.rp_store.specs.Kept.{IsFit};
 ghost use Rattle.rp_store.specs.Shape.{KeepsShape};
@@ -31,7 +31,7 @@ impl<'u> Machine<'u> {
     ) -> Result<(), Halt>
         requires ready { IsReady self.old.units.now self.old.frame self.old.values world.old }
         requires value { IsFit world.old.store.heap self.old.frame.side value }
-        ensures law { OnOk result (Executes (d.store_attribute (does.expr object.now) name value)
+        ensures law { OnOk result (Executes (stmt_forms.store_attribute (does.expr object.now) name value)
             self.old world.old self.new world.new) }
         ensures ready { IsReady self.new.units.now self.new.frame self.new.values world.new }
         ensures shape { KeepsShape world.old.store.heap world.new.store.heap }
@@ -99,7 +99,7 @@ impl<'u> Machine<'u> {
     ) -> Result<(), Halt>
         requires ready { IsReady self.old.units.now self.old.frame self.old.values world.old }
         requires value { IsFit world.old.store.heap self.old.frame.side value }
-        ensures law { OnOk result (Executes (d.store_item (does.expr object.now) (does.expr key.now) value)
+        ensures law { OnOk result (Executes (stmt_forms.store_item (does.expr object.now) (does.expr key.now) value)
             self.old world.old self.new world.new) }
         ensures ready { IsReady self.new.units.now self.new.frame self.new.values world.new }
         ensures shape { KeepsShape world.old.store.heap world.new.store.heap }
@@ -146,7 +146,7 @@ impl<'u> Machine<'u> {
         requires ready { IsReady self.old.units.now self.old.frame self.old.values world.old }
         requires o { IsFit world.old.store.heap self.old.frame.side o }
         requires value { IsFit world.old.store.heap self.old.frame.side value }
-        ensures law { OnOk result (Executes (d.assign (does.expr key.now) (λ i. access.set_item o i value))
+        ensures law { OnOk result (Executes (stmt_forms.assign (does.expr key.now) (λ i. access.set_item o i value))
             self.old world.old self.new world.new) }
         ensures ready { IsReady self.new.units.now self.new.frame self.new.values world.new }
         ensures shape { KeepsShape world.old.store.heap world.new.store.heap }
@@ -162,7 +162,7 @@ impl<'u> Machine<'u> {
     #[inline(always)]
     fn wait_for_key(&mut self, o: Value, key: &'u Expr, value: Value) -> Result<(), Halt>
         ensures law { OnOk result ((w : TheWorld)
-            → Executes (d.assign (does.expr key.now) (λ i. access.set_item o i value)) self.old w self.new w) }
+            → Executes (stmt_forms.assign (does.expr key.now) (λ i. access.set_item o i value)) self.old w self.new w) }
         ensures ready { (w : TheWorld) → IsReady self.old.units.now self.old.frame self.old.values w
             → IsFit w.store.heap self.old.frame.side o
             → IsFit w.store.heap self.old.frame.side value

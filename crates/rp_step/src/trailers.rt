@@ -2,7 +2,7 @@
 #![tactic(auto, using(rp_store::proofs::Shapes::goes_on))]
 
 ghost use Rattle.std.specs.Prelude.{OnOk};
-ghost use Rattle.rp_meaning.specs.Expressions as e;
+ghost use Rattle.rp_meaning.specs.Expressions as forms;
 ghost use Rattle.rp_proxy.specs.declared.world.World.{World as TheWorld};
 ghost use Rattle.rp_store.specs.Kept.{IsFit};
 ghost use Rattle.rp_store.specs.Shape.{KeepsShape};
@@ -24,8 +24,8 @@ impl<'u> Machine<'u> {
     /// A primary.
     ///
     /// # Errors
-    /// `Memory` where a growth was refused, `NotBuilt` at a slice, a call, and where an item would call a special
-    /// method, as all that follow.
+    /// `Memory` where a growth was refused, `NotBuilt` where an item would call a special method, and as
+    /// `begin_call`, as all that follow.
     #[inline(never)]
     pub fn primary(
         &mut self,
@@ -34,7 +34,7 @@ impl<'u> Machine<'u> {
         rest: &'u [Trailer],
     ) -> Result<(), Halt>
         requires ready { IsReady self.old.units.now self.old.frame self.old.values world.old }
-        ensures law { OnOk result (Evaluates (e.primary (does.expr first.now) (does.trailers rest.now))
+        ensures law { OnOk result (Evaluates (forms.primary (does.expr first.now) (does.trailers rest.now))
             self.old world.old self.new world.new) }
         ensures ready { IsReady self.new.units.now self.new.frame self.new.values world.new }
         ensures shape { KeepsShape world.old.store.heap world.new.store.heap }
@@ -59,7 +59,7 @@ impl<'u> Machine<'u> {
     ) -> Result<(), Halt>
         requires ready { IsReady self.old.units.now self.old.frame self.old.values world.old }
         requires value { IsFit world.old.store.heap self.old.frame.side value }
-        ensures law { OnOk result (Evaluates (e.trailers (does.trailers rest.now) value)
+        ensures law { OnOk result (Evaluates (forms.trailers (does.trailers rest.now) value)
             self.old world.old self.new world.new) }
         ensures ready { IsReady self.new.units.now self.new.frame self.new.values world.new }
         ensures shape { KeepsShape world.old.store.heap world.new.store.heap }
@@ -90,7 +90,7 @@ impl<'u> Machine<'u> {
             Trailer::Attr(name, _) => self.attribute(world, value, name.name, rest),
             Trailer::Item(key, _) => self.item(world, value, key, rest),
             Trailer::Call(args, _) => self.begin_call(world, value, args, rest),
-            _ => Err(Halt::NotBuilt),
+            Trailer::Slice(slice, _) => self.sliced(world, value, slice, rest),
         }
     }
 
@@ -106,7 +106,7 @@ impl<'u> Machine<'u> {
     ) -> Result<(), Halt>
         requires ready { IsReady self.old.units.now self.old.frame self.old.values world.old }
         requires value { IsFit world.old.store.heap self.old.frame.side value }
-        ensures law { OnOk result (Evaluates (next_trailer (e.attribute name) (does.trailers rest.now) value)
+        ensures law { OnOk result (Evaluates (next_trailer (forms.attribute name) (does.trailers rest.now) value)
             self.old world.old self.new world.new) }
         ensures ready { IsReady self.new.units.now self.new.frame self.new.values world.new }
         ensures shape { KeepsShape world.old.store.heap world.new.store.heap }
@@ -192,7 +192,7 @@ impl<'u> Machine<'u> {
     /// Goes on with the trailers that are left, where there are any.
     #[inline(always)]
     pub fn more_trailers(&mut self, value: Value, rest: &'u [Trailer]) -> Result<(), Halt>
-        ensures law { OnOk result ((w : TheWorld) → Evaluates (e.trailers (does.trailers rest.now) value)
+        ensures law { OnOk result ((w : TheWorld) → Evaluates (forms.trailers (does.trailers rest.now) value)
             self.old w self.new w) }
         ensures ready { (w : TheWorld) → IsReady self.old.units.now self.old.frame self.old.values w
             → IsFit w.store.heap self.old.frame.side value

@@ -149,6 +149,7 @@ impl<'u> Machine<'u> {
             FlowTask::Store(places) => self.store_more(world, places),
             FlowTask::Delete(places) => self.delete_all(world, places),
             FlowTask::For(turns, spot, each) => self.walk_on(world, turns, spot, each),
+            FlowTask::StoreEach(targets) => self.store_each(world, targets),
         }
     }
 
@@ -182,6 +183,7 @@ impl<'u> Machine<'u> {
             FlowTask::Block(_) => self.go(Control::Continued),
             FlowTask::Delete(_) => self.go(Control::Continued),
             FlowTask::For(turns, spot, each) => self.walk_on(world, turns, spot, each),
+            FlowTask::StoreEach(targets) => self.go_less(targets.len(), Control::Continued),
         }
     }
 
@@ -213,6 +215,7 @@ impl<'u> Machine<'u> {
             FlowTask::Block(_) => self.go(Control::Broke),
             FlowTask::Delete(_) => self.go(Control::Broke),
             FlowTask::For(_, _, _) => self.go_without(Control::Next),
+            FlowTask::StoreEach(targets) => self.go_less(targets.len(), Control::Broke),
         }
     }
 
@@ -224,6 +227,17 @@ impl<'u> Machine<'u> {
             → IsReady self.new.units.now self.new.frame self.new.values w }
     {
         let _value = self.values.pop();
+        self.go(control)
+    }
+
+    /// Goes on with so many of the values at hand dropped.
+    fn go_less(&mut self, count: usize, control: Control<'u>) -> Result<(), Halt>
+        ensures law { (base : Run) (s : State) → rest_of base self.new s ≡ rest self.old.tasks
+            (begun (frame_in base self.old) control.entry (drop count self.old.values) self.old.end s) }
+        ensures ready { (w : TheWorld) → IsReady self.old.units.now self.old.frame self.old.values w
+            → IsReady self.new.units.now self.new.frame self.new.values w }
+    {
+        self.forget(count);
         self.go(control)
     }
 
@@ -282,6 +296,11 @@ fn held_with(task: ExprTask) -> usize
         ExprTask::Key(_) => 1,
         ExprTask::Items(_, count, _) => count as usize,
         ExprTask::Argument(count, _, _) => count as usize + 1,
+        ExprTask::SliceFrom(_, _, _) => 1,
+        ExprTask::SliceTo(_, _) => 2,
+        ExprTask::SliceStep(_) => 3,
+        ExprTask::DictKey(count, _, _) => count as usize,
+        ExprTask::DictValue(count, _) => count as usize,
         _ => 0,
     }
 }
@@ -296,6 +315,9 @@ fn stmt_with(task: StmtTask) -> usize
         StmtTask::StoreKey => 2,
         StmtTask::DeleteKey => 1,
         StmtTask::AugmentName(_, _) => 1,
+        StmtTask::AugmentedAttr(_, _) => 2,
+        StmtTask::AugmentKey(_, _) => 1,
+        StmtTask::AugmentedItem(_) => 3,
         _ => 0,
     }
 }
@@ -307,6 +329,7 @@ fn flow_with(task: Task) -> usize
     match task {
         Task::Flow(FlowTask::Store(_)) => 1,
         Task::Flow(FlowTask::For(_, _, _)) => 1,
+        Task::Flow(FlowTask::StoreEach(targets)) => targets.len(),
         _ => 0,
     }
 }

@@ -1,6 +1,7 @@
 //! The values of statements, by Python's rules: literals, displays, names, calls of functions and of methods.
-//! `lent(x)` is a plain reference as the other side lends it, what is written in `theirs(x)` belongs to that side,
-//! `thing()` is an instance, and `lowest` the least number.
+
+// `lent(x)` is a plain reference as the other side lends it, what is written in `theirs(x)` belongs to that side,
+// `thing()` is an instance, and `lowest` the least number.
 
 use crate::calls::{call, outermost};
 use crate::displays::{dict, exception, in_parentheses, lent, only, thing};

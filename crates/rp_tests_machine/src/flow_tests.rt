@@ -1,4 +1,4 @@
-//! Scripts that branch and loop, and the order in which operands are evaluated. `bench/script_cases.py` made the cases.
+//! Scripts that branch, loop, raise and unpack, and the order of operands. `bench/script_cases.py` made the cases.
 
 use crate::ran::Ran;
 use rp_tests_cases::all_answer;
@@ -44,6 +44,38 @@ for xs in [[1], [2, 3]]:~    for x in xs:~        if x == 2:~            break~ 
      1~next~next~well
 xs = []~for c in 'abc':~    xs.append(c)~print(xs, ''.join(xs)) => ['a', 'b', 'c'] abc~well"#;
 
+const RAISES: &str = r#"raise ValueError('told') => ValueError: told
+raise ValueError => ValueError: 
+raise IndexError(5) => IndexError: 5
+print('a')~if 1:~    raise RuntimeError('here')~print('b') => a~RuntimeError: here
+for i in range(5):~    if i == 2:~        raise TypeError(i)~    print(i) => 0~1~TypeError: 2
+x = ArithmeticError('kept')~print(x)~raise x => kept~ArithmeticError: kept
+raise (print(1) or LookupError)(print(2) or 'text') => 1~2~LookupError: text
+raise {'k': [ValueError]}['k'][0] => ValueError: 
+raise 5 => TypeError: raise
+raise None => TypeError: raise
+raise len => TypeError: raise"#;
+
+const UNPACKING: &str = r#"a, b = 1, 2~print(a, b)~a, b = b, a~print(a, b) => 1 2~2 1~well
+(a, (b, c)) = (1, [2, 3])~print(a, b, c) => 1 2 3~well
+[a, b] = 'xy'~print(a, b) => x y~well
+a, = [5]~print(a) => 5~well
+a, b = {'x': 1, 'y': 2}~print(a, b) => x y~well
+i, xs = 1, [0, 0]~i, xs[i] = 0, 9~print(i, xs) => 0 [9, 0]~well
+xs = [0]~xs[print(2) or 0], y = print(1) or (7, 8)~print(xs, y) => 1~2~[7] 8~well
+xs = [0]~ys = xs~xs, xs[0] = [1, 2], 3~print(xs, ys) => [3, 2] [0]~well
+for i, c in enumerate('ab'):~    print(i, c) => 0 a~1 b~well
+for a, (b, c) in [(1, (2, 3)), (4, 'xy')]:~    print(a, b, c) => 1 2 3~4 x y~well
+for k, v in {'a': 1, 'b': 2}.items():~    print(k, v) => a 1~b 2~well
+t = 0~for (x, y) in zip([1, 2], [3, 4]):~    if x == 2:~        continue~    t += x * y~print(t, x, y) => 3 2 4~well
+xs = [1, 2, 3]~for xs[0], xs[1] in [(4, 5), (6, 7)]:~    print(xs) => [4, 5, 3]~[6, 7, 3]~well
+a, b = [1] => ValueError: unpack
+a, b = 1, 2, 3 => ValueError: unpack
+a, b = 5 => TypeError: iterate
+for a, b in [(1, 2), (3,)]:~    print(a, b) => 1 2~ValueError: unpack
+a, xs[0] = 1, 2 => NameError: xs
+a, b = 1, 1 // 0 => ZeroDivisionError: zero"#;
+
 const ORDER: &str = r#"print((print(1) or 1) + (print(2) or 2) * (print(3) or 3)) => 1~2~3~7~well
 xs = [0, 0]~xs[print(2) or 0] = print(1) or 5~print(xs) => 1~2~[5, 0]~well
 print([print(1), print(2)], (print(3), print(4))) => 1~2~3~4~[None, None] (None, None)~well
@@ -68,6 +100,16 @@ fn branches_are_taken(rt: HostRuntime) -> Result<(), Fail> {
 #[test]
 fn loops_walk_over_values(rt: HostRuntime) -> Result<(), Fail> {
     all_answer(rt.alloc(), &Ran, LOOPS)
+}
+
+#[test]
+fn exceptions_are_raised(rt: HostRuntime) -> Result<(), Fail> {
+    all_answer(rt.alloc(), &Ran, RAISES)
+}
+
+#[test]
+fn values_are_unpacked(rt: HostRuntime) -> Result<(), Fail> {
+    all_answer(rt.alloc(), &Ran, UNPACKING)
 }
 
 #[test]

@@ -1,6 +1,6 @@
 //! Scripts over declared objects: what they print, how they end, and every decision.
 
-use crate::ran::{RanFor, RanWithin};
+use crate::ran::{RanFor, RanTrustedFor, RanWithin};
 use rp_tests_cases::all_answer;
 use std::test::Fail;
 
@@ -20,6 +20,8 @@ bob => print(site.tags[-1]) \
 bob => print(site.info['n'], site.info.get('on')) => 1 True~well~1 1 bob allow get Page.info demo.View~\
     2 1 bob allow get dict.__getitem__ zope.Public~3 1 bob allow get Page.info demo.View~\
     4 1 bob allow get dict.get zope.Public~5 1 bob allow get method.__call__ zope.Public~
+bob => print(site.tags[1:]) => ['b']~well~1 1 bob allow get Page.tags demo.View~\
+    2 1 bob allow get list.__getitem__ zope.Public~3 1 bob allow get list.__str__ default~
 bob => print(len(site.tags), 'a' in site.tags) => 2 True~well~1 1 bob allow get Page.tags demo.View~\
     2 1 bob allow get list.__len__ zope.Public~3 1 bob allow get Page.tags demo.View~\
     4 1 bob allow get list.__contains__ zope.Public~
@@ -38,7 +40,10 @@ bob => print(sorted(site.tags)) \
 bob => for row in site.rows:~    for x in row:~        print(x) => 1~2~3~well~1 1 bob allow get Page.rows demo.View~\
     2 1 bob allow get list.__iter__ zope.Public~3 1 bob allow get list.__iter__ zope.Public~\
     4 1 bob allow get list.__iter__ zope.Public~
-eve => for x in site:~    print(x) => ForbiddenAttribute: __iter__~1 1 eve forbid get Page.__iter__~"#;
+bob => a, b = site.tags~print(b, a) \
+    => b a~well~1 1 bob allow get Page.tags demo.View~2 1 bob allow get list.__iter__ zope.Public~
+eve => for x in site:~    print(x) => ForbiddenAttribute: __iter__~1 1 eve forbid get Page.__iter__~
+eve => a, b = site => ForbiddenAttribute: __iter__~1 1 eve forbid get Page.__iter__~"#;
 
 const CHANGES: &str = r#"ann => site.title = 'New'~print(site.title) \
     => New~well~1 1 ann allow set Page.title demo.Edit~2 1 ann allow get Page.title zope.Public~
@@ -58,6 +63,16 @@ bob => del site.info['n'] \
 bob => tags = site.tags~tags += ['x'] \
     => ForbiddenAttribute: __iadd__~1 1 bob allow get Page.tags demo.View~2 1 bob forbid get list.__iadd__~"#;
 
+/// The same of code that no policy judges.
+const UPDATES: &str =
+    r#"eve => site.size += 4~print(site.size) => 7~well~1 1 eve allow get Page.size zope.Public~\
+    2 1 eve allow set Page.size zope.Public~3 1 eve allow get Page.size zope.Public~
+bob => site.title += '!' \
+    => Unauthorized: demo.Edit~1 1 bob allow get Page.title zope.Public~2 1 bob deny set Page.title demo.Edit~
+eve => site.draft += print('value') => Unauthorized: demo.Edit~1 1 eve deny get Page.draft demo.Edit~
+bob => site.tags[0] += 'x' => ForbiddenAttribute: __setitem__~1 1 bob allow get Page.tags demo.View~\
+    2 1 bob allow get list.__getitem__ zope.Public~3 1 bob forbid get list.__setitem__~"#;
+
 const OPERATIONS: &str =
     r#"eve => print(site + 1) => ForbiddenAttribute: __add__~1 1 eve forbid get Page.__add__~
 eve => print(1 + site) => ForbiddenAttribute: __radd__~1 1 eve forbid get Page.__radd__~
@@ -67,6 +82,9 @@ eve => Page() => ForbiddenAttribute: __call__~1 1 eve forbid get class.__call__~
 eve => print(site[0]) => ForbiddenAttribute: __getitem__~1 1 eve forbid get Page.__getitem__~
 eve => print(len(site)) => ForbiddenAttribute: __len__~1 1 eve forbid get Page.__len__~
 eve => print(1 in site) => ForbiddenAttribute: __contains__~1 1 eve forbid get Page.__contains__~
+eve => print(site[1:]) => ForbiddenAttribute: __getitem__~1 1 eve forbid get Page.__getitem__~
+eve => print({site: 1}) => TypeError: key~
+eve => raise site => TypeError: raise~
 eve => site = 5~print(site) => 5~well~"#;
 
 /// The steps, the cells, the script, and what comes of it.
@@ -100,6 +118,11 @@ fn walks_are_decided_once(rt: HostRuntime) -> Result<(), Fail> {
 #[test]
 fn changes_are_decided(rt: HostRuntime) -> Result<(), Fail> {
     all_answer(rt.alloc(), &RanFor, CHANGES)
+}
+
+#[test]
+fn augmented_places_are_decided_twice(rt: HostRuntime) -> Result<(), Fail> {
+    all_answer(rt.alloc(), &RanTrustedFor, UPDATES)
 }
 
 #[test]

@@ -6,7 +6,7 @@ ghost use Rattle.rp_tests_stage.specs.Staged.{IsStaged};
 use rp_session::{Session, SessionEnd};
 use rp_step::Halt;
 use rp_tests_cases::{Question, number, part};
-use rp_tests_stage::{Setting, Stage, set};
+use rp_tests_stage::{Code, Setting, Stage, set};
 use std::alloc::Global;
 use std::test::Fail;
 
@@ -110,10 +110,11 @@ fn ends_so(alloc: Global, setting: Setting<'_>, script: &str, end: &str) -> Resu
 }
 
 /// The setting of scripts without objects.
-fn plain(steps: u64, cells: u64) -> Setting<'static> {
+fn plain(code: Code, steps: u64, cells: u64) -> Setting<'static> {
     Setting {
         declarations: DECLARATIONS,
         who: "eve",
+        code,
         steps,
         cells,
     }
@@ -125,23 +126,37 @@ pub struct Ran;
 
 impl Question for Ran {
     fn answer(&self, alloc: Global, parts: &[String]) -> Result<String, Fail> {
-        told_of(alloc, part(parts, 0))
+        told_of(alloc, Code::Script, part(parts, 0))
     }
 }
 
-fn told_of(alloc: Global, script: &str) -> Result<String, Fail> {
-    let Some(first) = outcome_in(alloc, plain(AMPLE, AMPLE), script)? else {
+/// The same of code that no policy judges.
+pub struct RanTrusted;
+
+impl Question for RanTrusted {
+    fn answer(&self, alloc: Global, parts: &[String]) -> Result<String, Fail> {
+        told_of(alloc, Code::Trusted, part(parts, 0))
+    }
+}
+
+fn told_of(alloc: Global, code: Code, script: &str) -> Result<String, Fail> {
+    let Some(first) = outcome_in(alloc, plain(code, AMPLE, AMPLE), script)? else {
         return Ok(String::from_str(alloc, "does not run")?);
     };
     let steps = AMPLE.saturating_sub(first.steps);
     let cells = first.cells;
-    if !ends_so(alloc, plain(steps, cells), script, first.told.as_str())? {
+    if !ends_so(
+        alloc,
+        plain(code, steps, cells),
+        script,
+        first.told.as_str(),
+    )? {
         return Ok(String::from_str(alloc, "another end with just so many steps and cells")?);
     }
-    if steps > 0 && !ends_so(alloc, plain(steps - 1, cells), script, "no step")? {
+    if steps > 0 && !ends_so(alloc, plain(code, steps - 1, cells), script, "no step")? {
         return Ok(String::from_str(alloc, "ends well with a step less")?);
     }
-    if cells > 0 && !ends_so(alloc, plain(steps, cells - 1), script, "no cell")? {
+    if cells > 0 && !ends_so(alloc, plain(code, steps, cells - 1), script, "no cell")? {
         return Ok(String::from_str(alloc, "ends well with a cell less")?);
     }
     Ok(first.told)
@@ -152,13 +167,27 @@ pub struct RanFor;
 
 impl Question for RanFor {
     fn answer(&self, alloc: Global, parts: &[String]) -> Result<String, Fail> {
-        let setting = Setting {
-            declarations: DECLARATIONS,
-            who: part(parts, 0),
-            steps: AMPLE,
-            cells: AMPLE,
-        };
-        with_trail(alloc, setting, part(parts, 1))
+        with_trail(alloc, ample(Code::Script, part(parts, 0)), part(parts, 1))
+    }
+}
+
+/// The same of code that no policy judges.
+pub struct RanTrustedFor;
+
+impl Question for RanTrustedFor {
+    fn answer(&self, alloc: Global, parts: &[String]) -> Result<String, Fail> {
+        with_trail(alloc, ample(Code::Trusted, part(parts, 0)), part(parts, 1))
+    }
+}
+
+/// The setting of code for one principal, with ample steps and cells.
+fn ample(code: Code, who: &str) -> Setting<'_> {
+    Setting {
+        declarations: DECLARATIONS,
+        who,
+        code,
+        steps: AMPLE,
+        cells: AMPLE,
     }
 }
 
@@ -179,6 +208,6 @@ impl Question for RanWithin {
     fn answer(&self, alloc: Global, parts: &[String]) -> Result<String, Fail> {
         let steps = number(parts, 0) as u64;
         let cells = number(parts, 1) as u64;
-        with_trail(alloc, plain(steps, cells), part(parts, 2))
+        with_trail(alloc, plain(Code::Script, steps, cells), part(parts, 2))
     }
 }

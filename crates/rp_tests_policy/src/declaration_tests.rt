@@ -1,7 +1,7 @@
 //! Declaration files: what they declare, and why they are refused.
 
 use crate::declaration_answers::{Cause, Word, line_of};
-use crate::records_shown::shown;
+use crate::record_texts::shown;
 use rp_tests_cases::{ROLES_FILE, all_answer, is_told};
 use std::test::Fail;
 

@@ -18,7 +18,7 @@ mod interaction_tests;
 #[cfg(test)]
 mod proxy_tests;
 #[cfg(test)]
-mod records_shown;
+mod record_texts;
 #[cfg(test)]
 mod taking_answers;
 #[cfg(test)]

@@ -1,4 +1,4 @@
-//! Fronts of files: wherever a script or a declaration file is cut off, it is read or refused, and nothing else happens.
+//! Fronts of files: wherever a script or a declaration file is cut off, it is read or refused, and no more happens.
 
 use crate::program_answers::{RUN, said_over};
 use rp_tests_cases::{FOLDER_FILE, holds};

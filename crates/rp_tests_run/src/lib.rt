@@ -8,6 +8,8 @@ mod front_tests;
 #[cfg(test)]
 mod outside_tests;
 #[cfg(test)]
+mod played_tests;
+#[cfg(test)]
 mod program_answers;
 #[cfg(test)]
 mod program_tests;

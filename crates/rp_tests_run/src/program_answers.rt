@@ -18,6 +18,8 @@ pub enum Said {
     /// by the second.
     Where,
     WhereRoles,
+    /// Where bob runs the script that is the first part over lists and dicts of a shop.
+    Shop,
     /// To the words of the first part, `usage` where it says that and nothing else.
     Usage,
 }
@@ -35,6 +37,7 @@ impl Said {
             Said::Of => said_over(alloc, RUN, FOLDER_FILE, first.as_bytes()),
             Said::Where => said_where(alloc, FOLDER_FILE, first, second),
             Said::WhereRoles => said_where(alloc, ROLES_FILE, first, second),
+            Said::Shop => said_over(alloc, RUN, SHOP, first.as_bytes()),
             Said::Usage => usage_or(alloc, first),
         }
     }
@@ -51,6 +54,30 @@ allow = ["zope.View"]
 [principal.kim]
 groups = ["staff"]
 deny = ["zope.View"]
+"#;
+
+/// Objects with lists, dicts and truth values.
+const SHOP: &str = r#"version = 1
+permissions = ["shop.View", "shop.Cost"]
+expose = ["catalogue", "saw"]
+[class.Catalogue.get]
+title = "zope.Public"
+articles = "shop.View"
+[class.Article.get]
+price = "shop.View"
+tags = "shop.View"
+sizes = "shop.View"
+cost = "shop.Cost"
+[class.Article.set]
+price = "shop.View"
+[principal.bob]
+allow = ["shop.View"]
+[object.catalogue]
+class = "Catalogue"
+fields = { title = "Tools", articles = ["saw", "nail"] }
+[object.saw]
+class = "Article"
+fields = { price = 1290, cost = 800, tags = ["wood", "steel"], sizes = { small = 3 }, sold = true }
 "#;
 
 pub const PRINT_TITLE: &[u8] = b"print(root.title)\n";

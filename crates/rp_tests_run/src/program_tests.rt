@@ -36,8 +36,7 @@ size = 3 => size = 1.5 => declarations: shape object.root.fields.size~3
 [principal.bob] => [class.B]~like = "C"~[class.C]~like = "B"~[principal.bob] => declarations: class B~3
 [principal.eve] => [principal.eve]~groups = ["x"] => declarations: group x~3
 ["root"] => ["rot"] => declarations: expose rot~3
-version = 1 => version = 1~module = "x = 1" => declarations: not yet~3
-size = 3 => size = true => declarations: not yet~3"#;
+version = 1 => version = 1~module = "x = 1" => declarations: not yet~3"#;
 
 const SCRIPTS_REFUSED: &str =
     r#"if True:~    x = 1~  y = 2 => script 1: line 3: dedent to no open column~4
@@ -49,9 +48,7 @@ x = 1 ? 2 => script 1: line 1: bad character~4
 x = = 1 => script 1: line 1: syntax~4
 def f():~    x = = 1~y = 1 => script 1: line 2: syntax~4
 print(root._title) => script 1: line 1: attribute "_title" is forbidden~4
-exec(x)~print = 1 => script 1: line 1: call of "exec" is forbidden~script 1: line 2: name "print" is reserved~4
-x = 1 + 2 => script 1: not yet~4
-if True: pass => script 1: not yet~4"#;
+exec(x)~print = 1 => script 1: line 1: call of "exec" is forbidden~script 1: line 2: name "print" is reserved~4"#;
 
 const NO_RUN: &str = r#" => usage
 run title.toml => usage

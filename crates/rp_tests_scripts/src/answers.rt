@@ -4,9 +4,9 @@ ghost use Rattle.std.specs.Prelude.{IfOk};
 ghost use Rattle.rp_tree.specs.Marks.{HasNoGuards};
 ghost use Rattle.rp_tree.specs.StatementViews.{view_tree};
 
-use crate::shown::{show_expr, show_name, show_params, show_place, show_target};
-use crate::shown_guards::show_guards;
-use crate::shown_statements::show_stmts;
+use crate::expression_texts::{show_expr, show_name, show_params, show_place, show_target};
+use crate::guard_texts::show_guards;
+use crate::statement_texts::show_stmts;
 use rp_base::{Memory, Names, Seed};
 use rp_expr::{expr, expr_list, params, place_of, target};
 use rp_first::{compile_script, refusal_text};
@@ -302,7 +302,7 @@ fn line(alloc: Global, text: &str) -> Result<String, Fail> {
 }
 
 /// What parsing a text gives, none where it has no tokens.
-pub fn parsed(alloc: Global, names: &mut Names, text: &str) -> Option<Result<Tree, ParseFault>> {
+fn parsed(alloc: Global, names: &mut Names, text: &str) -> Option<Result<Tree, ParseFault>> {
     let Ok(found) = tokens(alloc, text, names) else {
         return None;
     };
@@ -383,7 +383,7 @@ pub fn compiled_bytes(alloc: Global, bytes: &[u8]) -> Result<String, Fail> {
     match compile_script(alloc, bytes, &mut names) {
         Ok(script) => {
             let mut out = String::new(alloc);
-            crate::shown_scripts::describe_all(&mut out, &names, script.statements())?;
+            crate::script_texts::describe_all(&mut out, &names, script.statements())?;
             Ok(out)
         }
         Err(refusal) => {

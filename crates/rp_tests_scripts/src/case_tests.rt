@@ -1,5 +1,7 @@
-//! Small scripts, and the line at which the grammar refuses them. CPython's own parser agrees on which of them it
-//! takes, as bench/grammar_cases.py shows; the lines of refusals, and the last table, are the grammar's own.
+//! Small scripts, and the line at which the grammar refuses them.
+
+// CPython's own parser agrees on which of them it takes, as bench/grammar_cases.py shows; the lines of refusals, and
+// the last table, are the grammar's own.
 
 use crate::answers::Question;
 use crate::cases::all_answer;

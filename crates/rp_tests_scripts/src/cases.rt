@@ -1,6 +1,7 @@
-//! Tables of cases, each a text: a case a line, what is asked on the left of `=>` and the answer on its right. The
-//! signs ␊, ␍ and ␉ stand for a line feed, a carriage return and a tab. What is asked may be several pieces with ‖
-//! between them; one that begins with a number and × is so many copies of what stands behind.
+//! Tables of cases, each a text: a case a line, what is asked on the left of `=>` and the answer on its right.
+
+// The signs ␊, ␍ and ␉ stand for a line feed, a carriage return and a tab. What is asked may be several pieces with ‖
+// between them; one that begins with a number and × is so many copies of what stands behind.
 
 use crate::answers::{Question, answer};
 use rp_tests_cases::is_told;

@@ -1,6 +1,6 @@
 //! Tests of compiled scripts and trusted modules: where their code blocks find names, and what they are refused for.
 
-use crate::shown_scopes::{Reading, all_found};
+use crate::scope_texts::{Reading, all_found};
 use std::test::Fail;
 
 /// Each script with places that code blocks of its compiled form find, or with why it is refused.

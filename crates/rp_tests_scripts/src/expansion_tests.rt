@@ -1,5 +1,4 @@
-//! Tests of scripts with f-literals and sets: what runs of them, as text, and which are refused (PEP 498; Python
-//! Language Reference, Set displays).
+//! Tests of scripts with f-literals and sets: what runs of them, as text, and which are refused (PEP 498).
 
 use crate::answers::new_names;
 use crate::cases::spelled_out;

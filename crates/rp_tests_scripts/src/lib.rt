@@ -10,31 +10,29 @@ mod cases;
 #[cfg(test)]
 mod compiled_tests;
 #[cfg(test)]
+mod compiled_texts;
+#[cfg(test)]
 mod expansion_tests;
 #[cfg(test)]
 mod expression_tests;
 #[cfg(test)]
+mod expression_texts;
+#[cfg(test)]
 mod guard_tests;
 #[cfg(test)]
-mod marks;
+mod guard_texts;
 #[cfg(test)]
 mod scope_tests;
 #[cfg(test)]
+mod scope_texts;
+#[cfg(test)]
 mod script_tests;
 #[cfg(test)]
-mod shown;
-#[cfg(test)]
-mod shown_compiled;
-#[cfg(test)]
-mod shown_guards;
-#[cfg(test)]
-mod shown_scopes;
-#[cfg(test)]
-mod shown_scripts;
-#[cfg(test)]
-mod shown_statements;
+mod script_texts;
 #[cfg(test)]
 mod statement_tests;
+#[cfg(test)]
+mod statement_texts;
 #[cfg(test)]
 mod token_tests;
 #[cfg(test)]

@@ -1,6 +1,6 @@
 //! Tests of the names of code blocks: where each block finds a name (Python Language Reference, Naming and binding).
 
-use crate::shown_scopes::{Reading, all_found};
+use crate::scope_texts::{Reading, all_found};
 use std::test::Fail;
 
 /// Each script with some of its code blocks by their numbers, and where these find some names: among their own local

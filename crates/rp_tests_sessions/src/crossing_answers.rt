@@ -11,7 +11,7 @@ ghost use Rattle.rp_proxy.specs.Held.{IsValueHeld};
 use rp_base::{Memory, Meter, Name, Names, Oid, Op, OpEnd, Printed, Rock, Text, Value};
 use rp_decl::declarations;
 use rp_interact::Interaction;
-use rp_load::{load, load_fault};
+use rp_load::{has_plain_fields, load, load_fault};
 use rp_proxy::{Running, World, cross};
 use rp_tests_cases::{Question, after_word, first_word, number, part, seed};
 use std::alloc::Global;
@@ -47,6 +47,9 @@ fn world_of(alloc: Global, who: &str, limit: u64) -> Result<Option<World>, Memor
         meter: Meter { left: 9 },
         printed: Printed::new(alloc),
     };
+    if !has_plain_fields(&decl) {
+        return Ok(None);
+    }
     match load_fault(alloc, &decl, &names)? {
         None => Ok(Some(load(alloc, decl, names, limit, running)?)),
         Some(_) => Ok(None),

@@ -1,6 +1,6 @@
 //! What sessions over declarations come to.
 
-ghost use Rattle.std.specs.Prelude.{◌≡◌, ◌<◌, ℕ, List, [], IfOk, IfSome, None};
+ghost use Rattle.std.specs.Prelude.{◌≡◌, ◌<◌, ℕ, List, [], IfOk, IfSome, None, true};
 ghost use Rattle.std.specs.List.{All};
 ghost use Rattle.rp_base.specs.Names.{first_words};
 ghost use Rattle.rp_first.specs.View.{IsStatementHeld};
@@ -9,14 +9,14 @@ ghost use Rattle.rp_decl.specs.InOrder.{AreInOrder};
 ghost use Rattle.rp_decl.specs.Places.{GrowsTo, IsHeldBy};
 ghost use Rattle.rp_decl.specs.View.{declarations_view};
 ghost use Rattle.rp_interact.specs.Answers.{AnswersAs};
-ghost use Rattle.rp_load.specs.Load.{fault_of};
+ghost use Rattle.rp_load.specs.Load.{fault_of, has_plain_fields};
 
 use crate::crossing_answers::end_text;
 use rp_base::{ClassTag, Meter, Name, Names, Op, Printed, Text};
 use rp_decl::{Decl, Row, declarations};
 use rp_first::{Compiled, compile_script};
 use rp_interact::Interaction;
-use rp_load::{fault_line, load, load_fault};
+use rp_load::{fault_line, has_plain_fields, load, load_fault};
 use rp_machine::Session;
 use rp_proxy::Running;
 use rp_tests_cases::{Question, number, part, seed};
@@ -203,6 +203,7 @@ fn ran(
     requires ordered { AreInOrder (declarations_view names decl) }
     requires grants { AnswersAs names decl running.interaction }
     requires runs { fault_of (declarations_view names decl) ≡ None }
+    requires plain { has_plain_fields (declarations_view names decl) ≡ true }
     requires unprinted { running.printed ≡ [] }
     requires script { 0 < running.session }
     requires script_held { All (IsStatementHeld names) script.now }
@@ -254,6 +255,9 @@ fn outcome_over(
         return Ok(String::from_str(alloc, "no session")?);
     };
     let words = Words::new(alloc, &names, &decl)?;
+    if !has_plain_fields(&decl) {
+        return Ok(String::from_str(alloc, "not plain")?);
+    }
     match load_fault(alloc, &decl, &names)? {
         None => ran(alloc, decl, names, running, limit, script, &words),
         Some(fault) => Ok(fault_line(alloc, fault, &names)?),
@@ -286,7 +290,7 @@ fn outcome_of(alloc: Global, who: &str, limit: u64, script: &str) -> Result<Stri
     outcome_over(alloc, decl, names, who, limit, &script)
 }
 
-/// The line of the fault of declarations.
+/// The line of the fault of declarations; where there is none, whether their fields are numbers and texts.
 fn fault_told(alloc: Global, declared: &str) -> Result<String, Fail> {
     let mut names = Names::new(alloc, seed())?;
     let Ok(decl) = declarations(alloc, declared.as_bytes(), &mut names) else {
@@ -294,7 +298,12 @@ fn fault_told(alloc: Global, declared: &str) -> Result<String, Fail> {
     };
     match load_fault(alloc, &decl, &names)? {
         Some(fault) => Ok(fault_line(alloc, fault, &names)?),
-        None => Ok(String::from_str(alloc, "none")?),
+        None => {
+            if has_plain_fields(&decl) {
+                return Ok(String::from_str(alloc, "none")?);
+            }
+            Ok(String::from_str(alloc, "none, and not plain")?)
+        }
     }
 }
 

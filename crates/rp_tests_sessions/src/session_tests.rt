@@ -55,9 +55,9 @@ expose = ['Box', 'zeta', 'alpha', 'beta']~[class.Box] => declarations: expose al
 /// What is exposed, the fields of an object, and the fault.
 const FIELDS: &str = r#"'Box', 'box' =>  => none
 'box' => n = 1, t = 'one' => none
-'box' => l = [] => declarations: not yet~
-'box' => n = 1, t = true => declarations: not yet~
-'box' => d = { n = 1 } => declarations: not yet~
+'box' => l = [] => none, and not plain
+'box' => n = 1, t = true => none, and not plain
+'box' => d = { n = 1 } => none, and not plain
 'rot' => l = [1] => declarations: expose rot~"#;
 
 #[test]

@@ -6,5 +6,6 @@ mod programs;
 mod stage;
 mod words;
 
+pub use programs::Code;
 pub use stage::{Setting, Stage, set};
 pub use words::Words;

@@ -1,16 +1,25 @@
 //! Programs of scripts, and of a module without a text.
 
-ghost use Rattle.std.specs.Prelude.{◌<◌, IfOk, IfSome, length};
+ghost use Rattle.std.specs.Prelude.{IfOk, IfSome};
 ghost use Rattle.rp_decl.specs.Places.{GrowsTo};
 ghost use Rattle.rp_session.specs.Ready.{AreLaidOut};
 
-use rp_base::{Memory, Name, Names};
+use rp_base::{Memory, Names};
 use rp_decl::Decl;
-use rp_scope::{number, resolve};
+use rp_program::{ProgramFault, read_text};
 use rp_script::{Refusal, read_script};
-use rp_step::{Program, Units};
+use rp_step::Units;
 use rp_tree::Tree;
 use std::alloc::Global;
+
+/// What the text of a script is read as.
+#[derive(Clone, Copy)]
+pub enum Code {
+    /// A script, which the policy of names judges.
+    Script,
+    /// Code like that of a trusted module, which no policy judges.
+    Trusted,
+}
 
 /// The programs of a run of one script over declarations without a module; None where the script is refused.
 ///
@@ -19,47 +28,45 @@ use std::alloc::Global;
 pub fn units_of(
     alloc: Global,
     decl: &Decl,
+    code: Code,
     script: &str,
     names: &mut Names,
 ) -> Result<Option<Units>, Memory>
     ensures laid { IfOk result (λ o. IfSome o AreLaidOut) }
     ensures grown { GrowsTo names.old names.new }
 {
-    let tree = match read_script(alloc, script.as_bytes(), names) {
-        Ok(tree) => tree,
-        Err(Refusal::Memory) => return Err(Memory),
-        Err(_) => return Ok(None),
+    let Some(tree) = tree_of(alloc, code, script, names)? else {
+        return Ok(None);
     };
-    let module = Tree {
-        body: Vec::new(alloc),
-    };
-    let declared = declared_names(alloc, decl)?;
-    let module = program_of(alloc, module, declared.as_slice())?;
-    let script = program_of(alloc, tree, &[])?;
-    Ok(Some(Units {
-        module,
-        scripts: vec![in alloc; script]?,
-    }))
+    Ok(Some(rp_play::units_of(alloc, decl, tree)?))
 }
 
-/// The program of a tree, whose global names begin with these: its code blocks numbered, and where they find names.
-fn program_of(alloc: Global, tree: Tree, first: &[Name]) -> Result<Program, Memory>
-    ensures { IfOk result (λ program. 0 < length program.layouts) }
+/// The tree of a text that is read so; None where it is refused.
+fn tree_of(alloc: Global, code: Code, text: &str, names: &mut Names) -> Result<Option<Tree>, Memory>
+    ensures { GrowsTo names.old names.new }
 {
-    let mut tree = tree;
-    number(&mut tree);
-    let layouts = resolve(alloc, &tree, first)?;
-    Ok(Program { tree, layouts })
+    match code {
+        Code::Script => script_tree(alloc, text, names),
+        Code::Trusted => trusted_tree(alloc, text, names),
+    }
 }
 
-/// The names of the declared classes, and then of the declared objects.
-fn declared_names(alloc: Global, decl: &Decl) -> Result<Vec<Name>, Memory> {
-    let mut names = Vec::new(alloc);
-    for class in decl.classes() {
-        names.push(class.name)?;
+fn script_tree(alloc: Global, text: &str, names: &mut Names) -> Result<Option<Tree>, Memory>
+    ensures { GrowsTo names.old names.new }
+{
+    match read_script(alloc, text.as_bytes(), names) {
+        Ok(tree) => Ok(Some(tree)),
+        Err(Refusal::Memory) => Err(Memory),
+        Err(_) => Ok(None),
     }
-    for object in decl.objects() {
-        names.push(object.name)?;
+}
+
+fn trusted_tree(alloc: Global, text: &str, names: &mut Names) -> Result<Option<Tree>, Memory>
+    ensures { GrowsTo names.old names.new }
+{
+    match read_text(alloc, text, names) {
+        Ok(tree) => Ok(Some(tree)),
+        Err(ProgramFault::Memory) => Err(Memory),
+        Err(_) => Ok(None),
     }
-    Ok(names)
 }

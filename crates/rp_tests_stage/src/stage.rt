@@ -11,7 +11,7 @@ ghost use Rattle.rp_proxy.specs.Faithful.{IsFaithful};
 ghost use Rattle.rp_session.specs.Ready.{AreLaidOut};
 ghost use Rattle.rp_tests_stage.specs.Staged.{IsStaged};
 
-use crate::programs::units_of;
+use crate::programs::{Code, units_of};
 use crate::words::Words;
 use rp_base::{Memory, Meter, Names, Printed, Text};
 use rp_decl::{Decl, declarations};
@@ -23,12 +23,13 @@ use rp_tests_cases::seed;
 use rp_world::load;
 use std::alloc::Global;
 
-/// Over which declarations a script runs, for which principals, whose ids stand between blanks, and how many steps it
-/// may take and cells it may use.
+/// Over which declarations a script runs, for which principals, whose ids stand between blanks, what it is read as, and
+/// how many steps it may take and cells it may use.
 #[derive(Clone, Copy)]
 pub struct Setting<'a> {
     pub declarations: &'a str,
     pub who: &'a str,
+    pub code: Code,
     pub steps: u64,
     pub cells: u64,
 }
@@ -52,7 +53,7 @@ pub fn set(alloc: Global, setting: Setting<'_>, script: &str) -> Result<Option<S
     let Some(decl) = declared(alloc, setting.declarations, &mut names)? else {
         return Ok(None);
     };
-    let Some(units) = units_of(alloc, &decl, script, &mut names)? else {
+    let Some(units) = units_of(alloc, &decl, setting.code, script, &mut names)? else {
         return Ok(None);
     };
     staged(alloc, decl, names, units, setting)

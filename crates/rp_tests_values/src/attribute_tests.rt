@@ -1,5 +1,6 @@
-//! Attributes: reading, storing and deleting. The methods of each kind are those of the language, with the names of
-//! CPython.
+//! Attributes: reading, storing and deleting.
+
+// The methods of each kind are those of the language, with the names of CPython.
 
 use crate::answers::all_answer;
 use std::test::Fail;

@@ -48,6 +48,8 @@ mod store_tests;
 #[cfg(test)]
 mod tokens;
 #[cfg(test)]
+mod value_notation;
+#[cfg(test)]
 mod value_tests;
 #[cfg(test)]
 mod values;
@@ -59,5 +61,3 @@ mod word_tests;
 mod words;
 #[cfg(test)]
 mod world;
-#[cfg(test)]
-mod written;

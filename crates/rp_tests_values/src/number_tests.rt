@@ -1,5 +1,6 @@
-//! Operators on numbers and truth values, with no cell used and no step taken. The values are CPython's where they fit
-//! into 64 bits.
+//! Operators on numbers and truth values, with no cell used and no step taken.
+
+// The values are CPython's where they fit into 64 bits.
 
 use crate::answers::all_answer;
 use std::test::Fail;

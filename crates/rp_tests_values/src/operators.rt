@@ -1,5 +1,4 @@
-//! Runs a statement of a case: a call by its word, an operator between two values, or a value, each also behind `name
-//! =`.
+//! Statements of cases: a call by its word, an operator between two values, or a value, each also behind `name =`.
 
 use crate::answers::{Answer, Fault};
 use crate::calls::{called, is_call};

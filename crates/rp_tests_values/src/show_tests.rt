@@ -1,6 +1,8 @@
-//! Values as texts. The texts of containers, numbers, truth values and kinds are those of CPython, but for an exception
-//! value with an empty text, which is shown as one that was made without a text; built-in functions, methods and
-//! instances have words of their own.
+//! Values as texts.
+
+// The texts of containers, numbers, truth values and kinds are those of CPython, but for an exception value with an
+// empty text, which is shown as one that was made without a text; built-in functions, methods and instances have words
+// of their own.
 
 use crate::answers::all_answer;
 use std::test::Fail;

@@ -1,5 +1,7 @@
-//! Reads values: `1 'a' None [1] (1,) {1: 2} ~[1] KeyError KeyError('a') len`, `class C {f: g}`, `C {x: 1}`, `def
-//! f(1)`, `lambda()`, `bound(1, f)` and names that the case has bound.
+//! Values as cases write them.
+
+// They are `1 'a' None [1] (1,) {1: 2} ~[1] KeyError KeyError('a') len`, `class C {f: g}`, `C {x: 1}`, `def f(1)`,
+// `lambda()`, `bound(1, f)` and names that the case has bound.
 
 use crate::answers::Fault;
 use crate::soundness::is_class;

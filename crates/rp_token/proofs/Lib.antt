@@ -4,6 +4,7 @@ pub mod Laws
 pub mod LawsItems
 pub mod LawsRules
 pub mod Literals
+pub mod NameWords
 pub mod Numbers
 pub mod Places
 pub mod Rules

@@ -3,8 +3,10 @@ pub mod Form
 pub mod Laws
 pub mod Lexer
 pub mod Literal
+pub mod NameWords
 pub mod Number
 pub mod Reading
 pub mod Run
 pub mod Tokens
 pub mod View
+pub mod WordSteps

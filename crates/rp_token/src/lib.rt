@@ -1,9 +1,11 @@
 //! The tokens of a script: any text to its tokens, or its first fault with the line.
 #![tactic(auto)]
 
-ghost use Rattle.std.specs.Prelude.{All, IfOk, chars};
+ghost use Rattle.std.specs.Prelude.{◌≡◌, All, IfOk, OnOk, chars};
+ghost use Rattle.rp_base.specs.Names.{with_words};
 ghost use Rattle.rp_token.specs.Laws.{BlocksEnd, EndsOnce, IsWithin, LieInOrder};
 ghost use Rattle.rp_token.specs.Lexer.{Gives, IsGrown};
+ghost use Rattle.rp_token.specs.NameWords.{text_words};
 ghost use Rattle.rp_token.specs.View.{IsHeld};
 ghost use Rattle.rp_token.specs.Tokens.{tokens_of};
 
@@ -23,8 +25,8 @@ use rp_base::Names;
 use std::alloc::Global;
 pub use token::{Token, TokenKind};
 
-/// The tokens of a text. Its words are interned among the names, which stay where they are and grow,
-/// whatever is answered; so each name in a token is held.
+/// The tokens of a text. Its words are interned among the names, in their order; the names stay where they are and
+/// grow, whatever is answered; so each name in a token is held.
 ///
 /// The tokens end with their only END, lie in order between character boundaries of the text, end each block
 /// that they begin, and open at most 200 brackets at once.
@@ -34,6 +36,7 @@ pub use token::{Token, TokenKind};
 pub fn tokens(alloc: Global, text: &str, names: &mut Names) -> Result<Vec<Token>, TokenFault>
     ensures tokens { Gives names.new (tokens_of (chars text.now)) result }
     ensures names { IsGrown names.old names.new }
+    ensures words { OnOk result (names.new ≡ with_words names.old (text_words (chars text.now))) }
     ensures ends { IfOk result (λ found. EndsOnce found.items) }
     ensures order { IfOk result (λ found. LieInOrder text.now 0 found.items) }
     ensures blocks { IfOk result (λ found. BlocksEnd found.items) }

@@ -9,7 +9,7 @@ ghost use Rattle.rp_trail.specs.View.{IsClassHeld, IsRowDeclared, class_text, op
 
 use crate::entry::Entry;
 use rp_base::{ClassTag, Memory, Name, Names, Op};
-use rp_decl::{Decl, Perm, Row};
+use rp_decl::{Decl, PUBLIC, Perm, Row};
 use std::alloc::Global;
 
 /// The number of an entry, that of its session, and who it is of.
@@ -118,7 +118,7 @@ pub fn reason(row: Row, decl: &Decl) -> &str
     ensures { chars result.now ≡ reason (row_permission decl.now.permissions row) }
 {
     match row {
-        Row::Public => "zope.Public",
+        Row::Public => PUBLIC,
         Row::Needs(permission) => permission_text(permission, decl),
         Row::Default | Row::Forbidden => "default",
     }

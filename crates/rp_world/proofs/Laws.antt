@@ -165,6 +165,7 @@ module _ (names : List (List ℕ)) (d : Placed) (once : HoldsEachOnce names) (kn
   pub law-unbound : (limit : ℕ) (fault : LoadFault) (word : List ℕ) → fault_view names fault ≡ expose_fault word → IsFaultHeld names fault → Some word ≡ missing → IsUnbound names d limit fault
   law-unbound limit fault word told here found = record {
     word = word;
+    missing = sym found;
     told = told;
     held = here;
     refused = λ run e. run-seen run limit e ∙ loaded-unbound limit (map (exposed_value (placed_names d) globals start) ds.expose) start word (missing-seen ∙ sym found);

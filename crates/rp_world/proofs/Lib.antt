@@ -1,7 +1,7 @@
 mod Filled
 mod Grown
 mod Laws
-mod Seen
+pub mod Seen
 mod Slots
 mod Spots
 mod Turns

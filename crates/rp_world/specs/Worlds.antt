@@ -2,7 +2,8 @@
 use Rattle.std.specs.Prelude.{◌≡◌, ℕ, List, [], length, Option, Some, None, Err, Ok}
 use Rattle.rp_base.specs.declared.value.Value.{Value}
 use Rattle.rp_decl.specs.View.{Placed, declarations_view}
-use Rattle.rp_load.specs.Load.{expose}
+use Rattle.rp_decl.specs.Order.{least}
+use Rattle.rp_load.specs.Load.{expose, unbound}
 use Rattle.rp_load.specs.View.{IsFaultHeld, fault_view}
 use Rattle.rp_load.specs.declared.fault.LoadFault.{LoadFault}
 use Rattle.rp_machine.specs.Globals.{placed_names}
@@ -37,9 +38,10 @@ world_view w = record {
 abbrev pub IsLoaded : List (List ℕ) → Placed → ℕ → World → Type 0
 IsLoaded names d limit w = (run : Run) → IsEmptyModule d (run.programs trusted) → load run names (declarations_view names d) limit ≡ Ok (world_view w)
 
--- the fault is the name for which loading gives no world
+-- the fault is the name for which loading gives no world: the least exposed one that stands for nothing
 pub record IsUnbound (names : List (List ℕ)) (d : Placed) (limit : ℕ) (fault : LoadFault) : Type 0 where
   pub word : List ℕ
+  pub missing : least (unbound (declarations_view names d)) ≡ Some word
   pub told : fault_view names fault ≡ expose word
   pub held : IsFaultHeld names fault
   pub refused : (run : Run) → IsEmptyModule d (run.programs trusted) → load run names (declarations_view names d) limit ≡ Err (not_bound word)

@@ -1,8 +1,8 @@
 use Rattle.std.proofs.Common.{◌≡◌, suc, ◌+◌, ◌*◌, ◌≤◌, ◌-◌, length, map, true, false, Some}
-use Rattle.rp_tree.specs.Expressions as t
-use Rattle.rp_tree.specs.ExpressionViews as v
-use Rattle.rp_grammar.specs.Front as f
-use Rattle.rp_grammar.specs.ExpressionReading as r
+use Rattle.rp_tree.specs.Expressions as tree
+use Rattle.rp_tree.specs.ExpressionViews as views
+use Rattle.rp_grammar.specs.Front as token_tests
+use Rattle.rp_grammar.specs.ExpressionReading as reading
 use Rattle.rp_grammar.specs.ExpressionReading.{all_many, all_listed, before}
 use Rattle.rp_grammar.proofs.Loops.{front}
 use Rattle.rp_expr.proofs.Views.{plain_view}
@@ -172,79 +172,79 @@ decreases-operators::operations l = 50 * l.depth + 19 + 3 * l.level
 -- ---- each loop
 
 abbrev pub invariant-clauses::ifs-items : goal.invariant-clauses::ifs-items
-invariant-clauses::ifs-items l = r.ifs (r.readers l.depth) l.fn.tokens ≡ before (front t.expr (map v.view_expr l.found.items)) (all_many t.no_exprs t.expr (r.at f.is_if) (r.behind (r.readers l.depth).or) l.rest)
+invariant-clauses::ifs-items l = reading.ifs (reading.readers l.depth) l.fn.tokens ≡ before (front tree.expr (map views.view_expr l.found.items)) (all_many tree.no_exprs tree.expr (reading.at token_tests.is_if) (reading.behind (reading.readers l.depth).or) l.rest)
 
 abbrev pub decreases-clauses::ifs-items : goal.decreases-clauses::ifs-items
 decreases-clauses::ifs-items l = length l.rest
 
 abbrev pub invariant-clauses::clauses-items : goal.invariant-clauses::clauses-items
-invariant-clauses::clauses-items l = r.clauses (r.readers l.depth) l.fn.tokens ≡ before (front t.clause (map v.view_clause l.found.items)) (all_many t.no_clauses t.clause (r.at f.is_for) (r.behind (r.clause (r.readers l.depth))) l.rest)
+invariant-clauses::clauses-items l = reading.clauses (reading.readers l.depth) l.fn.tokens ≡ before (front tree.clause (map views.view_clause l.found.items)) (all_many tree.no_clauses tree.clause (reading.at token_tests.is_for) (reading.behind (reading.clause (reading.readers l.depth))) l.rest)
 
 abbrev pub decreases-clauses::clauses-items : goal.decreases-clauses::clauses-items
 decreases-clauses::clauses-items l = length l.rest
 
 abbrev pub invariant-trailers::trailers-items : goal.invariant-trailers::trailers-items
-invariant-trailers::trailers-items l = r.trailers (r.readers l.depth) l.fn.tokens ≡ before (front t.trailer (map v.view_trailer l.found.items)) (all_many t.no_trailers t.trailer (r.at f.starts_trailer) (r.trailer (r.readers l.depth)) l.rest)
+invariant-trailers::trailers-items l = reading.trailers (reading.readers l.depth) l.fn.tokens ≡ before (front tree.trailer (map views.view_trailer l.found.items)) (all_many tree.no_trailers tree.trailer (reading.at token_tests.starts_trailer) (reading.trailer (reading.readers l.depth)) l.rest)
 
 abbrev pub decreases-trailers::trailers-items : goal.decreases-trailers::trailers-items
 decreases-trailers::trailers-items l = length l.rest
 
 abbrev pub invariant-operators::operations-items : goal.invariant-operators::operations-items
-invariant-operators::operations-items l = r.operations (suc l.level) (r.chain (r.readers l.depth) l.level) l.fn.tokens ≡ before (front r.with_op (map v.view_op l.found.items)) (all_many t.no_ops r.with_op (r.at (λ j. r.is_some (r.operator_of (suc l.level) j))) (r.operation (suc l.level) (r.chain (r.readers l.depth) l.level)) l.rest)
+invariant-operators::operations-items l = reading.operations (suc l.level) (reading.chain (reading.readers l.depth) l.level) l.fn.tokens ≡ before (front reading.with_op (map views.view_op l.found.items)) (all_many tree.no_ops reading.with_op (reading.at (λ j. reading.is_some (reading.operator_of (suc l.level) j))) (reading.operation (suc l.level) (reading.chain (reading.readers l.depth) l.level)) l.rest)
 
 abbrev pub decreases-operators::operations-items : goal.decreases-operators::operations-items
 decreases-operators::operations-items l = length l.rest
 
 abbrev pub invariant-operators::tests-items : goal.invariant-operators::tests-items
-invariant-operators::tests-items l = r.tests (r.readers l.depth) l.fn.tokens ≡ before (front r.with_test (map v.view_test l.found.items)) (all_many t.no_tests r.with_test r.at_test (r.comparison (r.readers l.depth)) l.rest)
+invariant-operators::tests-items l = reading.tests (reading.readers l.depth) l.fn.tokens ≡ before (front reading.with_test (map views.view_test l.found.items)) (all_many tree.no_tests reading.with_test reading.at_test (reading.comparison (reading.readers l.depth)) l.rest)
 
 abbrev pub decreases-operators::tests-items : goal.decreases-operators::tests-items
 decreases-operators::tests-items l = length l.rest
 
 abbrev pub invariant-operators::ands-items : goal.invariant-operators::ands-items
-invariant-operators::ands-items l = r.ands (r.readers l.depth) (v.view_expr l.fn.first) l.fn.tokens ≡ before (front t.expr (map v.view_expr l.found.items)) (all_many t.no_exprs t.expr (r.at f.is_and) (r.behind (r.not (r.readers l.depth))) l.rest)
+invariant-operators::ands-items l = reading.ands (reading.readers l.depth) (views.view_expr l.fn.first) l.fn.tokens ≡ before (front tree.expr (map views.view_expr l.found.items)) (all_many tree.no_exprs tree.expr (reading.at token_tests.is_and) (reading.behind (reading.not (reading.readers l.depth))) l.rest)
 
 abbrev pub decreases-operators::ands-items : goal.decreases-operators::ands-items
 decreases-operators::ands-items l = length l.rest
 
 abbrev pub invariant-operators::ors-items : goal.invariant-operators::ors-items
-invariant-operators::ors-items l = r.ors (r.readers l.depth) (v.view_expr l.fn.first) l.fn.tokens ≡ before (front t.expr (map v.view_expr l.found.items)) (all_many t.no_exprs t.expr (r.at f.is_or) (r.behind (r.and (r.readers l.depth))) l.rest)
+invariant-operators::ors-items l = reading.ors (reading.readers l.depth) (views.view_expr l.fn.first) l.fn.tokens ≡ before (front tree.expr (map views.view_expr l.found.items)) (all_many tree.no_exprs tree.expr (reading.at token_tests.is_or) (reading.behind (reading.and (reading.readers l.depth))) l.rest)
 
 abbrev pub decreases-operators::ors-items : goal.decreases-operators::ors-items
 decreases-operators::ors-items l = length l.rest
 
 abbrev pub invariant-lists::exprs-items : goal.invariant-lists::exprs-items
-invariant-lists::exprs-items l = r.exprs (r.readers l.depth) (v.view_expr l.fn.first) l.fn.tokens ≡ before (front t.expr (map v.view_expr l.found.items)) (all_listed t.no_exprs t.no_exprs t.expr f.starts (r.alike (r.readers l.depth).expr) tt l.rest)
+invariant-lists::exprs-items l = reading.exprs (reading.readers l.depth) (views.view_expr l.fn.first) l.fn.tokens ≡ before (front tree.expr (map views.view_expr l.found.items)) (all_listed tree.no_exprs tree.no_exprs tree.expr token_tests.starts (reading.alike (reading.readers l.depth).expr) tt l.rest)
 
 abbrev pub decreases-lists::exprs-items : goal.decreases-lists::exprs-items
 decreases-lists::exprs-items l = length l.rest
 
 abbrev pub invariant-lists::pairs-items : goal.invariant-lists::pairs-items
-invariant-lists::pairs-items l = r.pairs (r.readers l.depth) (v.view_pair l.fn.first) l.fn.tokens ≡ before (front r.with_pair (map v.view_pair l.found.items)) (all_listed t.no_pairs t.no_pairs r.with_pair f.starts (r.alike (r.pair (r.readers l.depth))) tt l.rest)
+invariant-lists::pairs-items l = reading.pairs (reading.readers l.depth) (views.view_pair l.fn.first) l.fn.tokens ≡ before (front reading.with_pair (map views.view_pair l.found.items)) (all_listed tree.no_pairs tree.no_pairs reading.with_pair token_tests.starts (reading.alike (reading.pair (reading.readers l.depth))) tt l.rest)
 
 abbrev pub decreases-lists::pairs-items : goal.decreases-lists::pairs-items
 decreases-lists::pairs-items l = length l.rest
 
 abbrev pub invariant-clauses::parts-items : goal.invariant-clauses::parts-items
-invariant-clauses::parts-items l = r.parts (r.readers l.depth) (v.view_target l.fn.first) l.fn.tokens ≡ before (front t.target (map v.view_target l.found.items)) (all_listed t.no_targets t.no_targets t.target f.starts (r.alike (r.part (r.readers l.depth))) tt l.rest)
+invariant-clauses::parts-items l = reading.parts (reading.readers l.depth) (views.view_target l.fn.first) l.fn.tokens ≡ before (front tree.target (map views.view_target l.found.items)) (all_listed tree.no_targets tree.no_targets tree.target token_tests.starts (reading.alike (reading.part (reading.readers l.depth))) tt l.rest)
 
 abbrev pub decreases-clauses::parts-items : goal.decreases-clauses::parts-items
 decreases-clauses::parts-items l = length l.rest
 
 abbrev pub invariant-trailers::args-items : goal.invariant-trailers::args-items
-invariant-trailers::args-items l = r.args (r.readers l.depth) l.fn.tokens ≡ before (front t.arg (map v.view_arg l.found.items)) (all_listed t.no_args t.no_args t.arg f.starts_arg (r.arg (r.readers l.depth)) l.named l.rest)
+invariant-trailers::args-items l = reading.args (reading.readers l.depth) l.fn.tokens ≡ before (front tree.arg (map views.view_arg l.found.items)) (all_listed tree.no_args tree.no_args tree.arg token_tests.starts_arg (reading.arg (reading.readers l.depth)) l.named l.rest)
 
 abbrev pub decreases-trailers::args-items : goal.decreases-trailers::args-items
 decreases-trailers::args-items l = length l.rest
 
 abbrev pub invariant-parameters::plains-items : goal.invariant-parameters::plains-items
-invariant-parameters::plains-items l = r.plains (r.readers l.depth) l.fn.tokens ≡ before (front r.with_plain (map plain_view l.found.items)) (all_listed (t.no_plain, true) (t.no_plain, false) r.with_plain f.is_name (r.plain (r.readers l.depth)) l.defaults l.rest)
+invariant-parameters::plains-items l = reading.plains (reading.readers l.depth) l.fn.tokens ≡ before (front reading.with_plain (map plain_view l.found.items)) (all_listed (tree.no_plain, true) (tree.no_plain, false) reading.with_plain token_tests.is_name (reading.plain (reading.readers l.depth)) l.defaults l.rest)
 
 abbrev pub decreases-parameters::plains-items : goal.decreases-parameters::plains-items
 decreases-parameters::plains-items l = length l.rest
 
 abbrev pub invariant-operators::chain-levels : goal.invariant-operators::chain-levels
-invariant-operators::chain-levels l = record { within : l.below ≤ l.level; so_far : r.chain (r.readers l.depth) l.below l.fn.tokens ≡ Some (v.view_expr l.operand, l.rest) }
+invariant-operators::chain-levels l = record { within : l.below ≤ l.level; so_far : reading.chain (reading.readers l.depth) l.below l.fn.tokens ≡ Some (views.view_expr l.operand, l.rest) }
 
 abbrev pub decreases-operators::chain-levels : goal.decreases-operators::chain-levels
 decreases-operators::chain-levels l = l.level - l.below

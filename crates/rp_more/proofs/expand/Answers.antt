@@ -1,4 +1,5 @@
 use Rattle.rp_more.proofs.Expanding.{Given, expanded-failed, expanded-now, found-ends, found-held, found-shallow}
+use Rattle.rp_more.proofs.ExpandedWords.{expanded-words}
 use Rattle.rp_more.proofs.Leading.{fault_handed}
 use Rattle.rp_more.proofs.expand.Goals as goal
 
@@ -35,3 +36,13 @@ returns-clause-shallow c =
     let given : Given c.args.names.now c.written_out.new.names c.args.tokens.items c.in_ok-written.written.items found.items =
     record { held = c.requires; grown = c.in_ok-written.ensures.grown; literals = c.in_ok-written.ensures.literals; sets = c.in_ok-written_out.ensures } in
     found-shallow _ _ _ _ _ given
+
+pub returns-clause-words : goal.returns-clause-words
+returns-clause-words c =
+    let old = c.args.names.now in
+    let new = c.written_out.new.names in
+    let written = c.in_ok-written.written.items in
+    let found = c.in_ok-written_out.field-0 in
+    let given : Given old new c.args.tokens.items written found.items =
+    record { held = c.requires; grown = c.in_ok-written.ensures.grown; literals = c.in_ok-written.ensures.literals; sets = c.in_ok-written_out.ensures } in
+    expanded-words old new c.args.tokens.items written found.items given c.in_ok-written.ensures.follows

@@ -1,10 +1,10 @@
 use Rattle.std.proofs.Common.{◌≡◌, ◌+◌, ◌*◌, map}
-use Rattle.rp_tree.specs.Statements as s
-use Rattle.rp_tree.specs.StatementViews as w
+use Rattle.rp_tree.specs.Statements as stmt_tree
+use Rattle.rp_tree.specs.StatementViews as stmt_views
 use Rattle.rp_grammar.proofs.Loops.{front}
 use Rattle.rp_grammar.specs.Statements.{joined}
 use Rattle.rp_parse.specs.Gives.{ahead, block_of, context_of, deep, with_branch}
-use Rattle.rp_grammar.specs.StatementReading as p
+use Rattle.rp_grammar.specs.StatementReading as stmt_reading
 use Rattle.rp_grammar.specs.StatementReading.{block_at}
 use Rattle.rp_parse.proofs.+statements.Given as goal
 
@@ -80,24 +80,24 @@ decreases-blocks::block l = 100 * l.setting.height + 10
 
 abbrev pub invariant-blocks::statements-statements : goal.invariant-blocks::statements-statements
 invariant-blocks::statements-statements l =
-    ahead (joined (w.view_stmts l.fn.found.items)) (p.statements deep l.setting.height (context_of l.setting.context) l.setting.members (block_at deep l.setting.height) l.fn.tokens)
-    ≡ ahead (joined (w.view_stmts l.found.items)) (p.statements_by l.turns deep l.setting.height (context_of l.setting.context) l.setting.members (block_at deep l.setting.height) l.rest)
+    ahead (joined (stmt_views.view_stmts l.fn.found.items)) (stmt_reading.statements deep l.setting.height (context_of l.setting.context) l.setting.members (block_at deep l.setting.height) l.fn.tokens)
+    ≡ ahead (joined (stmt_views.view_stmts l.found.items)) (stmt_reading.statements_by l.turns deep l.setting.height (context_of l.setting.context) l.setting.members (block_at deep l.setting.height) l.rest)
 
 abbrev pub decreases-blocks::statements-statements : goal.decreases-blocks::statements-statements
 decreases-blocks::statements-statements l = l.turns
 
 abbrev pub invariant-compound::elifs-branches : goal.invariant-compound::elifs-branches
 invariant-compound::elifs-branches l =
-    ahead (with_branch (w.view_branch l.fn.first)) (p.elifs deep l.setting.height (block_of l.setting) l.fn.tokens)
-    ≡ ahead (front with_branch (map w.view_branch l.found.items)) (p.elifs_by l.turns deep l.setting.height (block_of l.setting) l.rest)
+    ahead (with_branch (stmt_views.view_branch l.fn.first)) (stmt_reading.elifs deep l.setting.height (block_of l.setting) l.fn.tokens)
+    ≡ ahead (front with_branch (map stmt_views.view_branch l.found.items)) (stmt_reading.elifs_by l.turns deep l.setting.height (block_of l.setting) l.rest)
 
 abbrev pub decreases-compound::elifs-branches : goal.decreases-compound::elifs-branches
 decreases-compound::elifs-branches l = l.turns
 
 abbrev pub invariant-compound::handlers-handlers : goal.invariant-compound::handlers-handlers
 invariant-compound::handlers-handlers l =
-    ahead (s.except (w.view_except l.fn.first)) (p.handlers deep l.setting.height (block_of l.setting) l.fn.handles_all l.fn.tokens)
-    ≡ ahead (front s.except (map w.view_except l.found.items)) (p.handlers_by l.turns deep l.setting.height (block_of l.setting) l.is_last l.rest)
+    ahead (stmt_tree.except (stmt_views.view_except l.fn.first)) (stmt_reading.handlers deep l.setting.height (block_of l.setting) l.fn.handles_all l.fn.tokens)
+    ≡ ahead (front stmt_tree.except (map stmt_views.view_except l.found.items)) (stmt_reading.handlers_by l.turns deep l.setting.height (block_of l.setting) l.is_last l.rest)
 
 abbrev pub decreases-compound::handlers-handlers : goal.decreases-compound::handlers-handlers
 decreases-compound::handlers-handlers l = l.turns

@@ -1,13 +1,18 @@
 use Rattle.std.proofs.Common.{◌≡◌, ◌∙◌, ◌++◌, [], ℕ, List, sym, ap, subst, rules, arith, append_assoc, chars, length, Err, Result}
 use Rattle.std.proofs.lemmas.List.{append-nil, length-drop, nil_from_length}
 use Rattle.std.proofs.lemmas.Str.{IsUtf8-had}
+use Rattle.rp_base.specs.Names.{with_words}
+use Rattle.rp_base.proofs.Words.{with_words-then}
 use Rattle.rp_token.specs.declared.fault.TokenFault.{TokenFault}
 use Rattle.rp_token.specs.Form.{Item}
 use Rattle.rp_token.specs.Laws.{BlocksEnd, EndsOnce, IsWithin, LieInOrder}
 use Rattle.rp_token.specs.Lexer.{Gives, state}
+use Rattle.rp_token.specs.NameWords.{name_words}
+use Rattle.rp_token.specs.WordSteps.{front_words}
 use Rattle.rp_token.specs.Tokens.{ending, step, tokens_from, tokens_of}
 use Rattle.rp_token.proofs.Held.{held_tokens}
 use Rattle.rp_token.proofs.Laws.{Laws, law, laws}
+use Rattle.rp_token.proofs.NameWords.{all_words, step-words}
 use Rattle.rp_token.proofs.Rules.{Gives-fault, err_handed}
 use Rattle.rp_token.proofs.Steps.{step-left, tokens_from-fault, tokens_from-step}
 use Rattle.rp_token.proofs.Texts.{no_chars, not_empty, some_chars}
@@ -35,6 +40,12 @@ steps-preserved c =
           let names = ap (λ ns. ns ++ more) now.1 ∙ append_assoc c.steps.names now.0 more in
           sym (tokens_from-step (state (held ++ more) old) (state (held ++ more) c.step.new.self) some (c.in_ok-step.ensures.goes more))
           ∙ (λ k. tokens_from 0 (state (names k) old) (chars old.rest.now)) ∙ c.steps.invariant.same (now.0 ++ more);
+      words = λ more.
+          let names = ap (λ ns. ns ++ more) now.1 ∙ append_assoc c.steps.names now.0 more in
+          let so_far = c.steps.invariant.words (now.0 ++ more) ∙ (λ k. with_words c.args.names.now (name_words (state (sym names k) old).items)) in
+          let one = step-words (state (held ++ more) old) (state (held ++ more) c.step.new.self) (c.in_ok-step.ensures.goes more) in
+          let words = name_words (state (held ++ more) old).items in
+          with_words-then c.args.names.now c.steps.names held words (front_words (chars old.rest.now)) so_far c.in_ok-step.ensures.words ∙ ap (with_words c.args.names.now) (sym one);
     }
 
 pub returns-in_err-step-clause-tokens : goal.returns-in_err-step-clause-tokens
@@ -59,6 +70,17 @@ returns-clause-tokens c =
     (λ k. tokens_from 0 (state (sym (append-nil c.steps.names) k) old) (sym none k)) ∙ c.steps.invariant.same [] in
     let P = λ (expected : Result (List Item) TokenFault). Gives c.steps.names expected c.finish.result in
     subst P last (c.finish.ensures c.steps.names)
+
+pub returns-clause-words : goal.returns-clause-words
+returns-clause-words c =
+    let old = c.steps.lexer in
+    let empty : length old.rest.now ≡ 0 = search rules in
+    let none = nil_from_length _ (no_chars old.rest.now empty) in
+    let names = append-nil c.steps.names in
+    let last : ending (state c.steps.names old) ≡ tokens_of (chars c.args.text.now) =
+    (λ k. tokens_from 0 (state (sym names k) old) (sym none k)) ∙ c.steps.invariant.same [] in
+    let words = c.steps.invariant.words [] ∙ (λ k. with_words c.args.names.now (name_words (state (names k) old).items)) in
+    all_words c.args.names.now c.steps.names (state c.steps.names old) (chars c.args.text.now) c.finish.result (c.finish.ensures c.steps.names) last words
 
 pub returns-clause-held : goal.returns-clause-held
 returns-clause-held c =

@@ -2,7 +2,7 @@ use Rattle.std.proofs.Common.{◌≡◌, Err, false, true, codes, rules}
 use Rattle.std.specs.Prelude.{is_some}
 use Rattle.std.specs.Str.{chars}
 use Rattle.rp_base.specs.declared.kind.Kind.TheVariants.{TypeError}
-use Rattle.rp_methods.specs.Counts.{counts_of, receiver_of}
+use Rattle.rp_attributes.specs.BuiltIns.{counts_of, receiver_of}
 use Rattle.rp_ops.specs.Outcome.{Raises}
 use Rattle.rp_access.specs.Moment.{state_of}
 use Rattle.rp_access.proofs.FunctionLaws.{method_plain, method_unasked, no_method, uncalled_end}

@@ -9,12 +9,12 @@ pub returns-then-is_none-clause-plain : goal.returns-then-is_none-clause-plain
 returns-then-is_none-clause-plain c =
     let old = c.args.store.now in
     let none : field_at old.heap c.args.at c.args.name ≡ None = sym c.drop_field-dropped.ensures.value ∙ is_none-None _ c.is_none.result c.is_none.ensures c.if-is_none.true in
-    let same = c.drop_field-dropped.ensures.dropped ∙ written-missing c.args.name old c.args.at none in
-    (λ steps. Meets-raised c.no_attribute-then-is_none.result _ old c.drop_field-dropped.new.self steps _ c.no_attribute-then-is_none.ensures same
+    let same = c.no_attribute-then-is_none.ensures.same ∙ c.drop_field-dropped.ensures.dropped ∙ written-missing c.args.name old c.args.at none in
+    (λ steps. Meets-raised c.no_attribute-then-is_none.result _ old c.no_attribute-then-is_none.new.store steps _ c.no_attribute-then-is_none.ensures.raises same
     (del_at-missing c.args.at c.args.name (word_of c.args.names.now c.args.name) (state_of old steps) none))
 
 pub returns-then-is_none-clause-same : goal.returns-then-is_none-clause-same
 returns-then-is_none-clause-same c =
     let old = c.args.store.now in
     let none : field_at old.heap c.args.at c.args.name ≡ None = sym c.drop_field-dropped.ensures.value ∙ is_none-None _ c.is_none.result c.is_none.ensures c.if-is_none.true in
-    c.drop_field-dropped.ensures.dropped ∙ written-missing c.args.name old c.args.at none
+    c.no_attribute-then-is_none.ensures.same ∙ c.drop_field-dropped.ensures.dropped ∙ written-missing c.args.name old c.args.at none

@@ -20,4 +20,5 @@ loop-item-preserved c =
           rw c.in_ok-push.ensures.items
           (Shows-push _ _ _ _ _ _ (rw (step, at) at (same.shown later (GrowsTo-trans _ _ _ c.in_ok-name.ensures.grown grown))) (here later grown));
       grown = GrowsTo-trans _ _ _ same.grown c.in_ok-name.ensures.grown;
+      interned = rw (c.in_ok-name.ensures.interned, c.str_of.ensures) (rw (step, at) at same.interned);
     }

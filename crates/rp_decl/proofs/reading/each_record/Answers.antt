@@ -1,6 +1,7 @@
 use Rattle.std.proofs.Common.{◌≡◌, ◌∷◌, arith}
 use Rattle.std.proofs.lemmas.Grind.{common_steps}
 use Rattle.toml.proofs.Views.{Entry}
+use Rattle.rp_base.proofs.Words.{with_words-append}
 use Rattle.rp_decl.proofs.Documents.{key_texts-ascend}
 use Rattle.rp_decl.proofs.Growth.{GrowsTo-trans, Shows-push}
 use Rattle.rp_decl.proofs.reading.each_record.Goals as goal
@@ -18,6 +19,7 @@ loop-key-preserved g c =
           rw c.in_ok-push.ensures.items
           (Shows-push _ _ _ _ _ _ (rw iter at (same.shown later (GrowsTo-trans _ _ _ c.in_ok-record.ensures.grown grown))) (here later grown));
       grown = GrowsTo-trans _ _ _ same.grown c.in_ok-record.ensures.grown;
+      interned = rw (c.in_ok-record.ensures.interned, c.as_str.ensures.value, with_words-append) (rw iter at same.interned);
     }
 
 pub returns-clause-ordered : goal.returns-clause-ordered

@@ -14,4 +14,5 @@ returns-in_default g c =
       records = λ later grown. rw (c.new.ensures.items, none) refl;
       ordered = rw none AreAscending-nil;
       grown = GrowsTo-refl c.args.names.now;
+      interned = rw none refl;
     }

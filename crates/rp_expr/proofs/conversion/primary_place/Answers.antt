@@ -1,6 +1,6 @@
 use Rattle.std.proofs.Common.{Option, subst, sym, ap, ◌∙◌}
-use Rattle.rp_tree.specs.Expressions as t
-use Rattle.rp_tree.specs.ExpressionViews as v
+use Rattle.rp_tree.specs.Expressions as tree
+use Rattle.rp_tree.specs.ExpressionViews as views
 use Rattle.rp_grammar.specs.Conversion.{trailed_place}
 use Rattle.rp_expr.specs.Gives.{Gives}
 use Rattle.rp_grammar.proofs.Basics.{some_is}
@@ -11,5 +11,5 @@ pub returns-in_ok-with_trailers-in-Some : goal.returns-in_ok-with_trailers-in-So
 returns-in_ok-with_trailers-in-Some c line =
     let last = c.in-Some.last in
     let kept = some_is c.in_ok-with_trailers-in-Some.ensures in
-    subst (λ (o : Option t.Place). Gives v.view_place c.trailed_place.result o)
-    (ap (λ (e : t.Expr). trailed_place e (v.view_trailer last)) (sym kept) ∙ last_place line (v.view_expr c.args.atom) c.args.trailers.items c.pop.new.self.items last c.in-Some.ensures.items) c.trailed_place.ensures
+    subst (λ (o : Option tree.Place). Gives views.view_place c.trailed_place.result o)
+    (ap (λ (e : tree.Expr). trailed_place e (views.view_trailer last)) (sym kept) ∙ last_place line (views.view_expr c.args.atom) c.args.trailers.items c.pop.new.self.items last c.in-Some.ensures.items) c.trailed_place.ensures

@@ -6,6 +6,7 @@ use Rattle.rp_more.specs.LiteralSteps.{comma_before, in_place, items_of}
 use Rattle.rp_more.specs.PieceSteps.{piece_seen}
 use Rattle.rp_more.proofs.Growth.{grown-at, grown-on}
 use Rattle.rp_more.proofs.Leading.{Leads-fault, fault_handed}
+use Rattle.rp_more.proofs.NameWords.{Follow-then}
 use Rattle.rp_more.proofs.literals.add_elements.Goals as goal
 
 pub returns-in_err-add_element-clause-leads : goal.returns-in_err-add_element-clause-leads
@@ -46,6 +47,7 @@ loop-piece-preserved c =
     ap (map piece_seen) (drop_more ps i c.piece-item.result within ∙ (λ k. sym c.piece-item.is k ∷ drop (i + 1) ps)) in
     record {
       grown = grown-on _ _ _ at.invariant.grown g;
+      follows = Follow-then c.args.names.now at.names c.add_element.new.names c.args.written.now.items at.written.items c.add_element.new.written.items g at.invariant.follows c.in_ok-add_element.ensures.follows;
       same = λ more.
           let names = c.add_element.new.names ++ more in
           grown-at at.names c.add_element.new.names more P g at.invariant.same

@@ -1,4 +1,5 @@
-use Rattle.std.proofs.Common.{◌≡◌, ◌∙◌, ◌++◌, [], List, ℕ, sym, subst, map, Some, Ok, Err}
+use Rattle.std.proofs.Common.{◌≡◌, ◌∙◌, ◌++◌, ◌∷◌, [], List, ℕ, codes, refl, sym, subst, map, Some, Ok, Err}
+use Rattle.rp_token.specs.Form.{mark}
 use Rattle.rp_token.specs.View.{form_view, item_view}
 use Rattle.rp_more.specs.declared.fault.MoreFault.{MoreFault}
 use Rattle.rp_more.specs.declared.pieces.Piece.{Piece}
@@ -9,6 +10,7 @@ use Rattle.rp_more.specs.Pieces.{pieces_of}
 use Rattle.rp_more.specs.PieceSteps.{piece_seen}
 use Rattle.rp_more.proofs.Growth.{grown-at}
 use Rattle.rp_more.proofs.Leading.{Leads-fault, at_place, fault_handed, join-done, join-failed}
+use Rattle.rp_more.proofs.NameWords.{Follow-on, Follow-then, Follow-words}
 use Rattle.rp_more.proofs.literals.add_literal.Goals as goal
 
 pub returns-in_err-add_elements-clause-leads : goal.returns-in_err-add_elements-clause-leads
@@ -46,3 +48,13 @@ returns-clause-leads c = λ more.
     (λ k. with_front w (in_place (sym c.of-place.ensures k) (literal_forms text)))
     ∙ join-done place w (items_of names c.begin_call.new.written.items) (items_of names c.add_elements.new.written.items) (items_of names c.end_call.new.written.items) text ps found begun leads
     (c.in_ok-end_call.ensures names)
+
+pub returns-clause-follows : goal.returns-clause-follows
+returns-clause-follows c =
+    let new = c.add_elements.new.names in
+    let end = Follow-words c.of-place.result (mark (codes "]") ∷ mark (codes ")") ∷ []) [] new new c.add_elements.new.written.items c.end_call.new.written.items (λ more. c.in_ok-end_call.ensures (new ++ more)) refl refl in
+    let before = c.args.written.now.items in
+    let begun = c.begin_call.new.written.items in
+    let ended = c.end_call.new.written.items in
+    Follow-then c.args.names.now c.begin_call.new.names new before begun ended c.in_ok-add_elements.ensures.grown c.in_ok-begin_call.ensures.follows
+    (Follow-on c.begin_call.new.names new begun c.add_elements.new.written.items ended c.in_ok-add_elements.ensures.follows end)

@@ -1,7 +1,8 @@
-use Rattle.std.proofs.Common.{◌≡◌, ◌∙◌, ◌++◌, false, sym, ap}
+use Rattle.std.proofs.Common.{◌∙◌, ◌++◌, false, sym, ap}
 use Rattle.std.specs.List.{list_any}
 use Rattle.rp_more.specs.Literals.{is_prefix}
 use Rattle.rp_more.specs.LiteralSteps.{items_of}
+use Rattle.rp_more.proofs.NameWords.{Follow-all}
 use Rattle.rp_more.proofs.Untouched.{no_literals}
 use Rattle.rp_more.proofs.literals.written_out.Goals as goal
 
@@ -13,3 +14,6 @@ returns-then-not-has_prefix-clause-literals c = λ more.
 
 pub returns-clause-literals : goal.returns-clause-literals
 returns-clause-literals c = rw c.as_slice-2.ensures.value at c.each_written_out.ensures.literals
+
+pub returns-then-not-has_prefix-clause-follows : goal.returns-then-not-has_prefix-clause-follows
+returns-then-not-has_prefix-clause-follows c = Follow-all c.args.names.now c.args.tokens.items c.requires

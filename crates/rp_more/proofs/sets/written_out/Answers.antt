@@ -1,4 +1,4 @@
-use Rattle.std.proofs.Common.{◌≡◌, ◌∙◌, sym, ap}
+use Rattle.std.proofs.Common.{◌∙◌, sym, ap}
 use Rattle.std.specs.List.{list_any}
 use Rattle.rp_more.specs.KindSteps.{is_left_brace}
 use Rattle.rp_more.proofs.Untouched.{no_sets-tokens}

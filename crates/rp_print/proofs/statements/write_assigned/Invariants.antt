@@ -1,10 +1,10 @@
 use Rattle.std.proofs.Common.{◌≡◌, map, drop}
 use Rattle.rp_base.specs.Names.{word_of}
-use Rattle.rp_tree.specs.ExpressionViews as v
+use Rattle.rp_tree.specs.ExpressionViews as views
 use Rattle.rp_print.specs.LineSteps as step
 use Rattle.rp_print.proofs.statements.write_assigned.Given as goal
 
 abbrev pub invariant-places : goal.invariant-places
 invariant-places l =
-    step.put_assigned (word_of l.names) (map v.view_place (drop l.place-index l.places)) l.page
-    ≡ step.put_assigned (word_of l.names) (map v.view_place l.places) l.initial.page
+    step.put_assigned (word_of l.names) (map views.view_place (drop l.place-index l.places)) l.page
+    ≡ step.put_assigned (word_of l.names) (map views.view_place l.places) l.initial.page

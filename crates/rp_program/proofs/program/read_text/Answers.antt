@@ -1,8 +1,15 @@
-use Rattle.std.proofs.Common.{subst}
+use Rattle.std.proofs.Common.{◌≡◌, ◌∙◌, chars, map, subst, sym, Ok}
 use Rattle.std.proofs.lemmas.Result.{err_from_is_err_and}
+use Rattle.rp_base.specs.Names.{with_words}
+use Rattle.rp_base.proofs.Words.{with_words-then}
+use Rattle.rp_token.specs.NameWords.{name_words, words_of}
+use Rattle.rp_token.specs.Tokens.{tokens_of}
+use Rattle.rp_token.specs.View.{item_view}
+use Rattle.rp_more.specs.Expanded.{expanded}
 use Rattle.rp_grammar.specs.Leaves.{HasLeavesOf}
 use Rattle.rp_grammar.specs.Program.{Spells}
 use Rattle.rp_tree.specs.StatementViews.{view_tree}
+use Rattle.rp_program.specs.ProgramWords.{item_words}
 use Rattle.rp_program.proofs.Leaves.{tree_held, tree_unnumbered}
 use Rattle.rp_program.proofs.Programs.{is_read, no_fault, one_program, read_program, refused_by_parse}
 use Rattle.rp_program.proofs.program.read_text.Goals as goal
@@ -71,3 +78,14 @@ returns-clause-held c =
 
 pub returns-clause-unnumbered : goal.returns-clause-unnumbered
 returns-clause-unnumbered c = tree_unnumbered c.as_slice.result.now (view_tree c.in_ok-parse.field-0) c.in_ok-parse.ensures.leaves
+
+pub returns-clause-words : goal.returns-clause-words
+returns-clause-words c =
+    let n0 = c.args.names.now in
+    let n1 = c.tokens.new.names in
+    let n2 = c.expand.new.names in
+    let items = map (item_view n1) c.in_ok-given.given.items in
+    let read : tokens_of (chars c.args.text.now) ≡ Ok items = c.in_ok-given.ensures.tokens in
+    let given : n1 ≡ with_words n0 (name_words items) = c.in_ok-given.ensures.words ∙ (λ k. with_words n0 (words_of (read k))) in
+    let more : n2 ≡ with_words n1 (words_of (expanded items)) = c.in_ok-expanded.ensures.words in
+    with_words-then n0 n1 n2 (name_words items) (words_of (expanded items)) given more ∙ (λ k. with_words n0 (item_words (sym read k)))

@@ -1,11 +1,14 @@
 use Rattle.std.proofs.lemmas.Result.{err_from_is_err_and}
 use Rattle.std.proofs.Common.{◌≡◌, ◌∙◌, ◌+◌, ℕ, List, Err, None, Option, Some, ap, inr, sym, subst}
+use Rattle.rp_base.specs.Names.{with_words}
 use Rattle.rp_decl.specs.Records.{Declarations}
 use Rattle.rp_decl.specs.View.{declarations_view}
 use Rattle.rp_load.specs.Load.{fault_of}
+use Rattle.rp_program.specs.ProgramWords.{program_words}
 use Rattle.rp_proxy.proofs.LaterRecords.{declarations-later}
 use Rattle.rp_run.proofs.Later.{IsReadInto-later}
-use Rattle.rp_run.proofs.Sayings.{Admits, TellsRun, admits, admitted_run, begins_named, forms_status, lacking_run, long_run, long_status, refused_always, refused_run, script_status, stop_of, tells_admitted, tells_session, unadmitted_run, unfailed_so, unread_run}
+use Rattle.rp_run.proofs.Sayings.{Admits, TellsRun, admits, admitted_run, begins_named, long_run, long_status, refused_always, refused_run, script_status, stop_of, tells_admitted, tells_played, unadmitted_run, unfailed_so, unread_run}
+use Rattle.rp_run.specs.Told.{run_names}
 use Rattle.rp_run.specs.Refusals.{IsWhole, OnRefusal, RefusesLong}
 use Rattle.rp_run.specs.View.{run_view}
 use Rattle.rp_run.proofs.playing.answer_run.Goals as goal
@@ -63,32 +66,18 @@ returns-in_err-script-clause-status g c =
     let p = err_from_is_err_and c.from_residual-in_err-script.result c.from_residual-in_err-script.ensures.1 in
     rw (p.1, p.2) (script_status _ _ c.in_err-script.ensures.refused)
 
-pub returns-in_err-forms-clause-told : goal.returns-in_err-forms-clause-told
-returns-in_err-forms-clause-told g c =
-    let r = run_view c.args.command.now in
-    let d = declarations_view c.read_declarations.new.names c.in_ok-decl.decl in
-    let admitted = admits r d _ _ c.as_slice.ensures.value c.in_ok-decl.ensures.told c.in_ok-interaction.ensures.runs c.in_ok-interaction.ensures.known in
-    let whole = rw c.in_ok-decl.ensures.contents at c.in_ok-bytes.ensures.told in
-    let p = err_from_is_err_and c.from_residual-in_err-forms.result c.from_residual-in_err-forms.ensures.1 in
-    rw (p.1, p.2) (lacking_run r d _ _ _ _ _ admitted whole c.as_slice-2.ensures.value c.in_ok-script.ensures.program c.in_ok-script.ensures.lawful c.in_err-forms.ensures.refused)
-
-pub returns-in_err-forms-clause-status : goal.returns-in_err-forms-clause-status
-returns-in_err-forms-clause-status g c =
-    let p = err_from_is_err_and c.from_residual-in_err-forms.result c.from_residual-in_err-forms.ensures.1 in
-    rw (p.1, p.2) (forms_status _ _ c.in_err-forms.ensures.refused)
-
-pub play-requires : goal.play-requires
-play-requires g c =
+pub run_script-requires : goal.run_script-requires
+run_script-requires g c =
     let grown = c.in_ok-script.ensures.names in
     let well = c.in_ok-decl.ensures.well in
     let later = IsReadInto-later c.read_declarations.new.names c.read_script.new.names grown c.in_ok-decl.decl well in
     let same = declarations-later c.read_declarations.new.names c.read_script.new.names grown c.in_ok-decl.decl well.held in
     record {
       well = later;
-      grants = c.in_ok-interaction.ensures.answers c.read_script.new.names later.ordered;
+      grants = c.in_ok-interaction.ensures.answers;
       ids = c.in_ok-interaction.ensures.ids ∙ c.as_slice.ensures.value;
       runs = subst (λ (d : Declarations). fault_of d ≡ None) (sym same) c.in_ok-interaction.ensures.runs;
-      held = c.in_ok-forms.ensures.held;
+      held = c.in_ok-script.ensures.held;
     }
 
 pub returns-clause-told : goal.returns-clause-told
@@ -96,13 +85,15 @@ returns-clause-told g c =
     let r = run_view c.args.command.now in
     let names = c.read_declarations.new.names in
     let d = declarations_view names c.in_ok-decl.decl in
-    let said = c.in_ok-play.ensures in
     let same = declarations-later names c.read_script.new.names c.in_ok-script.ensures.names c.in_ok-decl.decl c.in_ok-decl.ensures.well.held in
     let admitted = admits r d _ _ c.as_slice.ensures.value c.in_ok-decl.ensures.told c.in_ok-interaction.ensures.runs c.in_ok-interaction.ensures.known in
     let whole = rw c.in_ok-decl.ensures.contents at c.in_ok-bytes.ensures.told in
+    let are : c.read_script.new.names ≡ run_names d c.in_ok-bytes.bytes.items =
+    c.in_ok-script.ensures.words ∙ ap (λ bytes. with_words names (program_words bytes)) c.as_slice-2.ensures.value
+    ∙ ap (λ first. with_words first (program_words c.in_ok-bytes.bytes.items)) c.in_ok-decl.ensures.words in
     tells_admitted r d _ _ _ admitted
-    (tells_session r d c.in_ok-bytes.bytes.items _ (rw c.as_slice-2.ensures.value at c.in_ok-script.ensures.program) c.in_ok-script.ensures.lawful
-    (declarations_view c.read_script.new.names c.in_ok-decl.decl) _ _ c.read_script.new.names c.in_ok-forms.forms _ same whole c.in_ok-forms.ensures.rewritten said.text said.status)
+    (tells_played r d (declarations_view c.read_script.new.names c.in_ok-decl.decl) c.in_ok-bytes.bytes.items c.read_script.new.names _ _ _ _
+    (rw c.as_slice-2.ensures.value at c.in_ok-script.ensures.program) c.in_ok-script.ensures.lawful same are whole c.in_ok-run_script.ensures.told)
 
 pub returns-in_err-decl-clause-status : goal.returns-in_err-decl-clause-status
 returns-in_err-decl-clause-status g c =
@@ -153,18 +144,3 @@ pub returns-in_err-script-clause-cause : goal.returns-in_err-script-clause-cause
 returns-in_err-script-clause-cause g c =
     let p = err_from_is_err_and c.from_residual-in_err-script.result c.from_residual-in_err-script.ensures.1 in
     λ failed. unfailed_so _ _ c.in_err-script.ensures.unfailed (rw (p.1, p.2) at failed)
-
-pub returns-in_err-forms-clause-sound : goal.returns-in_err-forms-clause-sound
-returns-in_err-forms-clause-sound g c =
-    let p = err_from_is_err_and c.from_residual-in_err-forms.result c.from_residual-in_err-forms.ensures.1 in
-    rw (p.1, p.2) (refused_always _ _ c.in_ok-bytes.ensures.sound)
-
-pub returns-in_err-forms-clause-failed : goal.returns-in_err-forms-clause-failed
-returns-in_err-forms-clause-failed g c =
-    let p = err_from_is_err_and c.from_residual-in_err-forms.result c.from_residual-in_err-forms.ensures.1 in
-    λ failed. unfailed_so _ _ c.in_err-forms.ensures.unfailed (rw (p.1, p.2) at failed)
-
-pub returns-in_err-forms-clause-cause : goal.returns-in_err-forms-clause-cause
-returns-in_err-forms-clause-cause g c =
-    let p = err_from_is_err_and c.from_residual-in_err-forms.result c.from_residual-in_err-forms.ensures.1 in
-    λ failed. unfailed_so _ _ c.in_err-forms.ensures.unfailed (rw (p.1, p.2) at failed)

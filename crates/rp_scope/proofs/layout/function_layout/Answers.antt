@@ -1,9 +1,9 @@
 use Rattle.std.proofs.Common.{◌≡◌, ◌++◌, ap, ◌∙◌, subst, arith, rules}
 use Rattle.std.specs.Prelude.{IfOk}
 use Rattle.std.proofs.lemmas.Grind.{common_steps}
-use Rattle.rp_tree.specs.ExpressionViews as e
-use Rattle.rp_tree.specs.StatementViews as v
-use Rattle.rp_scope.specs.Bindings as b
+use Rattle.rp_tree.specs.ExpressionViews as views
+use Rattle.rp_tree.specs.StatementViews as stmt_views
+use Rattle.rp_scope.specs.Bindings as bindings
 use Rattle.rp_scope.specs.Bindings.{all_bound}
 use Rattle.rp_scope.specs.MentionSteps.{own, block_of}
 use Rattle.rp_scope.specs.Scopes.{scope_in}
@@ -12,5 +12,5 @@ use Rattle.rp_scope.proofs.layout.function_layout.Goals as goal
 
 pub returns : goal.returns
 returns c =
-    let said : c.deref.result.now ≡ own (all_bound (b.params_names (e.view_params c.args.params.now))) ++ own (b.stmts_mentions (v.view_stmts c.args.body.now)) = first_of (search rules, grind arith, grind (arith, common_steps)) in
-    subst (λ block. IfOk c.layout_of.result (λ made. made ≡ scope_in c.args.around block)) (ap block_of said ∙ block_of_function (b.params_names (e.view_params c.args.params.now)) (b.stmts_mentions (v.view_stmts c.args.body.now))) c.layout_of.ensures
+    let said : c.deref.result.now ≡ own (all_bound (bindings.params_names (views.view_params c.args.params.now))) ++ own (bindings.stmts_mentions (stmt_views.view_stmts c.args.body.now)) = first_of (search rules, grind arith, grind (arith, common_steps)) in
+    subst (λ block. IfOk c.layout_of.result (λ made. made ≡ scope_in c.args.around block)) (ap block_of said ∙ block_of_function (bindings.params_names (views.view_params c.args.params.now)) (bindings.stmts_mentions (stmt_views.view_stmts c.args.body.now))) c.layout_of.ensures

@@ -1,8 +1,11 @@
-use Rattle.std.proofs.Common.{◌∙◌}
+use Rattle.std.proofs.Common.{◌∙◌, ap, sym}
 use Rattle.toml.specs.View.{members_view}
+use Rattle.rp_base.specs.Names.{with_words}
+use Rattle.rp_decl.specs.DeclaredWords.{declared_words}
 use Rattle.rp_decl.specs.Document.{records_of}
 use Rattle.rp_decl.specs.View.{Placed}
 use Rattle.rp_decl.proofs.Growth.{GrowsTo-refl, GrowsTo-trans}
+use Rattle.rp_decl.proofs.Interned.{declared-interned}
 use Rattle.rp_decl.proofs.Placed.{IsShown, shown-closed, shown-held, shown-ordered, shown-view}
 use Rattle.rp_decl.proofs.decl.Decl.read.Goals as goal
 use Rattle.rp_decl.proofs.decl.Decl.read.Goals.{After-into_permissions-permissions}
@@ -64,3 +67,11 @@ returns-clause-ordered c =
       principals = c.in_ok-principals.ensures.ordered;
       objects = c.in_ok-objects.ensures.ordered;
     })
+
+pub returns-clause-words : goal.returns-clause-words
+unfolding placed
+returns-clause-words c =
+    let d = records_of (members_view c.args.document.now.entries) in
+    declared-interned d c.args.names.now _ _ _ _ _ _ c.in_ok-expose.ensures.interned c.in_ok-classes.ensures.interned c.in_ok-roles.ensures.interned c.in_ok-groups.ensures.interned
+    c.in_ok-principals.ensures.interned c.in_ok-objects.ensures.interned
+    ∙ ap (λ said. with_words c.args.names.now (declared_words said)) (sym (returns-clause-declared c))

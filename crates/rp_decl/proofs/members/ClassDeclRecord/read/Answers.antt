@@ -1,7 +1,8 @@
 use Rattle.std.proofs.Common.{codes, refl}
 use Rattle.toml.specs.View.{view}
-use Rattle.rp_decl.specs.Document.{members_of, row_of}
+use Rattle.rp_decl.specs.Document.{class_of, members_of, row_of}
 use Rattle.rp_decl.proofs.Growth.{GrowsTo-trans}
+use Rattle.rp_decl.proofs.Interned.{class-interned}
 use Rattle.rp_decl.proofs.Shown.{keys-at, like-shown, rows-shown}
 use Rattle.rp_decl.proofs.members.ClassDeclRecord.read.Goals as goal
 
@@ -25,3 +26,7 @@ returns-clause-record_read c later grown =
         set = rw (keys-at (λ row. row.0) row_of (λ k d. refl) (codes "set") ms) c.in_ok-set.ensures.ordered;
       };
     }
+
+pub returns-clause-interned : goal.returns-clause-interned
+returns-clause-interned c =
+    class-interned (class_of c.args.key.now (view c.args.value.now)) c.args.names.now _ _ _ _ c.in_ok-get.ensures.interned c.in_ok-set.ensures.interned c.in_ok-like.ensures.interned c.in_ok-name.ensures.interned

@@ -7,6 +7,7 @@ use Rattle.rp_more.specs.Literals.{begins, literal_items, literals, with_front}
 use Rattle.rp_more.proofs.Fronts.{Leads-failed, Leads-joined, kept-left}
 use Rattle.rp_more.proofs.KindForms.{form-ends_operand}
 use Rattle.rp_more.proofs.Leading.{Leads-fault, fault_handed}
+use Rattle.rp_more.proofs.NameWords.{Follow-held, Follow-refl}
 use Rattle.rp_more.proofs.literals.Literals.take.Goals as goal
 
 pub returns-then-self-clause-leads : goal.returns-then-self-clause-leads
@@ -45,3 +46,9 @@ returns-clause-leads c = λ more.
     kept-left (items_of ns old.written.items) (items_of ns c.keep.new.self.written.items) old.operand old.inside c.ends_operand-self.result c.keep.new.self.inside t ts (search rules) other
     (ap (items_of ns) c.in_ok-keep.ensures.items ∙ map-append (item_view ns) old.written.items (c.args.token.now ∷ [])) (c.ends_operand-self.ensures ∙ sym (form-ends_operand ns c.args.token.now.kind))
     (c.in_ok-keep.ensures.inside ∙ search rules)
+
+pub returns-then-begins-clause-follows : goal.returns-then-begins-clause-follows
+returns-then-begins-clause-follows c = Follow-refl c.args.names.now c.args.self.now.written.items
+
+pub returns-clause-follows : goal.returns-clause-follows
+returns-clause-follows c = Follow-held c.args.names.now c.args.self.now.written.items c.keep.new.self.written.items c.args.token.now c.requires c.in_ok-keep.ensures.items

@@ -41,3 +41,18 @@ returns-in-Items-clause-law c = rw (c.in-Items.is) c.after_item.ensures.law
 
 pub returns-in-Argument-clause-law : goal.returns-in-Argument-clause-law
 returns-in-Argument-clause-law c = rw (c.in-Argument.is) c.after_argument.ensures.law
+
+pub returns-in-SliceFrom-clause-law : goal.returns-in-SliceFrom-clause-law
+returns-in-SliceFrom-clause-law c = rw (c.in-SliceFrom.is) c.after_from.ensures.law
+
+pub returns-in-SliceTo-clause-law : goal.returns-in-SliceTo-clause-law
+returns-in-SliceTo-clause-law c = rw (c.in-SliceTo.is) c.after_to.ensures.law
+
+pub returns-in-SliceStep-clause-law : goal.returns-in-SliceStep-clause-law
+returns-in-SliceStep-clause-law c = rw (c.in-SliceStep.is) c.after_stride.ensures.law
+
+pub returns-in-DictKey-clause-law : goal.returns-in-DictKey-clause-law
+returns-in-DictKey-clause-law c = rw (c.in-DictKey.is) c.after_dict_key.ensures.law
+
+pub returns-in-DictValue-clause-law : goal.returns-in-DictValue-clause-law
+returns-in-DictValue-clause-law c = rw (c.in-DictValue.is) c.after_dict_value.ensures.law

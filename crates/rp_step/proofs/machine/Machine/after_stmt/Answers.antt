@@ -2,9 +2,12 @@ use Rattle.std.proofs.Common.{ap}
 use Rattle.rp_meaning.specs.State.{next}
 use Rattle.rp_meaning.specs.Statements as forms
 use Rattle.rp_ops.specs.Outcome.{gives}
+use Rattle.rp_proxy.specs.declared.world.World.{World}
 use Rattle.rp_step.proofs.Doings.{held_as, held_by}
+use Rattle.rp_step.proofs.Moves.{on_ok}
 use Rattle.rp_step.specs.Does as does
-use Rattle.rp_step.specs.Law.{frame_in}
+use Rattle.rp_step.specs.Law.{Executes, frame_in}
+use Rattle.rp_step.specs.Raising.{raised_value}
 use Rattle.rp_access.specs.Moment.{state_of}
 use Rattle.rp_step.specs.Rest.{after_stmt, asserted, did, failed_with, tested_turn}
 use Rattle.rp_frame.specs.declared.task.StmtTask.TheVariants as stmt
@@ -121,3 +124,62 @@ returns-in-For-clause-law c =
     held_as m c.walk_over.new.self c.walk_over.new.world c.walk_over.result (λ base. after_stmt c.args.task (frame_in base m) m.values (gives c.args.value (state_of w)))
     (λ base. after_stmt (stmt.For c.in-For.each) (frame_in base m) m.values (gives c.args.value (state_of w)))
     (λ base. ap (λ t. after_stmt t (frame_in base m) m.values (gives c.args.value (state_of w))) c.in-For.is) c.walk_over.ensures.law
+
+pub returns-in-Raise-clause-law : goal.returns-in-Raise-clause-law
+returns-in-Raise-clause-law c =
+    let m = c.args.self.now in
+    let w = c.args.world.now in
+    let n = c.raised.new.self in
+    let D = raised_value c.args.value in
+    held_as m n w c.raised.result (λ base. after_stmt c.args.task (frame_in base m) m.values (gives c.args.value (state_of w)))
+    (λ base. did (frame_in base m) m.values (D (frame_in base m) (state_of w)))
+    (λ base. ap (λ t. after_stmt t (frame_in base m) m.values (gives c.args.value (state_of w))) c.in-Raise.is)
+    (on_ok c.raised.result ((u : World) → Executes D m u n u) (Executes D m w n w) (λ law. law w) c.raised.ensures.law)
+
+pub returns-in-Unpack-clause-law : goal.returns-in-Unpack-clause-law
+returns-in-Unpack-clause-law c =
+    let m = c.args.self.now in
+    let w = c.args.world.now in
+    held_as m c.store_target.new.self c.store_target.new.world c.store_target.result (λ base. after_stmt c.args.task (frame_in base m) m.values (gives c.args.value (state_of w)))
+    (λ base. did (frame_in base m) m.values (does.target c.in-Unpack.target.now c.args.value (frame_in base m) (state_of w)))
+    (λ base. ap (λ t. after_stmt t (frame_in base m) m.values (gives c.args.value (state_of w))) c.in-Unpack.is) c.store_target.ensures.law
+
+pub returns-in-AugmentAttr-clause-law : goal.returns-in-AugmentAttr-clause-law
+returns-in-AugmentAttr-clause-law c =
+    let m = c.args.self.now in
+    let w = c.args.world.now in
+    held_as m c.augment_read.new.self c.augment_read.new.world c.augment_read.result (λ base. after_stmt c.args.task (frame_in base m) m.values (gives c.args.value (state_of w)))
+    (λ base. after_stmt (stmt.AugmentAttr c.in-AugmentAttr.name c.in-AugmentAttr.op c.in-AugmentAttr.x) (frame_in base m) m.values (gives c.args.value (state_of w)))
+    (λ base. ap (λ t. after_stmt t (frame_in base m) m.values (gives c.args.value (state_of w))) c.in-AugmentAttr.is) c.augment_read.ensures.law
+
+pub returns-in-AugmentedAttr-clause-law : goal.returns-in-AugmentedAttr-clause-law
+returns-in-AugmentedAttr-clause-law c =
+    let m = c.args.self.now in
+    let w = c.args.world.now in
+    held_as m c.after_attribute.new.self c.after_attribute.new.world c.after_attribute.result (λ base. after_stmt c.args.task (frame_in base m) m.values (gives c.args.value (state_of w)))
+    (λ base. after_stmt (stmt.AugmentedAttr c.in-AugmentedAttr.name c.in-AugmentedAttr.op) (frame_in base m) m.values (gives c.args.value (state_of w)))
+    (λ base. ap (λ t. after_stmt t (frame_in base m) m.values (gives c.args.value (state_of w))) c.in-AugmentedAttr.is) c.after_attribute.ensures.law
+
+pub returns-in-AugmentItem-clause-law : goal.returns-in-AugmentItem-clause-law
+returns-in-AugmentItem-clause-law c =
+    let m = c.args.self.now in
+    let w = c.args.world.now in
+    held_as m c.augment_key.new.self c.augment_key.new.world c.augment_key.result (λ base. after_stmt c.args.task (frame_in base m) m.values (gives c.args.value (state_of w)))
+    (λ base. after_stmt (stmt.AugmentItem c.in-AugmentItem.key c.in-AugmentItem.op c.in-AugmentItem.x) (frame_in base m) m.values (gives c.args.value (state_of w)))
+    (λ base. ap (λ t. after_stmt t (frame_in base m) m.values (gives c.args.value (state_of w))) c.in-AugmentItem.is) c.augment_key.ensures.law
+
+pub returns-in-AugmentKey-clause-law : goal.returns-in-AugmentKey-clause-law
+returns-in-AugmentKey-clause-law c =
+    let m = c.args.self.now in
+    let w = c.args.world.now in
+    held_as m c.after_augmented_key.new.self c.after_augmented_key.new.world c.after_augmented_key.result (λ base. after_stmt c.args.task (frame_in base m) m.values (gives c.args.value (state_of w)))
+    (λ base. after_stmt (stmt.AugmentKey c.in-AugmentKey.op c.in-AugmentKey.x) (frame_in base m) m.values (gives c.args.value (state_of w)))
+    (λ base. ap (λ t. after_stmt t (frame_in base m) m.values (gives c.args.value (state_of w))) c.in-AugmentKey.is) c.after_augmented_key.ensures.law
+
+pub returns-in-AugmentedItem-clause-law : goal.returns-in-AugmentedItem-clause-law
+returns-in-AugmentedItem-clause-law c =
+    let m = c.args.self.now in
+    let w = c.args.world.now in
+    held_as m c.after_augmented_item.new.self c.after_augmented_item.new.world c.after_augmented_item.result (λ base. after_stmt c.args.task (frame_in base m) m.values (gives c.args.value (state_of w)))
+    (λ base. after_stmt (stmt.AugmentedItem c.in-AugmentedItem.op) (frame_in base m) m.values (gives c.args.value (state_of w)))
+    (λ base. ap (λ t. after_stmt t (frame_in base m) m.values (gives c.args.value (state_of w))) c.in-AugmentedItem.is) c.after_augmented_item.ensures.law

@@ -1,5 +1,6 @@
 use Rattle.std.proofs.Common.{ap}
 use Rattle.rp_frame.specs.Top.{below}
+use Rattle.rp_frame.specs.declared.task.FlowTask.TheVariants as flow
 use Rattle.rp_meaning.specs.State.{broke, next}
 use Rattle.rp_ops.specs.Outcome.{gives}
 use Rattle.rp_step.proofs.Doings.{held_any}
@@ -41,3 +42,10 @@ returns-in-For-clause-law c =
     held_any m c.go_without-in-For.new.self c.go_without-in-For.result (λ base s. after_flow c.args.task (frame_in base m) m.values (gives broke s))
     (λ base s. did (frame_in base m) (below m.values) (gives next s))
     (λ base s. ap (λ t. after_flow t (frame_in base m) m.values (gives broke s)) c.in-For.is) c.go_without-in-For.ensures.law
+
+pub returns-in-StoreEach-clause-law : goal.returns-in-StoreEach-clause-law
+returns-in-StoreEach-clause-law c =
+    let m = c.args.self.now in
+    held_any m c.go_less.new.self c.go_less.result (λ base s. after_flow c.args.task (frame_in base m) m.values (gives broke s))
+    (λ base s. after_flow (flow.StoreEach c.in-StoreEach.targets) (frame_in base m) m.values (gives broke s))
+    (λ base s. ap (λ t. after_flow t (frame_in base m) m.values (gives broke s)) c.in-StoreEach.is) c.go_less.ensures.law

@@ -52,3 +52,11 @@ returns-in-For-clause-law c =
     held_as m c.walk_on.new.self c.walk_on.new.world c.walk_on.result (λ base. after_flow c.args.task (frame_in base m) m.values (gives next (state_of w)))
     (λ base. after_flow (flow.For c.in-For.turns c.in-For.spot c.in-For.each) (frame_in base m) m.values (gives next (state_of w)))
     (λ base. ap (λ t. after_flow t (frame_in base m) m.values (gives next (state_of w))) c.in-For.is) c.walk_on.ensures.law
+
+pub returns-in-StoreEach-clause-law : goal.returns-in-StoreEach-clause-law
+returns-in-StoreEach-clause-law c =
+    let m = c.args.self.now in
+    let w = c.args.world.now in
+    held_as m c.store_each.new.self c.store_each.new.world c.store_each.result (λ base. after_flow c.args.task (frame_in base m) m.values (gives next (state_of w)))
+    (λ base. after_flow (flow.StoreEach c.in-StoreEach.targets) (frame_in base m) m.values (gives next (state_of w)))
+    (λ base. ap (λ t. after_flow t (frame_in base m) m.values (gives next (state_of w))) c.in-StoreEach.is) c.store_each.ensures.law

@@ -1,5 +1,5 @@
 use Rattle.std.proofs.Common.{sym}
-use Rattle.rp_step.proofs.FormEquations.{form_and, form_compare, form_list, form_or, form_primary, form_tuple}
+use Rattle.rp_step.proofs.FormEquations.{form_and, form_compare, form_dict, form_list, form_or, form_primary, form_tuple}
 use Rattle.rp_step.proofs.machine.Machine.other_form.Goals as goal
 
 pub returns-in-Compare-clause-law : goal.returns-in-Compare-clause-law
@@ -19,3 +19,6 @@ returns-in-Tuple-clause-law c = rw (c.in-Tuple.is, form_tuple, sym c.deref-in-Tu
 
 pub returns-in-List-clause-law : goal.returns-in-List-clause-law
 returns-in-List-clause-law c = rw (c.in-List.is, form_list, sym c.deref-in-List.ensures.value) c.display-in-List.ensures.law
+
+pub returns-in-Dict-clause-law : goal.returns-in-Dict-clause-law
+returns-in-Dict-clause-law c = rw (c.in-Dict.is, form_dict, sym c.deref-in-Dict.ensures.value) c.dict_display.ensures.law

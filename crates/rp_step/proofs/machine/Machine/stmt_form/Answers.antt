@@ -2,8 +2,8 @@ use Rattle.std.proofs.Common.{sym, refl}
 use Rattle.rp_meaning.specs.State.{broke, continued, next}
 use Rattle.rp_meaning.specs.Statements as forms
 use Rattle.rp_step.proofs.Doings.{does_any, does_goes, does_moves}
-use Rattle.rp_step.proofs.Equations.{stmt_assert, stmt_assign, stmt_break, stmt_continue, stmt_del, stmt_expr, stmt_global, stmt_if, stmt_pass, stmt_while}
-use Rattle.rp_step.proofs.PlaceEquations.{stmt_aug, stmt_for}
+use Rattle.rp_step.proofs.Equations.{stmt_assert, stmt_assign, stmt_break, stmt_continue, stmt_del, stmt_expr, stmt_global, stmt_if, stmt_pass, stmt_raise, stmt_while}
+use Rattle.rp_step.proofs.PlaceEquations.{stmt_aug, stmt_for, stmt_unpack}
 use Rattle.rp_step.specs.Does as does
 use Rattle.rp_step.proofs.machine.Machine.stmt_form.Goals as goal
 
@@ -72,3 +72,9 @@ returns-in-Aug-clause-law c = rw (c.in-Aug.is, stmt_aug) c.augmented.ensures.law
 
 pub returns-in-For-clause-law : goal.returns-in-For-clause-law
 returns-in-For-clause-law c = rw (c.in-For.is, stmt_for, sym c.deref-in-For.ensures.value) c.for_each.ensures.law
+
+pub returns-in-Raise-clause-law : goal.returns-in-Raise-clause-law
+returns-in-Raise-clause-law c = rw (c.in-Raise.is, stmt_raise) c.raise.ensures.law
+
+pub returns-in-Unpack-clause-law : goal.returns-in-Unpack-clause-law
+returns-in-Unpack-clause-law c = rw (c.in-Unpack.is, stmt_unpack) c.assign_target.ensures.law

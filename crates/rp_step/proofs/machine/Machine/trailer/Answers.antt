@@ -1,7 +1,7 @@
 use Rattle.std.proofs.Common.{sym}
 use Rattle.rp_meaning.specs.Expressions as forms
 use Rattle.rp_step.proofs.CallEquations.{trailer_call}
-use Rattle.rp_step.proofs.FormEquations.{trailer_attr, trailer_item}
+use Rattle.rp_step.proofs.FormEquations.{trailer_attr, trailer_item, trailer_slice}
 use Rattle.rp_step.proofs.Moves.{as_ok}
 use Rattle.rp_step.proofs.Trailing.{item_stepped}
 use Rattle.rp_step.specs.Does as does
@@ -27,3 +27,6 @@ returns-in-Item-clause-law c =
 
 pub returns-in-Call-clause-law : goal.returns-in-Call-clause-law
 returns-in-Call-clause-law c = rw (c.in-Call.is, trailer_call, sym c.deref.ensures.value) c.begin_call.ensures.law
+
+pub returns-in-Slice-clause-law : goal.returns-in-Slice-clause-law
+returns-in-Slice-clause-law c = rw (c.in-Slice.is, trailer_slice, sym c.deref-in-Slice.ensures) c.sliced.ensures.law

@@ -1,6 +1,9 @@
-use Rattle.std.proofs.Common.{◌≡◌, ◌++◌, ap, rules, true, false}
+use Rattle.std.proofs.Common.{◌≡◌, ◌++◌, [], ap, subst, rules, true, false, OnOk}
+use Rattle.rp_base.specs.Names.{with_words}
 use Rattle.rp_token.specs.Lexer.{state}
 use Rattle.rp_token.specs.Tokens.{begun, in_line, is_fresh, step}
+use Rattle.rp_token.specs.WordSteps.{front_words}
+use Rattle.rp_token.proofs.NameWords.{begun-left}
 use Rattle.rp_token.proofs.Rules.{Goes-fault, Goes-on, err_handed, step-fault, step-fresh, step-within}
 use Rattle.rp_token.proofs.lexer.Lexer.step.Goals as goal
 
@@ -32,4 +35,10 @@ returns-in_default c =
           let names = c.in_line-in_default.new.names ++ more in
           Goes-on names step in_line c.in_line-in_default.result old old c.in_line-in_default.new.self (step-within (state names old) within) (c.in_line-in_default.ensures.goes more);
       grown = c.in_line-in_default.ensures.grown;
+      words = c.in_line-in_default.ensures.words;
     }
+
+pub returns-in_ok-begin_line-in-Fresh-clause-words : goal.returns-in_ok-begin_line-in-Fresh-clause-words
+returns-in_ok-begin_line-in-Fresh-clause-words c =
+    let left = begun-left (state [] c.args.self.now) (state [] c.begin_line.new.self) (c.in_ok-begin_line-in-Fresh.ensures []) in
+    subst (λ cs. OnOk c.in_line.result (c.in_line.new.names ≡ with_words c.args.names.now (front_words cs))) left c.in_line.ensures.words

@@ -1,0 +1,7 @@
+pub mod Targets
+pub mod Runs
+pub mod Contents
+pub mod Comprehensions
+pub mod Refused
+pub mod Quiet
+pub mod Reading

@@ -1,9 +1,0 @@
-use Rattle.std.proofs.Common.{map}
-use Rattle.rp_tree.specs.ExpressionViews.{view_place}
-use Rattle.rp_tree.specs.Maps as m
-use Rattle.rp_tree.specs.Maps.{shape}
-use Rattle.rp_copies.proofs.Ends.{left_over, never}
-use Rattle.rp_copies.proofs.block_likeness.are_same_places.Goals as goal
-
-pub returns-in-len1-up-rest : goal.returns-in-len1-up-rest
-returns-in-len1-up-rest c = never (λ e. left_over (λ xs. map (m.map_place shape) (map view_place xs)) (λ x xs h. cc) _ _ _ c.places-test.false c.in-len1-up-rest.len_at_least (c.places.invariant.1 e))

@@ -1,0 +1,19 @@
+-- The tree that was read is the one with each name in the place of its word.
+use Rattle.std.proofs.Common.{◌≡◌, ℕ, ◌<◌, List, length, refl, ◌∙◌, nat_lt, true}
+use Rattle.std.proofs.lemmas.Bool.{ltb-true}
+use Rattle.rp_base.specs.Names.{HoldsEachOnce, word_of}
+use Rattle.rp_base.specs.declared.value.Name.{Name}
+use Rattle.rp_grammar.proofs.Kept.{stmts_kept}
+use Rattle.rp_meaning.specs.BuiltIn.{name_of}
+use Rattle.rp_program.specs.Leaves.{IsTreeHeld, below}
+use Rattle.rp_tree.specs.Maps.{named, names_by}
+use Rattle.rp_tree.specs.Statements.{Stmts}
+use Rattle.rp_tree.proofs.MapLaws.{stmts_after}
+use Rattle.rp_world.proofs.Seen.{name-back}
+use Rattle.rp_play.specs.Played.{placed}
+
+pub placed-back : (names : List (List ℕ)) → HoldsEachOnce names → (tree : Stmts) → IsTreeHeld names tree → placed names (named (word_of names) tree) ≡ tree
+placed-back names once tree held =
+    stmts_after (names_by (word_of names)) (names_by (name_of names)) tree
+    ∙ stmts_kept (below (length names)) (names_by (λ n. name_of names (word_of names n)))
+    (λ n ok. name-back names once n (ltb-true n.0 (length names) ok)) (λ k. refl) (λ b ok. refl) (λ s g ok. refl) tree held

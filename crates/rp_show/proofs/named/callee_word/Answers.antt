@@ -1,6 +1,0 @@
-use Rattle.std.proofs.Common.{chars, ap, ◌∙◌}
-use Rattle.rp_show.proofs.Escapes.{chars-native}
-use Rattle.rp_show.proofs.named.callee_word.Goals as goal
-
-pub returns-in-Native : goal.returns-in-Native
-returns-in-Native c = rw c.in-Native.is (ap chars c.as_str.ensures ∙ chars-native c.in-Native.native)

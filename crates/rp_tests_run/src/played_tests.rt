@@ -1,0 +1,87 @@
+//! Scripts that the machine runs, over fields of every kind. What the plain ones print is what Python prints.
+
+use crate::program_answers::Said;
+use rp_tests_cases::all_answer;
+use std::test::Fail;
+
+const PLAIN: &str = r#"x = 1 + 2~print(x) => session 1 bob~3~end ok~0
+if True: pass => session 1 bob~end ok~0
+t = 0~for x in [1, 2, 3]:~    t += x * x~print(t, t // 4, t % 4, -t // 4) => session 1 bob~14 3 2 -4~end ok~0
+n = 27~steps = 0~while n != 1:~    n = 3 * n + 1 if n % 2 else n // 2~    steps += 1~print(steps) => session 1 bob~1\
+    11~end ok~0
+d = {'b': 1, 'a': [2, 3]}~d['c'] = (4,)~for k in sorted(d):~    print(k, d[k])~print('a' in d, len(d), d.get('z', 0)\
+    ) => session 1 bob~a [2, 3]~b 1~c (4,)~True 3 0~end ok~0
+a, (b, c) = 1, 'xy'~a, b = b, a~print(a, b, c) => session 1 bob~x 1 y~end ok~0
+s = 'a-b-c'~print(s.split('-'), '+'.join(s.split('-')), s[::-1], s[1:4]) => session 1 bob~['a', 'b', 'c'] a+b+c c-b-\
+    a -b-~end ok~0
+print(min(3, 1), max([4, 9]), sum((1, 2)), abs(-5), list(range(2, 8, 3)), list(zip('ab', [1, 2]))) => session 1 bob~\
+    1 9 3 5 [2, 5] [('a', 1), ('b', 2)]~end ok~0
+print(1 < 2 < 3, not [], 1 is None, 'a' in 'cat', 2 ** 10, 7 & 3 | 8) => session 1 bob~True True False True 1024 11~\
+    end ok~0
+for i in range(5):~    if i == 1:~        continue~    if i == 4:~        break~    print(i) => session 1 bob~0~2~3~\
+    end ok~0
+total = 0~for pair in enumerate(['x', 'yy']):~    total += pair[0] + len(pair[1])~print(f'{total} in all') => sessio\
+    n 1 bob~4 in all~end ok~0
+b = 2~b += 3~b **= 2~b -= 1~print(b, b == 24 and 'yes' or 'no') => session 1 bob~24 yes~end ok~0
+assert 1 < 2, 'no'~print('held') => session 1 bob~held~end ok~0"#;
+
+/// Over the folder, whose fields are numbers and texts.
+const FOLDER: &str =
+    r#"for i in (1, 2):~    print(root.title, i) => session 1 bob~Home 1~Home 2~end ok~0
+print(len(root.title) + root.size) => session 1 bob~7~end ok~0
+x = root~if x.size > 2:~    print(x.title[0]) => session 1 bob~H~end ok~0
+print('on')~root.title = 'New' => session 1 bob~on~end Unauthorized: zope.Manage~1
+x = root.secret + 1 => session 1 bob~end ForbiddenAttribute: secret~1
+print(1 // 0) => session 1 bob~end ZeroDivisionError: zero~1
+raise ValueError('no') => session 1 bob~end ValueError: no~1
+print(1)~print(q + 1) => session 1 bob~1~end NameError: q~1
+while True:~    pass => session 1 bob~end stopped steps~5
+print('on')~x = [0] * 2000000 => session 1 bob~on~end stopped cells~5"#;
+
+const SHOP: &str =
+    r#"for a in catalogue.articles:~    print(a, len(a)) => session 1 bob~saw 3~nail 4~end ok~0
+print(saw.tags[-1], saw.sizes['small'], len(saw.tags), sorted(saw.sizes)) => session 1 bob~steel 3 2 ['small']~end ok~0
+x = [catalogue.title] * 2~x[0] = saw.price~print(x) => session 1 bob~[1290, 'Tools']~end ok~0
+saw.price = 1300~print(saw.price + 1) => session 1 bob~1301~end ok~0
+print(saw.price)~print(saw.cost) => session 1 bob~1290~end Unauthorized: shop.Cost~1
+print(saw.tags) => session 1 bob~['wood', 'steel']~end ok~0
+saw.tags.append('x') => session 1 bob~end ForbiddenAttribute: append~1
+saw.tags[0] = 'x' => session 1 bob~end ForbiddenAttribute: __setitem__~1
+print(saw.sold) => session 1 bob~end ForbiddenAttribute: sold~1"#;
+
+/// Forms that do not run yet, and one that a script does not come to.
+const NOT_YET: &str = r#"print(1)~def f(): pass => script 1: not yet~4
+x = [i for i in (1, 2)] => script 1: not yet~4
+x = lambda: 1 => script 1: not yet~4
+class A: pass => script 1: not yet~4
+try:~    x = 1~except ValueError:~    pass => script 1: not yet~4
+if 1 > 2:~    x = lambda: 1~print('on') => session 1 bob~on~end ok~0"#;
+
+#[test]
+fn runs_plain_scripts_as_python_does(rt: HostRuntime) -> Result<(), Fail> {
+    all_answer(rt.alloc(), &Said::Of, PLAIN)
+}
+
+#[test]
+fn runs_scripts_over_numbers_and_texts(rt: HostRuntime) -> Result<(), Fail> {
+    all_answer(rt.alloc(), &Said::Of, FOLDER)
+}
+
+#[test]
+fn runs_scripts_over_lists_and_dicts(rt: HostRuntime) -> Result<(), Fail> {
+    all_answer(rt.alloc(), &Said::Shop, SHOP)
+}
+
+#[test]
+fn says_which_scripts_do_not_run_yet(rt: HostRuntime) -> Result<(), Fail> {
+    all_answer(rt.alloc(), &Said::Of, NOT_YET)
+}
+
+/// A text of the declarations, another in its place, and what is said where eve prints the title.
+const FIELDS: &str =
+    r#"size = 3 => size = [true, { a = 1 }] => session 1 eve~end Unauthorized: zope.View~1"#;
+
+#[test]
+fn runs_over_fields_of_every_kind(rt: HostRuntime) -> Result<(), Fail> {
+    all_answer(rt.alloc(), &Said::Where, FIELDS)
+}
