@@ -1,0 +1,6 @@
+//! Inputs that are made, of any size.
+#![tactic(auto)]
+
+mod input;
+
+pub use input::large;

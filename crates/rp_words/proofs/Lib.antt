@@ -1,0 +1,6 @@
+mod Digits
+mod Found
+mod Given
+mod Ids
+mod Matches
+mod WordExamples
