@@ -1,7 +1,7 @@
 #!/usr/bin/env python3
 """Runs the examples of the pages for people, and tells how many commands answered what the page shows.
 
-    bench/pages.py [PAGE..]     README.md, docs/DECLARATIONS.md and docs/FROM-ZOPE.md and docs/LANGUAGE.md where none is named
+    bench/pages.py [PAGE..]     README.md, docs/TUTORIAL.md, docs/DECLARATIONS.md, docs/FROM-ZOPE.md and docs/LANGUAGE.md where none is named
 
 A fenced block whose first line names a file (```toml policy.toml) makes that file in a folder of the page's own, which also has the
 repository's examples/. In a block ```console each line `$ ./rpy WORDS` is run there, and what stands behind it, up to the next such line, is
@@ -16,7 +16,7 @@ import tempfile
 from pathlib import Path
 
 TOP = Path(__file__).resolve().parent.parent
-PAGES = ["README.md", "docs/DECLARATIONS.md", "docs/FROM-ZOPE.md", "docs/LANGUAGE.md"]
+PAGES = ["README.md", "docs/TUTORIAL.md", "docs/DECLARATIONS.md", "docs/FROM-ZOPE.md", "docs/LANGUAGE.md"]
 FENCE = re.compile(r"^```(\w*) ?(.*)$")
 COMMAND = re.compile(r"^\$ (\./rpy.*?)(?:\s+# status (\d+))?$")
 

@@ -1,53 +1,36 @@
--- The list of one session, and what cannot come.
-use Rattle.std.proofs.Common.{◌≡◌, ℕ, ◌+◌, Bool, true, false, ◌==◌, List, [], ◌∷◌, ◌++◌, length, map, Option, Some, None, option_map, if◌then◌else◌, refl, sym, ap, subst, ◌∙◌, lit<, arith}
+-- The sessions of a run have ended.
+use Rattle.std.proofs.Common.{◌≡◌, ℕ, ◌+◌, ◌<◌, List, length, map, find, get_or, Option, Some, None, option_map, IfSome, refl, sym, ap, subst, ◌∙◌, arith}
 use Rattle.std.specs.List.{All}
 use Rattle.std.specs.Option.{IsSome}
-use Rattle.std.proofs.lemmas.List.{length-append, nil_from_length}
-use Rattle.std.proofs.lemmas.List.Elements.{All-cons}
-use Rattle.rp_decl.specs.Order.{least}
-use Rattle.rp_decl.specs.Records.{Declarations}
-use Rattle.rp_load.specs.Load.{Fault, expose, fault_of, not_yet, unbound}
+use Rattle.std.proofs.lemmas.List.{get_or-map, length-map}
+use Rattle.rp_meaning.specs.Frame.{Run}
 use Rattle.rp_meaning.specs.Sessions as meant
+use Rattle.rp_meaning.specs.Sessions.{run_all}
+use Rattle.rp_session.specs.Ready.{AreNumberedFrom}
 use Rattle.rp_session.specs.View.{end_view, session_view}
 use Rattle.rp_session.specs.declared.session.Session.{Session}
 use Rattle.rp_session.specs.declared.session_end.SessionEnd.{SessionEnd}
-
--- the last of one is the only one
-pub last-of-one : (all rest : List Session) (k : Session) → length all ≡ 1 → all ≡ rest ++ k ∷ [] → all ≡ k ∷ []
-last-of-one all rest k one is =
-    let lengths = sym one ∙ ap length is ∙ length-append rest (k ∷ []) in
-    let none : rest ≡ [] = nil_from_length rest (omega (arith, lengths)) in
-    is ∙ ap (λ rest. rest ++ k ∷ []) none
-
-pub last-has : (P : Session → Type 0) (all rest : List Session) (k : Session) → length all ≡ 1 → all ≡ rest ++ k ∷ [] → All P all → P k
-last-has P all rest k one is holds = subst (All P) (last-of-one all rest k one is) holds 0 k (lit< tt)
+use Rattle.rp_session.proofs.Numbered.{found-at, number-at}
+use Rattle.rp_play.proofs.Finished.{AllStand, HasEnded, Where, each-ends, has}
 
 some-end : (end : Option SessionEnd) → IsSome (option_map end_view end) → IsSome end
 some-end (Some e) some = some
 some-end None some = some
 
--- sessions have ended where those have for which they stand
-pub all-ended : (ks : List Session) (j : meant.Session) → map session_view ks ≡ j ∷ [] → IsSome j.end → All (λ k. IsSome k.end) ks
-all-ended [] j only some = absurd cc
-all-ended (k ∷ l ∷ ks) j only some = absurd cc
-all-ended (k ∷ []) j only some =
-    let same : session_view k ≡ j = cc in
-    let here = some-end k.end (subst (λ (j : meant.Session). IsSome j.end) (sym same) some) in
-    All-cons (λ k. IsSome k.end) k [] here (λ i d low. absurd (omega arith))
-
-module _ (d : Declarations) (runs : fault_of d ≡ None) where
-  of_module : Bool → Option Fault
-  of_module b = if b then option_map expose (least (unbound d)) else Some not_yet
-
-  pub no-module : (length d.module_text == 0) ≡ true
-  no-module = by (length d.module_text == 0) refl
-    where
-      by : (b : Bool) → (length d.module_text == 0) ≡ b → (length d.module_text == 0) ≡ true
-      by true e = e
-      by false e = absurd (let both : Some not_yet ≡ None = sym (ap (λ b. if b then option_map expose (least (unbound d)) else Some not_yet) e) ∙ runs in cc)
-
-  pub none-unbound : (word : List ℕ) → least (unbound d) ≡ Some word → ⊥
-  none-unbound word found =
-      let both : Some (expose word) ≡ None =
-      sym (ap (option_map expose) found) ∙ sym (ap (λ b. if b then option_map expose (least (unbound d)) else Some not_yet) no-module) ∙ runs in
-      cc
+-- sessions that are numbered from 1 have ended where those are numbered so with which all began
+pub all-ended : (run : Run) (listed : List ℕ) (begun last : meant.World) (js ks : List Session) → begun.sessions ≡ map session_view js → last.sessions ≡ map session_view ks
+    → AreNumberedFrom 1 js → AreNumberedFrom 1 ks → length ks ≡ length js → AllStand run begun.sessions → last ≡ run_all run listed begun
+    → All (λ k. IsSome k.end) ks
+all-ended run listed begun last js ks before after first numbered count stand runs i d inside =
+    let j = get_or js i d in
+    let k = get_or ks i d in
+    let low : i < length js = omega arith in
+    let many : length begun.sessions ≡ length js = ap length before ∙ length-map js session_view in
+    let there : i < length begun.sessions = omega arith in
+    let is : get_or begun.sessions i (session_view d) ≡ session_view j = ap (λ (l : List meant.Session). get_or l i (session_view d)) before ∙ get_or-map session_view js i d (session_view d) low in
+    let number : (get_or begun.sessions i (session_view d)).side.0 ≡ 1 + i = ap (λ (s : meant.Session). s.side.0) is ∙ number-at 1 js i d first low in
+    let ends : Where HasEnded (1 + i) (run_all run listed begun) =
+    subst (λ n. Where HasEnded n (run_all run listed begun)) number (each-ends run listed begun i (session_view d) there stand) in
+    let found : find (has (1 + i)) last.sessions ≡ Some (session_view k) = ap (find (has (1 + i))) after ∙ found-at 1 (1 + i) ks i d numbered inside refl in
+    let ended : IfSome (find (has (1 + i)) last.sessions) HasEnded = subst (λ (w : meant.World). Where HasEnded (1 + i) w) (sym runs) ends in
+    some-end k.end (subst (λ (o : Option meant.Session). IfSome o HasEnded) found ended)

@@ -1,41 +1,66 @@
--- The run of the programs of a script is that of its direct meaning.
-use Rattle.std.proofs.Common.{◌≡◌, ℕ, zero, suc, ◌+◌, ◌-◌, ◌≤◌, Bool, true, false, cond, if◌then◌else◌, nat_eq, List, [], ◌∷◌, length, map, Option, Some, None, slice_get, refl, sym, ap, ◌∙◌, ne_eqb, arith}
+-- The run of the programs of some scripts is that of their direct meaning.
+use Rattle.std.proofs.Common.{◌≡◌, ℕ, zero, suc, ◌-◌, ◌<◌, Bool, true, false, if◌then◌else◌, nat_eq, List, [], ◌∷◌, length, slice_get, refl, sym, ap, subst, ◌∙◌, ne_eqb, arith}
+use Rattle.std.specs.List.{AllZip}
 use Rattle.std.specs.Option.{option_map_or}
-use Rattle.std.proofs.lemmas.Option.{slice_get_past}
 use Rattle.rp_base.specs.declared.value.Side.{Side}
 use Rattle.rp_decl.specs.Records.{Declarations}
 use Rattle.rp_meaning.specs.Frame.{Program, Run}
+use Rattle.rp_session.specs.Ready.{AreLaidOut}
 use Rattle.rp_step.specs.Moment as step
-use Rattle.rp_step.specs.Moment.{program_at, program_view}
+use Rattle.rp_step.specs.Moment.{program_view}
 use Rattle.rp_step.specs.declared.units.Program.{Program as CodeProgram}
 use Rattle.rp_step.specs.declared.units.Units.{Units}
-use Rattle.rp_tree.specs.Statements.{Stmts, no_stmts}
-use Rattle.rp_play.specs.Played.{module_in, program_in, run_of}
+use Rattle.rp_tree.specs.Statements.{Stmts}
+use Rattle.rp_play.specs.Played.{module_in, program_in, program_on, run_of}
+use Rattle.rp_play.specs.Programs.{IsProgramOf}
 
--- the program of a side is the script for side 1, and else the module
-module _ (module' : CodeProgram) (m s : Program) (is_module : program_view module' ≡ m) where
-  abbrev at_side : ℕ → List CodeProgram → CodeProgram
-  at_side n us = if nat_eq n 0 then module' else option_map_or (λ u. u) (slice_get us (n - 1)) module'
+not-first : (place : ℕ) → nat_eq (suc place) 0 ≡ false
+not-first place = ne_eqb (suc place) 0 (λ e. absurd (omega arith))
 
-  of_two : (n : ℕ) → nat_eq (suc (suc n)) 1 ≡ false
-  of_two n = ne_eqb (suc (suc n)) 1 (λ e. absurd (omega arith))
+before : (place : ℕ) → suc place - 1 ≡ place
+before place = omega arith
 
-  of_none : (n : ℕ) → nat_eq (suc (suc n)) 0 ≡ false
-  of_none n = ne_eqb (suc (suc n)) 0 (λ e. absurd (omega arith))
+-- the script of a place, or else the module
+module _ (module' : CodeProgram) where
+  abbrev at_place : ℕ → List CodeProgram → CodeProgram
+  at_place place us = option_map_or (λ u. u) (slice_get us place) module'
 
-  pub each_side : (us : List CodeProgram) → map program_view us ≡ s ∷ [] → (n : ℕ) → program_view (at_side n us) ≡ (if nat_eq n 1 then s else m)
-  each_side [] only n = absurd cc
-  each_side (u ∷ v ∷ us) only n = absurd cc
-  each_side (u ∷ []) only zero = is_module
-  each_side (u ∷ []) only (suc zero) = let one : program_view u ≡ s = cc in one
-  each_side (u ∷ []) only (suc (suc n)) =
-      let past : slice_get (u ∷ []) (suc (suc n) - 1) ≡ None = slice_get_past (u ∷ []) (suc (suc n) - 1) (omega arith) in
-      ap (λ b. program_view (if b then module' else option_map_or (λ u. u) (slice_get (u ∷ []) (suc (suc n) - 1)) module')) (of_none n)
-      ∙ ap (λ o. program_view (option_map_or (λ u. u) o module')) past
-      ∙ is_module
-      ∙ sym (ap (λ b. if b then s else m) (of_two n))
+  abbrev on_side : ℕ → List CodeProgram → CodeProgram
+  on_side n us = if nat_eq n 0 then module' else at_place (n - 1) us
 
-pub run-is : (names : List (List ℕ)) (d : Declarations) (script : Stmts) (units : Units) → program_view units.module ≡ module_in names d → map program_view units.scripts.items ≡ program_in [] script ∷ []
-    → step.run_of (run_of names d script) units ≡ run_of names d script
-run-is names d script units is_module only =
-    λ i. record (run_of names d script) { programs = λ side. each_side units.module (module_in names d) (program_in [] script) is_module units.scripts.items only side.0 i }
+  behind-first : (place : ℕ) (us : List CodeProgram) → on_side (suc place) us ≡ at_place place us
+  behind-first place us =
+      ap (λ b. if b then module' else at_place (suc place - 1) us) (not-first place) ∙ ap (λ i. at_place i us) (before place)
+
+  view-at : (m : Program) → program_view module' ≡ m → (trees : List Stmts) (us : List CodeProgram) → AllZip IsProgramOf trees us → (place : ℕ)
+      → program_view (at_place place us) ≡ option_map_or (program_in []) (slice_get trees place) m
+  view-at m is_module [] [] are place = is_module
+  view-at m is_module [] (u ∷ us) are place = absurd are
+  view-at m is_module (t ∷ ts) [] are place = absurd are
+  view-at m is_module (t ∷ ts) (u ∷ us) are zero = are.0.is
+  view-at m is_module (t ∷ ts) (u ∷ us) are (suc place) = view-at m is_module ts us are.1 place
+
+  view-on : (m : Program) → program_view module' ≡ m → (trees : List Stmts) (us : List CodeProgram) → AllZip IsProgramOf trees us → (n : ℕ)
+      → program_view (on_side n us) ≡ program_on m trees n
+  view-on m is_module trees us are zero = is_module
+  view-on m is_module trees us are (suc place) = ap program_view (behind-first place us) ∙ view-at m is_module trees us are place
+
+  laid-at : 0 < length module'.layouts → (trees : List Stmts) (us : List CodeProgram) → AllZip IsProgramOf trees us → (place : ℕ) → 0 < length (at_place place us).layouts
+  laid-at laid [] [] are place = laid
+  laid-at laid [] (u ∷ us) are place = absurd are
+  laid-at laid (t ∷ ts) [] are place = absurd are
+  laid-at laid (t ∷ ts) (u ∷ us) are zero = are.0.block
+  laid-at laid (t ∷ ts) (u ∷ us) are (suc place) = laid-at laid ts us are.1 place
+
+  laid-on : 0 < length module'.layouts → (trees : List Stmts) (us : List CodeProgram) → AllZip IsProgramOf trees us → (n : ℕ) → 0 < length (on_side n us).layouts
+  laid-on laid trees us are zero = laid
+  laid-on laid trees us are (suc place) =
+      subst (λ (u : CodeProgram). 0 < length u.layouts) (sym (behind-first place us)) (laid-at laid trees us are place)
+
+pub run-is : (names : List (List ℕ)) (d : Declarations) (trees : List Stmts) (units : Units) → program_view units.module ≡ module_in names d → AllZip IsProgramOf trees units.scripts.items
+    → step.run_of (run_of names d trees) units ≡ run_of names d trees
+run-is names d trees units is_module are =
+    λ i. record (run_of names d trees) { programs = λ side. view-on units.module (module_in names d) is_module trees units.scripts.items are side.0 i }
+
+pub laid-out : (trees : List Stmts) (units : Units) → 0 < length units.module.layouts → AllZip IsProgramOf trees units.scripts.items → AreLaidOut units
+laid-out trees units laid are side = laid-on units.module laid trees units.scripts.items are side.0

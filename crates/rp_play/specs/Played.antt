@@ -1,5 +1,7 @@
--- What a script comes to that runs in one session over declarations without a module: its direct meaning.
-use Rattle.std.specs.Prelude.{◌≡◌, ℕ, nat_eq, List, [], ◌∷◌, map, if◌then◌else◌, Some, Ok}
+-- What scripts come to that take turns over declarations without a module: their direct meaning.
+use Rattle.std.specs.Prelude.{◌≡◌, ℕ, zero, suc, List, [], ◌∷◌, map, slice_get, Option, Ok}
+use Rattle.std.specs.List.{AllZip}
+use Rattle.std.specs.Option.{option_map_or}
 use Rattle.rp_access.specs.Natives.{natives}
 use Rattle.rp_base.specs.Identifier.{is_identifier_word}
 use Rattle.rp_base.specs.declared.value.Name.{Name}
@@ -15,6 +17,7 @@ use Rattle.rp_proxy.specs.Decide.{decide}
 use Rattle.rp_scope.specs.Numbers.{IsNumbered}
 use Rattle.rp_scope.specs.Scopes.{scopes}
 use Rattle.rp_step.specs.Moment.{layouts_view}
+use Rattle.rp_trail.specs.Entry.{Entry}
 use Rattle.rp_tree.specs.Maps.{named}
 use Rattle.rp_tree.specs.Statements.{Stmts, no_stmts}
 use Rattle.rp_tree.specs.StatementTrees.{Stmts as TextStmts}
@@ -28,29 +31,41 @@ program_in first body = program_of body (layouts_view (scopes first body))
 abbrev pub module_in : List (List ℕ) → Declarations → Program
 module_in names d = program_in (map (name_of names) (global_names d)) no_stmts
 
--- The run of one script: what is done through a proxy is decided (zope.security, checkers), the built-in functions and methods are those of the
+-- the program of the side of a number: that of the script of this number, from 1 on; where there is none it is the one of the module
+abbrev pub program_on : Program → List Stmts → ℕ → Program
+program_on of_module scripts zero = of_module
+program_on of_module scripts (suc place) = option_map_or (program_in []) (slice_get scripts place) of_module
+
+-- The run of some scripts: what is done through a proxy is decided (zope.security, checkers), the built-in functions and methods are those of the
 -- library, and `getattr` and `setattr` take the identifiers that the policy of names lets pass.
-abbrev pub run_of : List (List ℕ) → Declarations → Stmts → Run
-run_of names d script = record {
-  programs = λ side. if nat_eq side.0 1 then program_in [] script else module_in names d;
+abbrev pub run_of : List (List ℕ) → Declarations → List Stmts → Run
+run_of names d scripts = record {
+  programs = λ side. program_on (module_in names d) scripts side.0;
   natives = natives;
   is_identifier = is_identifier_word;
   is_forbidden = is_forbidden_attribute;
   decide = decide;
 }
 
--- the session of these principals, which runs to its end alone in the world that loading gives, printed this and ended so
-pub record Comes (run : Run) (names : List (List ℕ)) (d : Declarations) (who : List (List ℕ)) (steps cells : ℕ) (printed : List ℕ) (end : SessionEnd) : Type 0 where
+-- the world with a session more for each of these, one after another
+abbrev pub with_new_sessions : Run → List (List (List ℕ)) → ℕ → World → World
+with_new_sessions run [] steps w = w
+with_new_sessions run (who ∷ whos) steps w = with_new_sessions run whos steps (with_new_session run who steps w)
+
+-- Sessions of these principals, which take the listed turns in the world that loading gives and then run to their ends, came to this: how each ended
+-- and what it printed, and beside that the log.
+pub record Comes (run : Run) (names : List (List ℕ)) (d : Declarations) (whos : List (List (List ℕ))) (listed : List ℕ) (steps cells : ℕ) (told : List (Option SessionEnd × List ℕ)) (log : List Entry) : Type 0 where
   pub world : World
   pub loaded : load run names d cells ≡ Ok world
-  pub sessions : map told_of (run_all run [] (with_new_session run who steps world)).sessions ≡ (Some end, printed) ∷ []
+  pub sessions : map told_of (run_all run listed (with_new_sessions run whos steps world)).sessions ≡ told
+  pub entries : (run_all run listed (with_new_sessions run whos steps world)).log ≡ log
 
 -- a tree with each name in the place of its word among the words
 abbrev pub placed : List (List ℕ) → TextStmts (List ℕ) → Stmts
 placed words tree = named (name_of words) tree
 
--- the same of a script by its tree: each name in its place among the names of the run, and the code blocks numbered
-pub record Plays (names : List (List ℕ)) (d : Declarations) (tree : TextStmts (List ℕ)) (who : List (List ℕ)) (steps cells : ℕ) (printed : List ℕ) (end : SessionEnd) : Type 0 where
-  pub script : Stmts
-  pub numbered : IsNumbered (placed names tree) script
-  pub comes : Comes (run_of names d script) names d who steps cells printed end
+-- the same of scripts by their trees: each name in its place among the names of the run, and the code blocks numbered
+pub record Plays (names : List (List ℕ)) (d : Declarations) (trees : List (TextStmts (List ℕ))) (whos : List (List (List ℕ))) (listed : List ℕ) (steps cells : ℕ) (told : List (Option SessionEnd × List ℕ)) (log : List Entry) : Type 0 where
+  pub scripts : List Stmts
+  pub numbered : AllZip (λ tree script. IsNumbered (placed names tree) script) trees scripts
+  pub comes : Comes (run_of names d scripts) names d whos listed steps cells told log

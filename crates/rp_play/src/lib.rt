@@ -1,8 +1,12 @@
-//! A script that runs in one session over declarations without a module.
+//! Scripts that run as sessions over declarations without a module.
 #![tactic(auto)]
 
+mod no_outcome;
+mod parts;
 mod playing;
 mod programs;
 
-pub use playing::{Limits, Played, play};
+pub use no_outcome::NoOutcome;
+pub use parts::SessionScript;
+pub use playing::{Limits, play};
 pub use programs::units_of;

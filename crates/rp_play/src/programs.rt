@@ -1,11 +1,10 @@
-//! Programs of a script, and of a module without a text.
+//! Programs of scripts, and of a module without a text.
 
-ghost use Rattle.std.specs.Prelude.{◌≡◌, ◌<◌, [], IfOk, length, map};
+ghost use Rattle.std.specs.Prelude.{◌≡◌, ◌<◌, [], IfOk, OnOk, length, map};
+ghost use Rattle.std.specs.List.{AllZip};
 ghost use Rattle.rp_machine.specs.Globals.{placed_names};
 ghost use Rattle.rp_play.specs.Played.{program_in};
-ghost use Rattle.rp_play.specs.Programs.{AreOf};
-ghost use Rattle.rp_scope.specs.Numbers.{IsNumbered};
-ghost use Rattle.rp_scope.specs.Scopes.{scopes};
+ghost use Rattle.rp_play.specs.Programs.{AreOf, HasFewBlocks, IsProgramOf};
 ghost use Rattle.rp_session.specs.Ready.{AreLaidOut};
 ghost use Rattle.rp_step.specs.Moment.{program_view};
 ghost use Rattle.rp_tree.specs.Statements.{no_stmts};
@@ -13,25 +12,25 @@ ghost use Rattle.rp_tree.specs.StatementViews.{view_tree};
 
 use rp_base::{Memory, Name};
 use rp_decl::{ClassDecl, Decl, ObjectDecl};
-use rp_scope::{number, resolve};
+use rp_scope::resolve;
 use rp_step::{Program, Units};
 use rp_tree::Tree;
 use std::alloc::Global;
 
-/// The programs of a run of one script, which is read as this tree, over declarations without a module. Its code blocks
-/// are numbered.
+/// The programs of a run of some scripts over declarations without a module. The scripts are read as these trees, whose
+/// code blocks have their numbers, as `rp_scope::number` sets them.
 ///
 /// # Errors
 /// `Memory` where a growth was refused.
-pub fn units_of(alloc: Global, decl: &Decl, script: Tree) -> Result<Units, Memory>
-    ensures of { IfOk result (AreOf decl.now (view_tree script)) }
+pub fn units_of(alloc: Global, decl: &Decl, scripts: Vec<Tree>) -> Result<Units, Memory>
+    ensures of { IfOk result (AreOf decl.now (map view_tree scripts.items)) }
     ensures laid { IfOk result AreLaidOut }
 {
     let module = module_program(alloc, decl)?;
-    let script = script_program(alloc, script)?;
+    let programs = script_programs(alloc, scripts)?;
     Ok(Units {
         module,
-        scripts: vec![in alloc; script]?,
+        scripts: programs,
     })
 }
 
@@ -48,14 +47,24 @@ fn module_program(alloc: Global, decl: &Decl) -> Result<Program, Memory>
     Ok(Program { tree, layouts })
 }
 
-/// The program of a script: its code blocks are numbered.
-fn script_program(alloc: Global, script: Tree) -> Result<Program, Memory>
-    ensures numbered { IfOk result (λ program. IsNumbered (view_tree script) (view_tree program.tree)) }
-    ensures layouts { IfOk result (λ program. program.layouts ≡ scopes [] (view_tree program.tree)) }
+/// The programs of scripts, in order.
+fn script_programs(alloc: Global, trees: Vec<Tree>) -> Result<Vec<Program>, Memory>
+    ensures { IfOk result (λ programs. AllZip IsProgramOf (map view_tree trees.items) programs.items) }
+{
+    let mut programs = Vec::new(alloc);
+    for tree in trees {
+        let program = script_program(alloc, tree)?;
+        programs.push(program)?;
+    }
+    Ok(programs)
+}
+
+/// The program of a script.
+fn script_program(alloc: Global, tree: Tree) -> Result<Program, Memory>
+    ensures is { IfOk result (λ program. program_view program ≡ program_in [] (view_tree tree)) }
+    ensures few { OnOk result (HasFewBlocks (view_tree tree)) }
     ensures block { IfOk result (λ program. 0 < length program.layouts) }
 {
-    let mut tree = script;
-    number(&mut tree);
     let layouts = resolve(alloc, &tree, &[])?;
     Ok(Program { tree, layouts })
 }

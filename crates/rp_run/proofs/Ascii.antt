@@ -1,5 +1,6 @@
 -- Texts whose characters are their bytes.
-use Rattle.std.proofs.Common.{◌≡◌, ℕ, true, false, eqb, List, [], ◌∷◌, ◌++◌, length, chars, codes, encode_utf8_all, IsUtf8, ap, sym, ◌∙◌, refl}
+use Rattle.std.proofs.Common.{◌≡◌, ◌≢◌, ℕ, true, false, eqb, List, [], ◌∷◌, ◌++◌, length, chars, codes, encode_utf8_all}
+use Rattle.std.proofs.Common.{IsUtf8, ap, sym, ◌∙◌, refl}
 use Rattle.std.proofs.lemmas.Bool.{and_parts, ltb-true, eqb-true, eqb-false}
 use Rattle.std.proofs.lemmas.Str.{chars-IsAscii, chars-nil, encodes-chars}
 use Rattle.std.proofs.lemmas.Str.Ascii.{IsAscii-nil, IsAscii-cons}
@@ -23,7 +24,8 @@ pub bytes_without_chars : (bs : List ℕ) → IsUtf8 bs → chars bs ≡ [] → 
 bytes_without_chars bs utf8 e = sym (encodes-chars bs utf8) ∙ ap encode_utf8_all e
 
 -- the detail of an exception with a text
-pub detail-some : (bs told : List ℕ) → IsUtf8 bs → chars bs ≡ told → eqb (length bs) 0 ≡ false → detail told ≡ codes ": " ++ told
+pub detail-some : (bs told : List ℕ) → IsUtf8 bs → chars bs ≡ told → eqb (length bs) 0 ≡ false
+    → detail told ≡ codes ": " ++ told
 detail-some bs [] utf8 e some = absurd (eqb-false (length bs) 0 some (ap length (bytes_without_chars bs utf8 e)))
 detail-some bs (c ∷ cs) utf8 e some = refl
 
@@ -31,3 +33,11 @@ detail-some bs (c ∷ cs) utf8 e some = refl
 pub detail-none : (bs told : List ℕ) → chars bs ≡ told → eqb (length bs) 0 ≡ true → detail told ≡ []
 detail-none [] told e none = ap detail (sym e ∙ chars-nil)
 detail-none (b ∷ bs) told e none = absurd (let e : length (b ∷ bs) ≡ 0 = eqb-true (length (b ∷ bs)) 0 none in cc)
+
+-- a text is empty where it has no byte
+pub empty_chars : (bs told : List ℕ) → chars bs ≡ told → eqb (length bs) 0 ≡ true → told ≡ []
+empty_chars [] told e none = sym e ∙ chars-nil
+empty_chars (b ∷ bs) told e none = absurd (let e : length (b ∷ bs) ≡ 0 = eqb-true (length (b ∷ bs)) 0 none in cc)
+
+pub some_chars : (bs told : List ℕ) → IsUtf8 bs → chars bs ≡ told → eqb (length bs) 0 ≡ false → told ≢ []
+some_chars bs told utf8 e some none = eqb-false (length bs) 0 some (ap length (bytes_without_chars bs utf8 (e ∙ none)))

@@ -11,7 +11,8 @@ use Rattle.rp_proxy.proofs.LaterRecords.{declarations-later, held-later}
 use Rattle.rp_run.specs.View.{IsReadInto}
 
 -- the records stay those that were read
-pub IsReadInto-later : (names later : List (List ℕ)) → GrowsTo names later → (d : Placed) → IsReadInto names d → IsReadInto later d
+pub IsReadInto-later : (names later : List (List ℕ)) → GrowsTo names later → (d : Placed) → IsReadInto names d
+    → IsReadInto later d
 IsReadInto-later names later grown d read =
     let same = declarations-later names later grown d read.held in
     record {

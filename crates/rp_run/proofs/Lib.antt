@@ -1,13 +1,21 @@
 mod Ascii
-mod Scripts
+mod Asked
+mod Blocks
+mod Compiling
 mod Ended
+mod FewPairs
 mod FirstForms
-mod Ids
 mod Later
+mod LaterTrees
+mod OneFault
+mod Passing
 mod Pieces
+mod ReadAll
 mod Reasons
+mod RunSteps
 mod Said
 mod Sayings
-pub mod Taken
+mod Trails
+mod Whos
 pub mod Determined
-mod OneFault
+pub mod Taken

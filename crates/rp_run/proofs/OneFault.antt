@@ -1,5 +1,6 @@
 -- Bytes that are no program are at one fault.
-use Rattle.std.proofs.Common.{◌≡◌, refl, sym, ap, ◌∙◌, subst, ℕ, zero, suc, ◌+◌, ◌≤◌, cond, List, [], ◌∷◌, ◌++◌, length, map, chars, take, drop, replicate, Result, Ok, Err, arith, IsUtf8}
+use Rattle.std.proofs.Common.{◌≡◌, refl, sym, ap, ◌∙◌, subst, ℕ, zero, suc, ◌+◌, ◌≤◌, cond, List, [], ◌∷◌, ◌++◌, length}
+use Rattle.std.proofs.Common.{map, chars, take, drop, replicate, Result, Ok, Err, arith, IsUtf8}
 use Rattle.std.specs.List.{count_by}
 use Rattle.std.proofs.lemmas.List.{length-append, length-map, length-take-le, map-append, take-append-drop, take-map}
 use Rattle.std.proofs.Math.Seq.{drop-append_seam, take-append_seam}
@@ -35,7 +36,9 @@ use Rattle.rp_tree.specs.StatementTrees.{Stmts}
 -- ---- fronts that are good, under another numbering of the names
 
 module _ (f : Name → Name) where
-  rest_kept : (n : ℕ) → renamed_tokens f (replicate n (plain kind.Dedent) ++ plain kind.End ∷ []) ≡ replicate n (plain kind.Dedent) ++ plain kind.End ∷ []
+  rest_kept : (n : ℕ)
+      → renamed_tokens f (replicate n (plain kind.Dedent) ++ plain kind.End ∷ []) ≡ replicate n (plain kind.Dedent)
+      ++ plain kind.End ∷ []
   rest_kept zero = refl
   rest_kept (suc n) = λ i. plain kind.Dedent ∷ rest_kept n i
 
@@ -63,7 +66,8 @@ module _ (f : Name → Name) where
   line_kept (suc n) (t ∷ ts) = line_kept n ts
 
   closed_kept : (front : Tokens) (n : ℕ) → renamed_tokens f (front ++ ending n) ≡ renamed_tokens f front ++ ending n
-  closed_kept front n = map-append (renamed_token f) front (ending n) ∙ ap (λ ts. renamed_tokens f front ++ ts) (ending_kept n)
+  closed_kept front n = map-append (renamed_token f) front (ending n)
+      ∙ ap (λ ts. renamed_tokens f front ++ ts) (ending_kept n)
 
   module _ (apart : IsInjective f) where
     good_there : (front : Tokens) → IsGood front → IsGood (renamed_tokens f front)
@@ -71,20 +75,31 @@ module _ (f : Name → Name) where
       dedents = g.dedents;
       enough = subst (λ n. g.dedents ≤ n) (sym (indents_kept front)) g.enough;
       tree = renamed_stmts f g.tree;
-      spelled = subst (Spells (renamed_stmts f g.tree)) (closed_kept front g.dedents) (spells_there f apart g.tree (front ++ ending g.dedents) g.spelled);
+      spelled =
+          subst (Spells (renamed_stmts f g.tree)) (closed_kept front g.dedents) (spells_there f apart g.tree (front
+          ++ ending g.dedents) g.spelled);
     }
 
     good_before : (front : Tokens) → IsGood (renamed_tokens f front) → IsGood front
     good_before front g =
-        let back = spells_before f apart g.tree (front ++ ending g.dedents) (subst (Spells g.tree) (sym (closed_kept front g.dedents)) g.spelled) in
-        record { dedents = g.dedents; enough = subst (λ n. g.dedents ≤ n) (indents_kept front) g.enough; tree = back.0; spelled = back.1 }
+        let back = spells_before f apart g.tree (front
+        ++ ending g.dedents) (subst (Spells g.tree) (sym (closed_kept front g.dedents)) g.spelled) in
+        record {
+          dedents = g.dedents;
+          enough = subst (λ n. g.dedents ≤ n) (indents_kept front) g.enough;
+          tree =
+              back.0;
+          spelled = back.1;
+        }
 
 -- two numberings of the same tokens: the longest good front of one is no longer than that of the other
-module _ (f g : Name → Name) (apart : IsInjective f) (other_apart : IsInjective g) (ts us : Tokens) (same : renamed_tokens f ts ≡ renamed_tokens g us) where
+module _ (f g : Name → Name) (apart : IsInjective f) (other_apart : IsInjective g) (ts us : Tokens)
+    (same : renamed_tokens f ts ≡ renamed_tokens g us) where
   as_long : length ts ≡ length us
   as_long = sym (length-map ts (renamed_token f)) ∙ ap length same ∙ length-map us (renamed_token g)
 
-  no_longer : (front rest other_front other_rest : Tokens) → IsLongestGood front rest ts → IsLongestGood other_front other_rest us → length front ≤ length other_front
+  no_longer : (front rest other_front other_rest : Tokens) → IsLongestGood front rest ts
+      → IsLongestGood other_front other_rest us → length front ≤ length other_front
   no_longer front rest other_front other_rest x y =
       let n = length front in
       let parts : length ts ≡ n + length rest = ap length x.parts ∙ length-append front rest in
@@ -92,14 +107,17 @@ module _ (f g : Name → Name) (apart : IsInjective f) (other_apart : IsInjectiv
       let front_is : renamed_tokens f front ≡ renamed_tokens g (take n us) =
       ap (renamed_tokens f) (sym (take-append_seam front rest) ∙ ap (take n) (sym x.parts))
       ∙ sym (take-map (renamed_token f) n ts) ∙ ap (take n) same ∙ take-map (renamed_token g) n us in
-      let good : IsGood (take n us) = good_before g other_apart (take n us) (subst IsGood front_is (good_there f apart front x.good)) in
+      let good : IsGood (take n us) =
+      good_before g other_apart (take n us) (subst IsGood front_is (good_there f apart front x.good)) in
       let most = y.longest (take n us) (drop n us) (sym (take-append-drop n us)) good in
       let counted = length-take-le n us within in
       omega (arith, most, counted)
 
 -- behind it stands a token of one line
-one_place : (f g : Name → Name) → IsInjective f → IsInjective g → (ts us : Tokens) → renamed_tokens f ts ≡ renamed_tokens g us
-    → (front rest other_front other_rest : Tokens) → IsLongestGood front rest ts → IsLongestGood other_front other_rest us → line_at rest ≡ line_at other_rest
+one_place : (f g : Name → Name) → IsInjective f → IsInjective g → (ts us : Tokens)
+    → renamed_tokens f ts ≡ renamed_tokens g us
+    → (front rest other_front other_rest : Tokens) → IsLongestGood front rest ts
+    → IsLongestGood other_front other_rest us → line_at rest ≡ line_at other_rest
 one_place f g apart other_apart ts us same front rest other_front other_rest x y =
     let here = no_longer f g apart other_apart ts us same front rest other_front other_rest x y in
     let there = no_longer g f other_apart apart us ts (sym same) other_front other_rest front rest y x in
@@ -119,16 +137,19 @@ one_line bytes m n x y =
     tokens_told x.words all (front_stands x.words y.words) x.tokens x.are.held x.are.spelled ∙ ap (map _) items
     ∙ sym (tokens_told y.words all (end_stands x.words y.words) y.tokens y.are.held y.are.spelled) in
     x.at
-    ∙ one_place (renumbered x.words all) (renumbered y.words all) (injective x.words all x.are.distinct) (injective y.words all y.are.distinct) x.tokens y.tokens same
+    ∙ one_place (renumbered x.words all) (renumbered y.words all) (injective x.words all x.are.distinct)
+    (injective y.words all y.are.distinct) x.tokens y.tokens same
     x.front x.rest y.front y.rest x.longest y.longest
     ∙ sym y.at
 
 -- ---- faults of programs
 
-pub no_faulty_program : (bytes : List ℕ) (tree : Stmts (List ℕ)) (f : ProgramFault) → IsProgram bytes tree → IsFault bytes f → ⊥
+pub no_faulty_program : (bytes : List ℕ) (tree : Stmts (List ℕ)) (f : ProgramFault) → IsProgram bytes tree
+    → IsFault bytes f → ⊥
 no_faulty_program bytes tree f is wrong = subst (IsFault bytes) (no_fault bytes tree is f (λ _. wrong)) wrong
 
-token_fault : (bytes : List ℕ) (f : TokenFault) → IsFault bytes (fault.Token f) → IsUtf8 bytes × (tokens_of (chars bytes) ≡ Err f)
+token_fault : (bytes : List ℕ) (f : TokenFault) → IsFault bytes (fault.Token f) → IsUtf8 bytes
+    × (tokens_of (chars bytes) ≡ Err f)
 token_fault bytes token.Memory x = absurd x
 token_fault bytes f x = x
 
@@ -138,36 +159,47 @@ one_token_fault r f g x y = let same : ◌≡◌ {A = Result (List Item) TokenFa
 tokens_or_fault : (r : Result (List Item) TokenFault) (is : List Item) (f : TokenFault) → r ≡ Ok is → r ≡ Err f → ⊥
 tokens_or_fault r is f x y = let same : ◌≡◌ {A = Result (List Item) TokenFault} (Ok is) (Err f) = sym x ∙ y in cc
 
-one_format_fault : (r : Result (List Item) MoreFault) (m n : Line) → r ≡ Err (more.Format m) → r ≡ Err (more.Format n) → m ≡ n
-one_format_fault r m n x y = let same : ◌≡◌ {A = Result (List Item) MoreFault} (Err (more.Format m)) (Err (more.Format n)) = sym x ∙ y in cc
+one_format_fault : (r : Result (List Item) MoreFault) (m n : Line) → r ≡ Err (more.Format m) → r ≡ Err (more.Format n)
+    → m ≡ n
+one_format_fault r m n x y =
+    let same : ◌≡◌ {A = Result (List Item) MoreFault} (Err (more.Format m)) (Err (more.Format n)) = sym x ∙ y in cc
 
 one_format : (bytes : List ℕ) (m n : Line) → IsFormatFault bytes m → IsFormatFault bytes n → m ≡ n
-one_format bytes m n x y = one_format_fault (expanded y.given) m n (ap expanded (sym (one_read (chars bytes) x.given y.given x.read y.read)) ∙ x.wrong) y.wrong
+one_format bytes m n x y =
+    one_format_fault (expanded y.given) m n (ap expanded (sym (one_read (chars bytes) x.given y.given x.read y.read))
+    ∙ x.wrong) y.wrong
 
-items_or_fault : (bytes : List ℕ) (line : Line) (items : List Item) → IsFormatFault bytes line → HasItems bytes items → ⊥
+items_or_fault : (bytes : List ℕ) (line : Line) (items : List Item) → IsFormatFault bytes line → HasItems bytes items
+    → ⊥
 items_or_fault bytes line items x has =
     let same : ◌≡◌ {A = Result (List Item) MoreFault} (Err (more.Format line)) (Ok items) =
     sym x.wrong ∙ ap expanded (one_read (chars bytes) x.given has.given x.read has.read) ∙ has.expansion in
     cc
 
 pub one_fault : (bytes : List ℕ) (f g : ProgramFault) → IsFault bytes f → IsFault bytes g → f ≡ g
-one_fault bytes (fault.NotUtf8 m) (fault.NotUtf8 n) x y = λ i. fault.NotUtf8 ((sym (utf8_valid_len-IsValidUpTo bytes m x.1) ∙ utf8_valid_len-IsValidUpTo bytes n y.1) i)
+one_fault bytes (fault.NotUtf8 m) (fault.NotUtf8 n) x y = λ i.
+    fault.NotUtf8 ((sym (utf8_valid_len-IsValidUpTo bytes m x.1) ∙ utf8_valid_len-IsValidUpTo bytes n y.1) i)
 one_fault bytes (fault.NotUtf8 m) (fault.Token g) x y = absurd (x.0 (token_fault bytes g y).0)
 one_fault bytes (fault.NotUtf8 m) (fault.Format n) x y = absurd (x.0 y.text)
 one_fault bytes (fault.NotUtf8 m) (fault.Syntax n) x y = absurd (x.0 y.has.text)
 one_fault bytes (fault.NotUtf8 m) fault.Memory x y = absurd y
 one_fault bytes (fault.Token f) (fault.NotUtf8 n) x y = absurd (y.0 (token_fault bytes f x).0)
-one_fault bytes (fault.Token f) (fault.Token g) x y = λ i. fault.Token (one_token_fault (tokens_of (chars bytes)) f g (token_fault bytes f x).1 (token_fault bytes g y).1 i)
-one_fault bytes (fault.Token f) (fault.Format n) x y = absurd (tokens_or_fault (tokens_of (chars bytes)) _ f y.read (token_fault bytes f x).1)
-one_fault bytes (fault.Token f) (fault.Syntax n) x y = absurd (tokens_or_fault (tokens_of (chars bytes)) _ f y.has.read (token_fault bytes f x).1)
+one_fault bytes (fault.Token f) (fault.Token g) x y = λ i.
+    fault.Token (one_token_fault (tokens_of (chars bytes)) f g (token_fault bytes f x).1 (token_fault bytes g y).1 i)
+one_fault bytes (fault.Token f) (fault.Format n) x y =
+    absurd (tokens_or_fault (tokens_of (chars bytes)) _ f y.read (token_fault bytes f x).1)
+one_fault bytes (fault.Token f) (fault.Syntax n) x y =
+    absurd (tokens_or_fault (tokens_of (chars bytes)) _ f y.has.read (token_fault bytes f x).1)
 one_fault bytes (fault.Token f) fault.Memory x y = absurd y
 one_fault bytes (fault.Format m) (fault.NotUtf8 n) x y = absurd (y.0 x.text)
-one_fault bytes (fault.Format m) (fault.Token g) x y = absurd (tokens_or_fault (tokens_of (chars bytes)) _ g x.read (token_fault bytes g y).1)
+one_fault bytes (fault.Format m) (fault.Token g) x y =
+    absurd (tokens_or_fault (tokens_of (chars bytes)) _ g x.read (token_fault bytes g y).1)
 one_fault bytes (fault.Format m) (fault.Format n) x y = λ i. fault.Format (one_format bytes m n x y i)
 one_fault bytes (fault.Format m) (fault.Syntax n) x y = absurd (items_or_fault bytes m y.items x y.has)
 one_fault bytes (fault.Format m) fault.Memory x y = absurd y
 one_fault bytes (fault.Syntax m) (fault.NotUtf8 n) x y = absurd (y.0 x.has.text)
-one_fault bytes (fault.Syntax m) (fault.Token g) x y = absurd (tokens_or_fault (tokens_of (chars bytes)) _ g x.has.read (token_fault bytes g y).1)
+one_fault bytes (fault.Syntax m) (fault.Token g) x y =
+    absurd (tokens_or_fault (tokens_of (chars bytes)) _ g x.has.read (token_fault bytes g y).1)
 one_fault bytes (fault.Syntax m) (fault.Format n) x y = absurd (items_or_fault bytes n x.items y x.has)
 one_fault bytes (fault.Syntax m) (fault.Syntax n) x y = λ i. fault.Syntax (one_line bytes m n x y i)
 one_fault bytes (fault.Syntax m) fault.Memory x y = absurd y

@@ -1,6 +1,7 @@
 -- What is said, whether a step answers or refuses.
-use Rattle.std.proofs.Common.{◌≡◌, ◌≢◌, ◌≤◌, ℕ, List, Option, Some, None, Result, Ok, Err, IfOk, MatchOption, arith, refl}
-use Rattle.rp_run.specs.Command.{Command, usage}
+use Rattle.std.proofs.Common.{◌≡◌, ◌≢◌, ◌≤◌, ℕ, List, Option, Some, None, Result, Ok, Err, IfOk, MatchOption, arith}
+use Rattle.std.proofs.Common.{refl}
+use Rattle.rp_words.specs.Command.{Command, usage}
 use Rattle.rp_run.specs.Headline.{IsAnswer, IsStatus}
 use Rattle.rp_run.specs.Refusals.{OnAnswer, OnRefusal, said, said_at}
 use Rattle.rp_run.specs.Steps.{IsStatusOf}
@@ -28,20 +29,26 @@ says_more P Q (Err stop) more says = by stop says
     by Failed says = tt
     by Memory says = tt
 
-answers : (command : Option Command) (text : List ℕ) (status : ℕ) → IsStatusOf command text status → IsStatus status × IsAnswer status
+answers : (command : Option Command) (text : List ℕ) (status : ℕ) → IsStatusOf command text status → IsStatus status
+    × IsAnswer status
 answers None text status is = let two = is.1 in (omega arith, (omega arith, omega arith, omega arith))
 answers (Some command) text status is = (is.0, is.1)
 
-uses : (command : Option Command) (text : List ℕ) (status : ℕ) → IsStatusOf command text status → MatchOption command ((text ≡ usage) × (status ≡ 2)) (λ _. status ≢ 2)
+uses : (command : Option Command) (text : List ℕ) (status : ℕ) → IsStatusOf command text status
+    → MatchOption command ((text ≡ usage) × (status ≡ 2)) (λ _. status ≢ 2)
 uses None text status is = is
 uses (Some command) text status is = is.2
 
-pub status_ok : (command : Option Command) (r : Result Answer Stop) → OnAnswer r (λ a. IsStatusOf command a.text a.status.0) → IfOk (said r) (λ a. IsStatus a.status.0 × IsAnswer a.status.0)
+pub status_ok : (command : Option Command) (r : Result Answer Stop)
+    → OnAnswer r (λ a. IsStatusOf command a.text a.status.0)
+    → IfOk (said r) (λ a. IsStatus a.status.0 × IsAnswer a.status.0)
 status_ok command r says =
     says_ok r (λ a. IsStatus a.status.0 × IsAnswer a.status.0)
-    (says_more (λ a. IsStatusOf command a.text a.status.0) (λ a. IsStatus a.status.0 × IsAnswer a.status.0) r (λ a. answers command a.text a.status.0) says)
+    (says_more (λ a. IsStatusOf command a.text a.status.0) (λ a. IsStatus a.status.0
+    × IsAnswer a.status.0) r (λ a. answers command a.text a.status.0) says)
 
-pub usage_ok : (command : Option Command) (r : Result Answer Stop) → OnAnswer r (λ a. IsStatusOf command a.text a.status.0)
+pub usage_ok : (command : Option Command) (r : Result Answer Stop)
+    → OnAnswer r (λ a. IsStatusOf command a.text a.status.0)
     → IfOk (said r) (λ a. MatchOption command ((a.text ≡ usage) × (a.status.0 ≡ 2)) (λ _. a.status.0 ≢ 2))
 usage_ok command r says =
     let P : Answer → Type 0 = λ a. MatchOption command ((a.text ≡ usage) × (a.status.0 ≡ 2)) (λ _. a.status.0 ≢ 2) in

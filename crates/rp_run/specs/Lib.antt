@@ -1,8 +1,9 @@
-pub mod Command
 pub mod Contents
+pub mod FirstSteps
 pub mod Headline
 pub mod Output
 pub mod Refusals
+pub mod SetUp
 pub mod Steps
 pub mod Told
 pub mod View

@@ -1,16 +1,22 @@
 -- What a command writes, and its status.
-use Rattle.std.specs.Prelude.{ℕ, Bool, List, [], ◌∷◌, ◌++◌, codes, flat_map, if◌then◌else◌, Result, Ok, Err}
+use Rattle.std.specs.Prelude.{ℕ, suc, ◌-◌, nat_eq, Bool, List, [], ◌∷◌, ◌++◌, length, codes, flat_map, slice_get}
+use Rattle.std.specs.Prelude.{if◌then◌else◌, Option, Some, Result, Ok, Err}
 use Rattle.std.specs.Fmt.{decimal}
+use Rattle.std.specs.List.{list_any}
 use Rattle.std.specs.Option.{option_map_or}
 use Rattle.rp_base.specs.declared.value.Value.{Value}
 use Rattle.rp_base.specs.Kind.{kind_name}
 use Rattle.rp_decl.specs.Declares.{Refusal, version, shape, permission, class, group, role}
 use Rattle.rp_decl.specs.Faults.{line_of}
 use Rattle.rp_decl.specs.Records.{Declarations}
-use Rattle.rp_interact.specs.Why.{Reason, public, own, role as by_role, group as by_group, group_role, nothing, has_all, is_yes, why_of}
+use Rattle.rp_interact.specs.Why.{Reason, public, own, role as by_role, group as by_group, group_role, nothing, has_all}
+use Rattle.rp_interact.specs.Why.{is_yes, why_of}
 use Rattle.rp_machine.specs.Meaning as first
 use Rattle.rp_meaning.specs.Sessions.{SessionEnd, well, cut_off}
 use Rattle.rp_ops.specs.Outcome.{raised, no_step, no_cell}
+use Rattle.rp_trail.specs.Entry.{Entry}
+use Rattle.rp_trail.specs.Line.{line_of as entry_line}
+use Rattle.rp_words.specs.Command.{Pair, Run}
 
 -- ---- sessions
 
@@ -28,7 +34,8 @@ end_line (cut_off no_cell) = codes "end stopped cells\n"
 
 -- the block of a session: its number and principals, what it printed, and how it ended
 abbrev pub session_block : ℕ → List ℕ → List ℕ → SessionEnd → List ℕ
-session_block number who printed end = codes "session " ++ decimal number ++ codes " " ++ who ++ codes "\n" ++ printed ++ end_line end
+session_block number who printed end = codes "session " ++ decimal number ++ codes " " ++ who ++ codes "\n" ++ printed
+    ++ end_line end
 
 -- 0 where the session ended well, 1 where an exception ended it, 5 where it was stopped
 abbrev pub end_status : SessionEnd → ℕ
@@ -36,6 +43,42 @@ end_status well = 0
 end_status (cut_off (raised r)) = 1
 end_status (cut_off no_step) = 5
 end_status (cut_off no_cell) = 5
+
+-- what a session that has ended came to: its end, and what it printed
+abbrev pub Finished : Type 0
+Finished = SessionEnd × List ℕ
+
+abbrev pub as_told : Finished → Option SessionEnd × List ℕ
+as_told f = (Some f.0, f.1)
+
+-- the blocks of the sessions of some pairs, of which the first has this number
+abbrev pub session_blocks : ℕ → List Pair → List Finished → List ℕ
+session_blocks k (p ∷ ps) (f ∷ fs) = session_block k p.who f.1 f.0 ++ session_blocks (suc k) ps fs
+session_blocks k _ _ = []
+
+-- the principals of the session of a number, as in the words
+abbrev pub who_in : List Pair → ℕ → List ℕ
+who_in pairs session = option_map_or (λ (p : Pair). p.who) (slice_get pairs (session - 1)) []
+
+-- the lines of some decisions, of which the first stands at this place in the trail
+abbrev pub entry_lines : List Pair → ℕ → List Entry → List ℕ
+entry_lines pairs i [] = []
+entry_lines pairs i (e ∷ es) = entry_line i (who_in pairs e.session) e ++ entry_lines pairs (suc i) es
+
+-- the trail: how many decisions there were, and a line for each
+abbrev pub trail_text : List Pair → List Entry → List ℕ
+trail_text pairs log = codes "trail " ++ decimal (length log) ++ codes "\n" ++ entry_lines pairs 0 log
+
+-- the block of each session in order, and then the trail, where it is asked for
+abbrev pub run_text : Run → List Finished → List Entry → List ℕ
+run_text r sessions log = session_blocks 1 r.pairs sessions ++ (if r.trail then trail_text r.pairs log else [])
+
+abbrev pub some_ends : ℕ → List Finished → Bool
+some_ends status sessions = list_any (λ (f : Finished). nat_eq (end_status f.0) status) sessions
+
+-- 5 where some session was stopped, else 1 where an exception ended some, else 0
+abbrev pub run_status : List Finished → ℕ
+run_status sessions = if some_ends 5 sessions then 5 else (if some_ends 1 sessions then 1 else 0)
 
 -- the end of a script of the first forms
 abbrev pub ended : Result Value first.End → SessionEnd
@@ -80,7 +123,8 @@ principal_line d asked id = option_map_or (reason_line id) (why_of d id asked) [
 
 -- a line for each principal, and whether they have the permission together
 abbrev pub may_text : Declarations → List (List ℕ) → List ℕ → List ℕ
-may_text d ids asked = flat_map (principal_line d asked) ids ++ codes "may " ++ yes_or_no (has_all d ids asked) ++ codes "\n"
+may_text d ids asked = flat_map (principal_line d asked) ids ++ codes "may " ++ yes_or_no (has_all d ids asked)
+    ++ codes "\n"
 
 abbrev pub may_status : Declarations → List (List ℕ) → List ℕ → ℕ
 may_status d ids asked = if has_all d ids asked then 0 else 1

@@ -1,11 +1,13 @@
 -- What a step of a command says, and where it refuses.
-use Rattle.std.specs.Prelude.{◌≡◌, ◌+◌, ℕ, false, List, Option, Some, IfSome, Result, Ok, Err}
+use Rattle.std.specs.Prelude.{◌≡◌, ◌≢◌, ◌+◌, ℕ, false, List, [], map, Option, Some, None, IfSome, Result, Ok, Err}
 use Rattle.rp_decl.specs.Records.{Declarations}
 use Rattle.rp_decl.specs.View.{Placed, declarations_view}
 use Rattle.rp_decl.specs.Word.{is_among}
 use Rattle.rp_interact.specs.Why.{first_unknown}
-use Rattle.rp_run.specs.Command.{Run}
-use Rattle.rp_run.specs.Told.{IsRead, IsShort, IsTooLong, ToldRefused, ToldRun, ToldUnread, script_prefix, too_long_line, undeclared_line, unknown_line}
+use Rattle.rp_run.specs.Told.{Compiles, IsRead, IsShort, IsTooLong, ToldRefusedRun, ToldUnread, all_ids, first_too_long}
+use Rattle.rp_run.specs.Told.{too_long_line, undeclared_line, unknown_line}
+use Rattle.rp_tree.specs.StatementTrees.{Stmts}
+use Rattle.rp_words.specs.Command.{Pair, Run}
 use Rattle.rp_run.specs.declared.answer.Answer.{Answer}
 use Rattle.rp_run.specs.declared.stop.Silence.{Silence}
 use Rattle.rp_run.specs.declared.stop.Silence.TheVariants as silence
@@ -50,7 +52,7 @@ IsLong contents path = IfSome contents (λ of. IsTooLong (of path))
 abbrev pub RefusesLong : Option (List ℕ → List ℕ) → List ℕ → Answer → Type 0
 RefusesLong contents path a = IsLong contents path × (a.text ≡ too_long_line path) × (a.status.0 ≡ 9)
 
--- ---- declarations, principals, permissions and scripts
+-- ---- declarations, principals and permissions
 
 -- the file at the path declares these records
 abbrev pub TellsRead : List ℕ → Option (List ℕ → List ℕ) → Declarations → Type 0
@@ -63,16 +65,33 @@ RefusesUnread path contents a = IfSome contents (λ of. ToldUnread path (of path
 -- one of the ids is that of no principal
 abbrev pub RefusesUnknown : Placed → List (List ℕ) → Answer → Type 0
 RefusesUnknown d ids a =
-    (id : List ℕ) × (((names : List (List ℕ)) → first_unknown (declarations_view names d) ids ≡ Some id) × (a.text ≡ unknown_line id) × (a.status.0 ≡ 3))
+    (id : List ℕ) × (((names : List (List ℕ)) → first_unknown (declarations_view names d) ids ≡ Some id)
+    × (a.text ≡ unknown_line id) × (a.status.0 ≡ 3))
 
 -- the permission is not declared
 abbrev pub RefusesUndeclared : List (List ℕ) → List ℕ → Answer → Type 0
-RefusesUndeclared permissions id a = (is_among permissions id ≡ false) × (a.text ≡ undeclared_line id) × (a.status.0 ≡ 3)
+RefusesUndeclared permissions id a = (is_among permissions id ≡ false) × (a.text ≡ undeclared_line id)
+    × (a.status.0 ≡ 3)
 
 -- declarations that are read are not those of a run of these ids
 abbrev pub RefusesRun : Declarations → List (List ℕ) → Answer → Type 0
-RefusesRun d ids a = (r : Run) (of : List ℕ → List ℕ) → r.ids ≡ ids → IsRead (of r.declarations) d → ToldRun r of a.text a.status.0
+RefusesRun d ids a = (r : Run) (of : List ℕ → List ℕ) → all_ids r.pairs ≡ ids → IsRead (of r.declarations) d
+    → ToldRefusedRun r of a.text a.status.0
 
--- the bytes are no program, or offences stand against it
-abbrev pub RefusesScript : List ℕ → Answer → Type 0
-RefusesScript bytes a = ToldRefused script_prefix bytes a.text × (a.status.0 ≡ 4)
+-- ---- scripts
+
+-- the scripts of the pairs are short, and these are their bytes
+abbrev pub AreWhole : Option (List ℕ → List ℕ) → List Pair → List (List ℕ) → Type 0
+AreWhole contents pairs scripts = IfSome contents (λ of. (scripts ≡ map (λ (p : Pair). of p.path) pairs)
+    × (first_too_long of pairs ≡ None))
+
+-- one of them is too long
+abbrev pub RefusesTooLong : Option (List ℕ → List ℕ) → List Pair → Answer → Type 0
+RefusesTooLong contents pairs a =
+    (path : List ℕ) × (IfSome contents (λ of. first_too_long of pairs ≡ Some path) × (a.text ≡ too_long_line path)
+    × (a.status.0 ≡ 9))
+
+-- some of the scripts are no programs, or offences stand against them
+abbrev pub RefusesScripts : List (List ℕ) → Answer → Type 0
+RefusesScripts scripts a = (trees : List (Stmts (List ℕ)))
+    × (Compiles 1 scripts trees a.text × (a.text ≢ []) × (a.status.0 ≡ 4))

@@ -6,27 +6,16 @@ ghost use Rattle.std.specs.Fmt.{decimal};
 ghost use Rattle.std.specs.List.{list_all};
 ghost use Rattle.rp_base.specs.Kind.{kind_name};
 ghost use Rattle.rp_script.specs.Refusal.{refusal_lines};
-ghost use Rattle.rp_run.specs.Command.{usage};
 ghost use Rattle.rp_run.specs.Output.{detail, end_line, end_status, session_block};
+ghost use Rattle.rp_run.specs.Told.{not_yet_line, script_prefix};
 ghost use Rattle.rp_session.specs.View.{end_view};
+ghost use Rattle.rp_words.specs.Command.{usage};
 
 use rp_base::{Memory, Names, Printed, Raised, Status, Text};
 use rp_script::{Refusal, refusal_text};
 use rp_session::SessionEnd;
+use rp_words::USAGE;
 use std::alloc::Global;
-
-/// What the program says where its words give no command.
-pub const USAGE: &str =
-    "usage: rpy run DECL WHO:SCRIPT... [--steps N] [--cells N] [--turns LIST] [--trail]
-       rpy check SCRIPT
-       rpy show SCRIPT
-       rpy may DECL WHO PERMISSION
-       rpy large N
-       rpy audit DECL TRAIL
-       rpy at DECL PLACES WHO PERMISSION OBJECT
-       rpy reach DECL PLACES WHO PERMISSION
-       rpy console DECL INPUT WHO...
-";
 
 /// What the program says, and the status with which it then ends.
 #[derive(Drop)]
@@ -110,11 +99,10 @@ impl Answer {
         }
     }
 
-    /// The block of a session: its number and principals, what it printed, and how it ended. It is
-    /// refused only for want of memory.
+    /// The answer of one session: its block, and the status of its end. It is refused only for want of memory.
     pub fn session(
         alloc: Global,
-        number: u32,
+        number: usize,
         who: &Text,
         printed: &str,
         end: &SessionEnd,
@@ -124,22 +112,62 @@ impl Answer {
         ensures status { IfOk result (λ a. a.status.0 ≡ end_status (end_view end.now)) }
     {
         let mut text = Printed::new(alloc);
-        add_ascii(&mut text, "session ")?;
-        add_number(alloc, &mut text, number)?;
-        add_ascii(&mut text, " ")?;
-        text.add(who.as_str())?;
-        add_ascii(&mut text, "\n")?;
-        text.add(printed)?;
-        add_end(&mut text, end)?;
+        add_session(alloc, &mut text, number, who, printed, end)?;
         Ok(Answer {
             text,
             status: end_status(end),
         })
     }
+
+    /// The answer to a script of a run that comes to a form which does not run yet. It is refused only for want of
+    /// memory.
+    pub fn not_yet(alloc: Global, number: u32) -> Result<Answer, Memory>
+        ensures { IfOk result (λ a. (a.text ≡ not_yet_line number) × (a.status.0 ≡ 4)) }
+    {
+        let mut text = script_prefix(alloc, number as usize)?;
+        add_ascii(&mut text, "not yet")?;
+        add_ascii(&mut text, "\n")?;
+        Ok(Answer {
+            text,
+            status: Status(4),
+        })
+    }
+}
+
+/// What stands before each line about the script of a number of a run.
+pub fn script_prefix(alloc: Global, number: usize) -> Result<Printed, Memory>
+    ensures { IfOk result (λ text. text ≡ script_prefix number) }
+{
+    let mut text = Printed::new(alloc);
+    add_ascii(&mut text, "script ")?;
+    add_number(alloc, &mut text, number)?;
+    add_ascii(&mut text, ": ")?;
+    Ok(text)
+}
+
+/// Appends the block of a session: its number and principals, what it printed, and how it ended.
+pub fn add_session(
+    alloc: Global,
+    text: &mut Printed,
+    number: usize,
+    who: &Text,
+    printed: &str,
+    end: &SessionEnd,
+) -> Result<(), Memory>
+    ensures { OnOk result (text.new ≡ text.old
+        ++ session_block number who.now (chars printed.now) (end_view end.now)) }
+{
+    add_ascii(text, "session ")?;
+    add_number(alloc, text, number)?;
+    add_ascii(text, " ")?;
+    text.add(who.as_str())?;
+    add_ascii(text, "\n")?;
+    text.add(printed)?;
+    add_end(text, end)
 }
 
 /// 0 where a session ended well, 1 where an exception ended it, 5 where it was stopped.
-fn end_status(end: &SessionEnd) -> Status
+pub fn end_status(end: &SessionEnd) -> Status
     ensures { result.0 ≡ end_status (end_view end.now) }
 {
     match end {
@@ -185,7 +213,7 @@ fn add_detail(text: &mut Printed, told: &Text) -> Result<(), Memory>
 }
 
 /// Appends a number in decimal.
-fn add_number(alloc: Global, text: &mut Printed, number: u32) -> Result<(), Memory>
+pub fn add_number(alloc: Global, text: &mut Printed, number: usize) -> Result<(), Memory>
     ensures { OnOk result (text.new ≡ text.old ++ decimal number) }
 {
     let digits = format!(in alloc; "{number}")?;
@@ -193,7 +221,7 @@ fn add_number(alloc: Global, text: &mut Printed, number: u32) -> Result<(), Memo
 }
 
 /// Appends an ASCII text, whose characters are its bytes.
-pub(crate) fn add_ascii(text: &mut Printed, piece: &str) -> Result<(), Memory>
+pub fn add_ascii(text: &mut Printed, piece: &str) -> Result<(), Memory>
     requires { list_all is_ascii piece.now ≡ true }
     ensures { OnOk result (text.new ≡ text.old ++ piece.now) }
 {

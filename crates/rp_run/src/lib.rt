@@ -3,16 +3,19 @@
 
 mod admitting;
 mod answer;
-mod command;
 mod declaring;
+mod first_run;
 mod keying;
+mod large;
 mod playing;
 mod program;
 mod reading;
+mod ready;
 mod script_answer;
+mod scripts;
+mod sessions;
 mod stop;
 mod telling;
 mod writing;
 
-pub use answer::USAGE;
 pub use program::run;

@@ -2,20 +2,21 @@
 
 ghost use Rattle.std.specs.Prelude.{◌≡◌, ◌≢◌, ◌⊎◌, ◌<◌, ◌↔◌, map, string_bytes, IfOk, IfSome, MatchOption, None, OnOk};
 ghost use Rattle.std.specs.Prelude.{IsErrOf};
-ghost use Rattle.rp_run.specs.Command.{command_of, usage};
 ghost use Rattle.rp_run.specs.Headline.{IsAnswer, IsStatus, Writes, TellsWhole, TellsFront, BeginsNamed, FailsAtNamed};
 ghost use Rattle.rp_run.specs.Refusals.{OnAnswer};
 ghost use Rattle.rp_run.specs.Steps.{IsStatusOf};
 ghost use Rattle.rp_run.specs.Told.{Told};
+ghost use Rattle.rp_words.specs.Command.{command_of, usage};
 
 use crate::answer::Answer;
-use crate::command::Command;
+use crate::large::answer_large;
 use crate::playing::answer_run;
 use crate::script_answer::answer_script;
 use crate::stop::{Silence, Stop, said};
 use crate::telling::answer_may;
 use crate::writing::write_text;
 use rp_base::{Failed, Files, Sink, Status};
+use rp_words::{Command, WordsFault, read_words};
 use std::alloc::Global;
 
 /// Runs the command that the words give, and answers the status of the program.
@@ -113,10 +114,12 @@ fn obey<F: Files>(alloc: Global, words: &[String], files: &mut F) -> Result<Answ
         (F.last_path files.new) }
     ensures memory { IsErrOf result Stop.Memory → F.faults files.new ≡ 0 }
 {
-    match Command::read(alloc, words)? {
-        None => Ok(Answer::usage(alloc)?),
-        Some(Command::Run(run)) => answer_run(alloc, &run, files),
-        Some(Command::Script(question, path)) => answer_script(alloc, question, &path, files),
-        Some(Command::May(may)) => answer_may(alloc, &may, files),
+    match read_words(alloc, words) {
+        Ok(Command::Run(run)) => answer_run(alloc, &run, files),
+        Ok(Command::Script(question, path)) => answer_script(alloc, question, &path, files),
+        Ok(Command::May(may)) => answer_may(alloc, &may, files),
+        Ok(Command::Large(_)) => Ok(answer_large(alloc)?),
+        Err(WordsFault::Usage) => Ok(Answer::usage(alloc)?),
+        Err(WordsFault::Memory) => Err(Stop::Memory),
     }
 }

@@ -1,19 +1,19 @@
 //! The commands on one script: whether it is accepted, or why not, and how it runs.
 
 ghost use Rattle.std.specs.Prelude.{◌≡◌, ◌<◌, ℕ, List, Some, IfOk, IfSome, IsErrOf};
-ghost use Rattle.rp_run.specs.Command.{script};
 ghost use Rattle.rp_run.specs.Headline.{BeginsNamed, FailsAtNamed};
 ghost use Rattle.rp_run.specs.Refusals.{OnAnswer};
 ghost use Rattle.rp_run.specs.Steps.{IsCommandStatus};
 ghost use Rattle.rp_run.specs.Told.{IsShort, ToldScript, said_to};
+ghost use Rattle.rp_words.specs.Command.{script};
 
 use crate::answer::Answer;
-use crate::command::Question;
 use crate::keying::{compile_script, read_script};
 use crate::reading::read_short;
 use crate::stop::Stop;
 use rp_base::{Files, Memory, Names, Text};
 use rp_print::source_text;
+use rp_words::Question;
 use std::alloc::Global;
 
 /// What the program says where it is asked about the script at a path: whether it is accepted, or its text as it runs;

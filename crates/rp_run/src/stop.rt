@@ -5,7 +5,7 @@ ghost use Rattle.rp_run.specs.Refusals.{said};
 
 use crate::answer::Answer;
 use rp_base::{Failed, Memory};
-use std::alloc::AllocError;
+use std::alloc::{AllocError, AllocFailed};
 
 /// Why a step of a command has nothing to go on with.
 #[derive(Drop)]
@@ -71,6 +71,17 @@ impl From<std::alloc::AllocError> for Stop {
     ghost from_gives = { λ _ stop. stop ≡ OutOfMemory };
 
     fn from(_: AllocError) -> Self {
+        Stop::Memory
+    }
+}
+
+impl<T: Drop> From<AllocFailed<T>> for Stop {
+    ghost use Rattle.std.specs.Prelude.{◌≡◌};
+    ghost use Rattle.rp_run.specs.declared.stop.Stop.TheVariants.{Memory as OutOfMemory};
+
+    ghost from_gives = { λ _ stop. stop ≡ OutOfMemory };
+
+    fn from(_: AllocFailed<T>) -> Self {
         Stop::Memory
     }
 }

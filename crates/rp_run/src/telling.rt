@@ -6,22 +6,22 @@ ghost use Rattle.rp_base.specs.Same.{same_text};
 ghost use Rattle.rp_decl.specs.InOrder.{AreInOrder};
 ghost use Rattle.rp_decl.specs.View.{declarations_view, group_ids, perm_text, role_ids, text_at};
 ghost use Rattle.rp_interact.specs.Answers.{AnswersAs, reason_view};
-ghost use Rattle.rp_run.specs.Command.{may};
 ghost use Rattle.rp_run.specs.Headline.{BeginsNamed, FailsAtNamed};
 ghost use Rattle.rp_run.specs.Output.{may_status, may_text, reason_line, reason_words, yes_or_no};
 ghost use Rattle.rp_run.specs.Refusals.{OnAnswer, OnRefusal, RefusesUndeclared};
 ghost use Rattle.rp_run.specs.Steps.{IsCommandStatus};
 ghost use Rattle.rp_run.specs.Told.{ToldMay};
-ghost use Rattle.rp_run.specs.View.{may_view};
+ghost use Rattle.rp_words.specs.Command.{may};
+ghost use Rattle.rp_words.specs.View.{may_view};
 
 use crate::admitting::find_principals;
 use crate::answer::{Answer, add_ascii};
-use crate::command::May;
 use crate::declaring::read_declarations;
 use crate::stop::Stop;
 use rp_base::{Files, Memory, Names, Printed, Status, Text};
 use rp_decl::{Decl, Perm};
 use rp_interact::{Interaction, Reason};
+use rp_words::May;
 use std::alloc::Global;
 
 /// What the program says where it is to tell whether principals have a permission.

@@ -1,5 +1,5 @@
 -- A session more.
-use Rattle.std.proofs.Common.{◌≡◌, refl, sym, ap, subst, ◌∙◌, ℕ, zero, suc, ◌+◌, ◌-◌, ◌^◌, ◌<◌, List, [], ◌∷◌, ◌++◌, map, length, slice_get, Option, Some, None, option_map, arith}
+use Rattle.std.proofs.Common.{◌≡◌, refl, sym, ap, subst, ◌∙◌, ℕ, suc, ◌+◌, ◌-◌, ◌^◌, ◌<◌, List, [], ◌∷◌, ◌++◌, map, length, slice_get, Some, None, option_map, arith}
 use Rattle.std.specs.Prelude.{IsSomeAnd}
 use Rattle.std.specs.List.{All}
 use Rattle.std.specs.declared.vec.Vec.{Vec}
@@ -7,7 +7,6 @@ use Rattle.std.specs.declared.alloc.Global.{Global}
 use Rattle.std.proofs.lemmas.List.{length-append, length-map, map-append}
 use Rattle.std.proofs.lemmas.List.Elements.{All-append, All-cons, All-nil}
 use Rattle.rp_base.specs.declared.value.Oid.{Oid}
-use Rattle.rp_base.specs.declared.value.Side.{Side}
 use Rattle.rp_decl.proofs.Growth.{GrowsTo-refl}
 use Rattle.rp_interact.specs.Interacting.{Interacting}
 use Rattle.rp_meaning.specs.Expressions.{empty_slots}
@@ -22,7 +21,7 @@ use Rattle.rp_proxy.specs.declared.world.World.{World}
 use Rattle.rp_step.specs.Moment.{program_at, program_view, run_of}
 use Rattle.rp_step.specs.declared.units.Program.{Program}
 use Rattle.rp_step.specs.declared.units.Units.{Units}
-use Rattle.rp_store.specs.Heap.{Owned, content_at, owner_at}
+use Rattle.rp_store.specs.Heap.{Owned}
 use Rattle.rp_store.specs.Kept.{IsScopeOf}
 use Rattle.rp_store.specs.Object as object
 use Rattle.rp_store.specs.Parts.{IsScope}

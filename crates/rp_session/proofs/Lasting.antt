@@ -8,7 +8,7 @@ use Rattle.rp_decl.specs.View.{Placed, declarations_view, group_ids, group_view,
 use Rattle.rp_decl.specs.declared.records.GroupDecl.{GroupDecl}
 use Rattle.rp_decl.specs.declared.records.RoleDecl.{RoleDecl}
 use Rattle.rp_interact.specs.Answers.{AnswersAs, reason_view, why_at}
-use Rattle.rp_interact.specs.Interacting.{Interacting, has_in}
+use Rattle.rp_interact.specs.Interacting.{Interacting}
 use Rattle.rp_interact.specs.Why as text
 use Rattle.rp_interact.specs.declared.reason.Reason.{Reason}
 use Rattle.rp_interact.specs.declared.reason.Reason.TheVariants.{Public, Own, Role, Group, GroupRole, Nothing}

@@ -1,5 +1,5 @@
 -- A session ran statements in the world, to which it had lent what it runs with.
-use Rattle.std.proofs.Common.{◌≡◌, refl, sym, ap, subst, ◌∙◌, ℕ, ◌+◌, Bool, List, [], Option, Result}
+use Rattle.std.proofs.Common.{◌≡◌, refl, sym, ap, subst, ◌∙◌, ◌+◌, Bool, List, Option, Result}
 use Rattle.rp_access.specs.Comes.{Comes}
 use Rattle.rp_access.specs.Moment.{state_of}
 use Rattle.rp_base.specs.declared.value.OpEnd.{OpEnd}

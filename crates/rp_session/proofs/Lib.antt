@@ -1,4 +1,4 @@
-mod Numbered
+pub mod Numbered
 mod Scripts
 mod Lasting
 mod Settled

@@ -1,5 +1,5 @@
 -- The statements of programs, by their numbers.
-use Rattle.std.proofs.Common.{◌≡◌, refl, sym, ap, ◌∙◌, ℕ, zero, suc, ◌+◌, ◌-◌, ◌<◌, ◌≤◌, nat_eq, if◌then◌else◌, true, false, Bool, List, [], ◌∷◌, map, length, take, drop, get_or, slice_range, Option, Some, None, Result, Ok, Err, arith}
+use Rattle.std.proofs.Common.{◌≡◌, refl, ap, ◌∙◌, ℕ, zero, suc, ◌+◌, ◌-◌, ◌<◌, ◌≤◌, nat_eq, List, [], ◌∷◌, length, take, drop, get_or, slice_range, Some, None, Result, Ok, Err, arith}
 use Rattle.rp_ops.specs.Outcome.{End}
 use Rattle.rp_meaning.specs.Frame.{Frame, Run}
 use Rattle.rp_meaning.specs.Meaning.{exec}

@@ -1,7 +1,7 @@
 -- What a block of a program leaves as it was.
-use Rattle.std.proofs.Common.{◌≡◌, refl, sym, ap, subst, ◌∙◌, ℕ, Bool, false, List, [], ◌∷◌, map, Option, None}
+use Rattle.std.proofs.Common.{subst, Bool, false, List, [], ◌∷◌, map, Option, None}
 use Rattle.rp_ops.specs.Outcome.{no_cell, ends}
-use Rattle.rp_meaning.specs.Frame.{Run, Natives, Doing, program_of}
+use Rattle.rp_meaning.specs.Frame.{Run, Natives, program_of}
 use Rattle.rp_meaning.specs.Running.{program_frame}
 use Rattle.rp_meaning.specs.Scopes.{global}
 use Rattle.rp_meaning.specs.State.{State}

@@ -1,5 +1,5 @@
 -- A turn of a session as the meaning has it.
-use Rattle.std.proofs.Common.{◌≡◌, refl, sym, ap, subst, ◌∙◌, ℕ, zero, suc, ◌+◌, ◌-◌, ◌^◌, ◌<◌, ◌≤◌, nat_eq, Bool, true, false, List, [], ◌∷◌, length, map, drop, get_or, slice_range, Option, Some, None, option_map, is_some, arith, add-one, OnOk, Result, Ok, Err}
+use Rattle.std.proofs.Common.{◌≡◌, refl, sym, ap, subst, ◌∙◌, ℕ, zero, suc, ◌+◌, ◌-◌, ◌^◌, ◌<◌, ◌≤◌, nat_eq, Bool, true, false, List, [], ◌∷◌, length, map, drop, get_or, slice_range, Option, Some, None, option_map, is_some, arith, add-one, OnErr, OnOk, Result, Ok, Err}
 use Rattle.std.specs.Prelude.{find}
 use Rattle.std.specs.List.{All}
 use Rattle.std.specs.declared.vec.Vec.{Vec}
@@ -8,21 +8,19 @@ use Rattle.std.proofs.Math.ListN.{get_or-map, length-set, set}
 use Rattle.std.proofs.Math.Seq.{drop-cons}
 use Rattle.std.proofs.lemmas.List.{length-map, set-get_or}
 use Rattle.std.proofs.lemmas.List.Elements.{All-set}
-use Rattle.rp_ops.specs.Outcome.{End}
 use Rattle.rp_meaning.specs.Frame.{Run}
 use Rattle.rp_meaning.specs.Meaning.{exec}
 use Rattle.rp_meaning.specs.Running.{program_frame}
 use Rattle.rp_meaning.specs.Sessions as meant
 use Rattle.rp_meaning.specs.Sessions.{count, finished, played, session_after, turn, turn_of, turns, turns_of, statement_at, unless_ended, with_session, world_after}
-use Rattle.rp_meaning.specs.State.{State, Outcome, Flow}
+use Rattle.rp_meaning.specs.State.{Outcome, Flow}
 use Rattle.rp_proxy.specs.Faithful.{IsFaithful}
 use Rattle.rp_proxy.specs.declared.world.World.{World}
-use Rattle.rp_tree.specs.Statements as stmt_tree
 use Rattle.rp_tree.specs.StatementViews.{view_stmt, view_stmts}
 use Rattle.rp_tree.specs.declared.stmt.Stmt.{Stmt}
 use Rattle.rp_session.specs.Ready.{AreNumberedFrom, AreReady, IsAtHome}
 use Rattle.rp_session.specs.Turns.{Runs, TakesTurn, comes_of, moment}
-use Rattle.rp_session.specs.View.{EndsSo, ended, session_view, shared}
+use Rattle.rp_session.specs.View.{ended, session_view, shared}
 use Rattle.rp_session.specs.declared.session.Session.{Session}
 use Rattle.rp_session.specs.declared.sessions.Sessions.{Sessions}
 use Rattle.rp_session.proofs.Numbered.{found-at, found-none, number-at, numbered-set, with-at}
@@ -167,3 +165,7 @@ both (Err e) f p q = tt
 pub four : {T E P Q R S U : Type 0} (r : Result T E) → (P → Q → R → S → U) → OnOk r P → OnOk r Q → OnOk r R → OnOk r S → OnOk r U
 four (Ok a) f p q r s = f p q r s
 four (Err e) f p q r s = tt
+
+pub on-err : {T E : Type 0} (r : Result T E) (P : Type 0) → P → OnErr r P
+on-err (Ok a) P p = tt
+on-err (Err e) P p = p

@@ -1,5 +1,5 @@
 -- What a turn of a session does, beside the other sessions.
-use Rattle.std.specs.Prelude.{◌≡◌, ℕ, ◌+◌, Bool, List, [], Option, option_map}
+use Rattle.std.specs.Prelude.{◌≡◌, ◌+◌, Bool, List, []}
 use Rattle.rp_meaning.specs.Frame.{Run}
 use Rattle.rp_meaning.specs.Running.{program_frame}
 use Rattle.rp_meaning.specs.Sessions as meant

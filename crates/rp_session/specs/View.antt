@@ -1,5 +1,5 @@
 -- The sessions as their meaning has them.
-use Rattle.std.specs.Prelude.{◌≡◌, ℕ, List, map, Bool, if◌then◌else◌, Option, Some, None, Result, Ok, Err}
+use Rattle.std.specs.Prelude.{◌≡◌, ◌<◌, ◌≤◌, ℕ, List, map, Bool, if◌then◌else◌, Option, Some, None, Result, Ok, Err}
 use Rattle.std.specs.Option.{option_map}
 use Rattle.rp_decl.specs.View.{declarations_view}
 use Rattle.rp_ops.specs.Outcome.{End, raised, no_step, no_cell}
@@ -10,6 +10,7 @@ use Rattle.rp_trail.specs.View.{trail_view}
 use Rattle.rp_session.specs.declared.session.Session.{Session}
 use Rattle.rp_session.specs.declared.session_end.SessionEnd.{SessionEnd}
 use Rattle.rp_session.specs.declared.session_end.SessionEnd.TheVariants.{Well, Raised, StopSteps, StopCells}
+use Rattle.rp_session.specs.declared.session_halt.SessionHalt.{SessionHalt}
 use Rattle.rp_session.specs.declared.sessions.Sessions.{Sessions}
 
 abbrev pub end_view : SessionEnd → meant.SessionEnd
@@ -49,3 +50,7 @@ ended is_last (Ok flow) = if is_last then Some meant.well else None
 
 abbrev pub EndsSo : Option SessionEnd → Bool → State → Outcome Flow → Type 0
 EndsSo end is_last s o = (o.state ≡ s) × (option_map end_view end ≡ ended is_last o.answer)
+
+-- it is one of so many sessions, numbered from 1, whose machine does not go on
+abbrev pub IsHaltOf : ℕ → SessionHalt → Type 0
+IsHaltOf sessions halt = (0 < halt.session) × (halt.session ≤ sessions)

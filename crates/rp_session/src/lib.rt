@@ -3,9 +3,11 @@
 
 mod session;
 mod session_end;
+mod session_halt;
 mod sessions;
 mod statement;
 
 pub use session::Session;
 pub use session_end::SessionEnd;
+pub use session_halt::SessionHalt;
 pub use sessions::Sessions;

@@ -1,19 +1,20 @@
 //! Sessions that take turns.
 
-ghost use Rattle.std.specs.Prelude.{◌≡◌, ◌<◌, ◌+◌, ◌-◌, ◌^◌, [], length, IfOk, OnErr, OnOk};
+ghost use Rattle.std.specs.Prelude.{◌≡◌, ◌<◌, ◌≤◌, ◌+◌, ◌-◌, ◌^◌, [], length, IfErr, IfOk, OnErr, OnOk};
 ghost use Rattle.rp_meaning.specs.Frame.{Run};
 ghost use Rattle.rp_meaning.specs.Load.{with_new_session};
 ghost use Rattle.rp_meaning.specs.Sessions.{finished, run_all, turn, turns, turns_of};
 ghost use Rattle.rp_meaning.specs.Expressions.{empty_slots};
 ghost use Rattle.rp_proxy.specs.Faithful.{IsFaithful};
 ghost use Rattle.rp_session.specs.Ready.{AnswersIn, AreLaidOut, AreReady};
-ghost use Rattle.rp_session.specs.View.{sessions_view};
+ghost use Rattle.rp_session.specs.View.{IsHaltOf, sessions_view};
 ghost use Rattle.rp_session.specs.Begun.{globals_of};
 ghost use Rattle.rp_step.specs.Moment.{run_of};
 ghost use Rattle.rp_store.specs.Shape.{KeepsShape};
 ghost use Rattle.rp_store.specs.Store.{added};
 
 use crate::session::Session;
+use crate::session_halt::SessionHalt;
 use rp_base::{Memory, Meter, Oid, Printed, Side, Value};
 use rp_interact::Interaction;
 use rp_proxy::{Running, World};
@@ -60,6 +61,8 @@ impl Sessions {
         ensures same { OnErr result (sessions_view self.new ≡ sessions_view self.old) }
         ensures ready { AreReady self.new }
         ensures count { OnOk result (length self.new.list.items ≡ length self.old.list.items + 1) }
+        ensures names { OnOk result (self.new.world.names ≡ self.old.world.names) }
+        ensures decl { OnOk result (self.new.world.decl ≡ self.old.world.decl) }
     {
         self.list.reserve(1)?;
         let number = self.list.len() as u32 + 1;
@@ -104,14 +107,35 @@ impl Sessions {
     /// no such session, nothing changes.
     ///
     /// # Errors
-    /// As those of `Machine::run_block`.
-    pub fn turn(&mut self, units: &Units, number: u32) -> Result<(), Halt>
+    /// Those of `Machine::run_block`, with the number.
+    pub fn turn(&mut self, units: &Units, number: u32) -> Result<(), SessionHalt>
         requires ready { AreReady self.old }
         requires laid { AreLaidOut units.now }
         ensures turn { OnOk result ((base : Run) → sessions_view self.new
             ≡ turn (run_of base units.now) number (sessions_view self.old)) }
         ensures ready { OnOk result (AreReady self.new) }
         ensures count { OnOk result (length self.new.list.items ≡ length self.old.list.items) }
+        ensures halt { IfErr result (IsHaltOf (length self.old.list.items)) }
+    {
+        match self.take_turn(units, number) {
+            Ok(()) => Ok(()),
+            Err(halt) => Err(SessionHalt {
+                session: number,
+                halt,
+            }),
+        }
+    }
+
+    /// The same turn. There is such a session where its machine does not go on.
+    fn take_turn(&mut self, units: &Units, number: u32) -> Result<(), Halt>
+        requires ready { AreReady self.old }
+        requires laid { AreLaidOut units.now }
+        ensures turn { OnOk result ((base : Run) → sessions_view self.new
+            ≡ turn (run_of base units.now) number (sessions_view self.old)) }
+        ensures ready { OnOk result (AreReady self.new) }
+        ensures count { OnOk result (length self.new.list.items ≡ length self.old.list.items) }
+        ensures some { OnErr result (0 < number) }
+        ensures within { OnErr result (number ≤ length self.old.list.items) }
     {
         let number = number as usize;
         if number == 0 || number > self.list.len() {
@@ -125,13 +149,14 @@ impl Sessions {
     ///
     /// # Errors
     /// As those of `turn`.
-    pub fn turns(&mut self, units: &Units, listed: &[u32]) -> Result<(), Halt>
+    pub fn turns(&mut self, units: &Units, listed: &[u32]) -> Result<(), SessionHalt>
         requires ready { AreReady self.old }
         requires laid { AreLaidOut units.now }
         ensures turns { OnOk result ((base : Run) → sessions_view self.new
             ≡ turns (run_of base units.now) listed.now (sessions_view self.old)) }
         ensures ready { OnOk result (AreReady self.new) }
         ensures count { OnOk result (length self.new.list.items ≡ length self.old.list.items) }
+        ensures halt { IfErr result (IsHaltOf (length self.old.list.items)) }
     {
         for number in listed {
             self.turn(units, *number)?;
@@ -140,13 +165,14 @@ impl Sessions {
     }
 
     /// So many turns of the session of a number.
-    fn turns_of(&mut self, units: &Units, count: usize, number: u32) -> Result<(), Halt>
+    fn turns_of(&mut self, units: &Units, count: usize, number: u32) -> Result<(), SessionHalt>
         requires ready { AreReady self.old }
         requires laid { AreLaidOut units.now }
         ensures turns { OnOk result ((base : Run) → sessions_view self.new
             ≡ turns_of (run_of base units.now) count number (sessions_view self.old)) }
         ensures ready { OnOk result (AreReady self.new) }
         ensures count { OnOk result (length self.new.list.items ≡ length self.old.list.items) }
+        ensures halt { IfErr result (IsHaltOf (length self.old.list.items)) }
     {
         let mut left = count;
         while left > 0 {
@@ -160,13 +186,14 @@ impl Sessions {
     ///
     /// # Errors
     /// As those of `turn`.
-    pub fn finish(&mut self, units: &Units) -> Result<(), Halt>
+    pub fn finish(&mut self, units: &Units) -> Result<(), SessionHalt>
         requires ready { AreReady self.old }
         requires laid { AreLaidOut units.now }
         ensures finished { OnOk result ((base : Run) → sessions_view self.new
             ≡ finished (run_of base units.now) (sessions_view self.old).sessions (sessions_view self.old)) }
         ensures ready { OnOk result (AreReady self.new) }
         ensures count { OnOk result (length self.new.list.items ≡ length self.old.list.items) }
+        ensures halt { IfErr result (IsHaltOf (length self.old.list.items)) }
     {
         let count = self.list.len() as u32;
         for place in 0..count {
@@ -181,13 +208,14 @@ impl Sessions {
     ///
     /// # Errors
     /// As those of `turn`.
-    pub fn run_all(&mut self, units: &Units, listed: &[u32]) -> Result<(), Halt>
+    pub fn run_all(&mut self, units: &Units, listed: &[u32]) -> Result<(), SessionHalt>
         requires ready { AreReady self.old }
         requires laid { AreLaidOut units.now }
         ensures run { OnOk result ((base : Run) → sessions_view self.new
             ≡ run_all (run_of base units.now) listed.now (sessions_view self.old)) }
         ensures ready { OnOk result (AreReady self.new) }
         ensures count { OnOk result (length self.new.list.items ≡ length self.old.list.items) }
+        ensures halt { IfErr result (IsHaltOf (length self.old.list.items)) }
     {
         self.turns(units, listed)?;
         self.finish(units)

@@ -3,7 +3,7 @@
 ghost use Rattle.std.specs.Prelude.{◌≡◌, IfOk, IfSome};
 ghost use Rattle.rp_tests_stage.specs.Staged.{IsStaged};
 
-use rp_session::{Session, SessionEnd};
+use rp_session::{Session, SessionEnd, SessionHalt};
 use rp_step::Halt;
 use rp_tests_cases::{Question, number, part};
 use rp_tests_stage::{Code, Setting, Stage, set};
@@ -88,7 +88,12 @@ fn played(alloc: Global, mut stage: Stage, who: &str) -> Result<Option<Outcome>,
 {
     match stage.sessions.run_all(&stage.units, &[]) {
         Ok(()) => outcome_of(alloc, &stage, who),
-        Err(Halt::Memory) => Err(Fail::new("memory was refused")),
+        Err(
+            SessionHalt {
+                halt: Halt::Memory,
+                ..
+            },
+        ) => Err(Fail::new("memory was refused")),
         Err(_) => Ok(None),
     }
 }

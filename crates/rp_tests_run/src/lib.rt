@@ -14,4 +14,8 @@ mod program_answers;
 #[cfg(test)]
 mod program_tests;
 #[cfg(test)]
+mod several_tests;
+#[cfg(test)]
 mod show_tests;
+#[cfg(test)]
+mod words_tests;

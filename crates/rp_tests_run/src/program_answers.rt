@@ -3,8 +3,9 @@
 ghost use Rattle.std.specs.Prelude.{◌≡◌};
 
 use rp_base::{Files, MemFiles, MemSink, Memory, Sink, Status, Text};
-use rp_run::{USAGE, run};
+use rp_run::run;
 use rp_tests_cases::{FOLDER_FILE, Question, ROLES_FILE, is_told, part};
+use rp_words::USAGE;
 use std::alloc::{AllocError, Global};
 use std::test::Fail;
 

@@ -59,7 +59,6 @@ run title.toml böb:s.py => usage
 run --steps bob:s.py => usage
 run title.toml -b:s.py => usage
 Run title.toml bob:s.py => usage
-run title.toml bob:s.py eve:s.py => usage
 run title.toml bob+:s.py => usage
 run title.toml +bob:s.py => usage
 run title.toml bob++eve:s.py => usage"#;

@@ -7,6 +7,7 @@ ghost use Rattle.rp_session.specs.Ready.{AreLaidOut};
 use rp_base::{Memory, Names};
 use rp_decl::Decl;
 use rp_program::{ProgramFault, read_text};
+use rp_scope::number;
 use rp_script::{Refusal, read_script};
 use rp_step::Units;
 use rp_tree::Tree;
@@ -35,10 +36,12 @@ pub fn units_of(
     ensures laid { IfOk result (λ o. IfSome o AreLaidOut) }
     ensures grown { GrowsTo names.old names.new }
 {
-    let Some(tree) = tree_of(alloc, code, script, names)? else {
+    let Some(mut tree) = tree_of(alloc, code, script, names)? else {
         return Ok(None);
     };
-    Ok(Some(rp_play::units_of(alloc, decl, tree)?))
+    number(&mut tree);
+    let trees = vec![in alloc; tree]?;
+    Ok(Some(rp_play::units_of(alloc, decl, trees)?))
 }
 
 /// The tree of a text that is read so; None where it is refused.

@@ -1,32 +1,52 @@
-use Rattle.std.proofs.Common.{◌≡◌, ◌∙◌, map, refl, sym, ap, subst}
+use Rattle.std.proofs.Common.{◌≡◌, ◌∙◌, List, length, map, refl, sym, ap, subst, arith}
+use Rattle.std.proofs.lemmas.List.{length-map}
 use Rattle.rp_base.specs.Names.{HoldsEachOnce}
-use Rattle.rp_decl.specs.InOrder.{AreInOrder}
-use Rattle.rp_interact.specs.Answers.{AnswersAs}
-use Rattle.rp_proxy.specs.Faithful.{MayGrowTo}
-use Rattle.rp_proxy.proofs.LaterRecords.{declarations-later}
-use Rattle.rp_session.specs.View.{end_view, session_view, sessions_view, shared}
+use Rattle.rp_interact.specs.Interacting.{Interacting}
+use Rattle.rp_session.specs.View.{IsHaltOf, session_view, sessions_view, shared}
 use Rattle.rp_tree.specs.StatementViews.{view_tree}
+use Rattle.rp_play.specs.declared.parts.SessionScript.{SessionScript}
+use Rattle.rp_play.proofs.Answering.{all-answer}
 use Rattle.rp_play.proofs.Sessions.{all-end, plays}
 use Rattle.rp_play.proofs.playing.play.Goals as goal
 
-pub begin-requires-clause-grants : goal.begin-requires-clause-grants
-begin-requires-clause-grants c = λ later grows.
-    let names = ap (λ w. w.names) c.new-sessions.ensures.world ∙ c.in_ok-world.ensures.names in
-    let decl = ap (λ w. w.decl) c.new-sessions.ensures.world ∙ c.in_ok-world.ensures.decl in
-    let grown = subst (λ ns. MayGrowTo ns later) names grows in
-    let ordered = subst AreInOrder (sym (declarations-later c.args.names later grown.grown c.args.decl c.requires.held)) c.requires.ordered in
-    subst (λ d. AnswersAs later d c.args.who) (sym decl) (c.requires.grants later ordered)
+pub begin_all-requires-clause-few : goal.begin_all-requires-clause-few
+begin_all-requires-clause-few c =
+    let many : length c.in_ok-parts.parts.whos.items ≡ length c.args.scripts.items = ap length c.in_ok-parts.ensures.whos ∙ length-map c.args.scripts.items (λ (s : SessionScript). s.who) in
+    let few = c.requires.few in
+    omega arith
 
-pub only_played-requires-clause-ended : goal.only_played-requires-clause-ended
-only_played-requires-clause-ended c =
-    all-end c.args.names c.args.decl c.args.who.ids c.args.limits.steps c.in_ok-units.units (sessions_view c.new-sessions.result) (sessions_view c.begin.new.self)
-    (sessions_view c.run_all.new.self) c.run_all.new.self.list.items (ap (map session_view) c.new-sessions.ensures.empty) c.in_ok-begin.ensures.begun c.in_ok-run_all.ensures.run refl
+pub begin_all-requires-clause-none : goal.begin_all-requires-clause-none
+begin_all-requires-clause-none c = ap length c.new-sessions.ensures.empty
 
-pub returns : goal.returns
-returns c =
+pub begin_all-requires-clause-grants : goal.begin_all-requires-clause-grants
+begin_all-requires-clause-grants c =
+    all-answer c.args.names c.args.decl c.new-sessions.result.world c.args.scripts.items c.in_ok-parts.parts.whos.items
+    (ap (λ w. w.names) c.new-sessions.ensures.world ∙ c.in_ok-world.ensures.names) (ap (λ w. w.decl) c.new-sessions.ensures.world ∙ c.in_ok-world.ensures.decl)
+    c.requires.held c.requires.ordered c.requires.grants c.in_ok-parts.ensures.whos
+
+pub returns-in-Ok-clause-plays : goal.returns-in-Ok-clause-plays
+returns-in-Ok-clause-plays c =
     let once = subst HoldsEachOnce c.in_ok-world.ensures.names c.in_ok-world.ensures.faithful.read.distinct in
-    plays c.args.names c.args.decl (view_tree c.args.script) c.args.who.ids c.args.limits.steps c.args.limits.cells c.in_ok-units.units c.in_ok-world.world
-    (sessions_view c.new-sessions.result) (sessions_view c.begin.new.self) (sessions_view c.run_all.new.self) c.only_played.result.printed (end_view c.only_played.result.end)
-    once c.requires.held c.requires.ordered c.requires.apart c.requires.tree c.in_ok-units.ensures.of c.in_ok-world.ensures.loaded
-    (λ i. shared (c.new-sessions.ensures.world i) (map session_view (c.new-sessions.ensures.empty i)))
-    c.in_ok-begin.ensures.begun c.in_ok-run_all.ensures.run c.only_played.ensures
+    plays c.args.names c.args.decl c.args.scripts.items (map view_tree c.in_ok-parts.parts.trees.items) c.in_ok-parts.parts.whos.items c.args.listed.now
+    c.args.limits.steps c.args.limits.cells c.in_ok-units.units c.in_ok-world.world
+    (sessions_view c.new-sessions.result) (sessions_view c.begin_all.new.sessions) (sessions_view c.run_all.new.self)
+    once c.requires.held c.requires.ordered c.requires.apart c.requires.trees c.in_ok-parts.ensures.trees c.in_ok-units.ensures.of c.in_ok-parts.ensures.whos
+    c.in_ok-world.ensures.loaded (λ i. shared (c.new-sessions.ensures.world i) (map session_view (c.new-sessions.ensures.empty i)))
+    c.in_ok-begin_all.ensures.begun c.in-Ok.ensures.run
+
+pub returns-in-Ok-clause-ended : goal.returns-in-Ok-clause-ended
+returns-in-Ok-clause-ended c =
+    all-end c.args.names c.args.decl (map (λ (who : Interacting). who.ids) c.in_ok-parts.parts.whos.items) c.args.listed.now c.args.limits.steps c.in_ok-units.units
+    (sessions_view c.new-sessions.result) (sessions_view c.begin_all.new.sessions) (sessions_view c.run_all.new.self)
+    c.begin_all.new.sessions.list.items c.run_all.new.self.list.items (ap (map session_view) c.new-sessions.ensures.empty)
+    c.in_ok-begin_all.ensures.begun c.in-Ok.ensures.run refl refl c.in_ok-begin_all.ensures.ready.numbered c.in-Ok.ensures.ready.numbered c.in-Ok.ensures.count
+
+pub returns-in-Ok-clause-count : goal.returns-in-Ok-clause-count
+returns-in-Ok-clause-count c =
+    c.in-Ok.ensures.count ∙ c.in_ok-begin_all.ensures.count ∙ ap length c.in_ok-parts.ensures.whos ∙ length-map c.args.scripts.items (λ (s : SessionScript). s.who)
+
+pub returns-clause-cause : goal.returns-clause-cause
+returns-clause-cause c =
+    let same : length c.begin_all.new.sessions.list.items ≡ length c.args.scripts.items =
+    c.in_ok-begin_all.ensures.count ∙ ap length c.in_ok-parts.ensures.whos ∙ length-map c.args.scripts.items (λ (s : SessionScript). s.who) in
+    c.of.ensures (length c.args.scripts.items) (subst (λ n. IsHaltOf n c.in-Err.halt) same c.in-Err.ensures.halt)

@@ -9,5 +9,11 @@ returns-then-is_empty c =
 pub returns : goal.returns
 returns c =
     let label : c.add_ascii.new.text ≡ c.args.text.now ++ codes ": " = c.in_ok-add_ascii.ensures in
-    rw (detail-some _ _ c.as_str.utf8 c.as_str.ensures (sym c.is_empty.ensures ∙ c.if-is_empty.false), ← append_assoc, ← label, ← c.as_str-2.ensures)
+    rw (
+      detail-some _ _ c.as_str.utf8 c.as_str.ensures (sym c.is_empty.ensures
+          ∙ c.if-is_empty.false),
+      ← append_assoc,
+      ← label,
+      ← c.as_str-2.ensures,
+    )
     c.add.ensures.added

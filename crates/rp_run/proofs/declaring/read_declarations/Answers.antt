@@ -22,8 +22,10 @@ returns-in_err-bytes-clause-tried g c = only_next _ _ _ _ _ c.requires.unread c.
 
 pub returns-in-Ok-clause-told : goal.returns-in-Ok-clause-told
 returns-in-Ok-clause-told g c =
-    tells_read c.args.path.now c.in_ok-bytes.bytes.items _ (declarations_view c.declarations.new.names c.in-Ok.decl) c.in_ok-bytes.ensures.told
-    (subst (λ (b : List ℕ). Declares b (declarations_view c.declarations.new.names c.in-Ok.decl)) c.as_slice.ensures.value c.in-Ok.ensures.ok)
+    tells_read c.args.path.now c.in_ok-bytes.bytes.items _
+    (declarations_view c.declarations.new.names c.in-Ok.decl) c.in_ok-bytes.ensures.told
+    (subst (λ (b : List ℕ). Declares b (declarations_view c.declarations.new.names c.in-Ok.decl))
+    c.as_slice.ensures.value c.in-Ok.ensures.ok)
 
 pub returns-in-Ok-clause-well : goal.returns-in-Ok-clause-well
 returns-in-Ok-clause-well g c = record {
@@ -37,8 +39,10 @@ returns-in-Ok-clause-well g c = record {
 pub returns-clause-refused : goal.returns-clause-refused
 returns-clause-refused g c =
     let said = c.in_ok-answer_fault-in-Err.ensures in
-    tells_fault c.args.path.now c.in_ok-bytes.bytes.items _ c.declarations.new.names c.in-Err.fault _ _ c.in_ok-bytes.ensures.told
-    (subst (λ (b : List ℕ). HasFault b c.declarations.new.names c.in-Err.fault) c.as_slice.ensures.value c.in-Err.ensures.fault) said.other said.said.0 said.said.1
+    tells_fault c.args.path.now c.in_ok-bytes.bytes.items _ c.declarations.new.names c.in-Err.fault _ _
+    c.in_ok-bytes.ensures.told
+    (subst (λ (b : List ℕ). HasFault b c.declarations.new.names c.in-Err.fault) c.as_slice.ensures.value
+    c.in-Err.ensures.fault) said.other said.said.0 said.said.1
 
 pub returns-in_err-bytes-clause-kept : goal.returns-in_err-bytes-clause-kept
 returns-in_err-bytes-clause-kept g c =

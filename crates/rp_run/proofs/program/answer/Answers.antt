@@ -1,5 +1,5 @@
 use Rattle.std.proofs.Common.{◌≡◌, map, string_bytes}
-use Rattle.rp_run.specs.Command.{command_of}
+use Rattle.rp_words.specs.Command.{command_of}
 use Rattle.rp_run.proofs.Said.{failed_back, memory_back, says_ok, status_ok, usage_ok}
 use Rattle.rp_run.proofs.program.answer.Goals as goal
 
@@ -7,10 +7,12 @@ pub returns-clause-told : goal.returns-clause-told
 returns-clause-told g c = rw c.said.ensures (says_ok c.obey.result _ c.obey.ensures.told)
 
 pub returns-clause-status : goal.returns-clause-status
-returns-clause-status g c = rw c.said.ensures (status_ok (command_of (map string_bytes c.args.words.now)) c.obey.result c.obey.ensures.status)
+returns-clause-status g c =
+    rw c.said.ensures (status_ok (command_of (map string_bytes c.args.words.now)) c.obey.result c.obey.ensures.status)
 
 pub returns-clause-usage : goal.returns-clause-usage
-returns-clause-usage g c = rw c.said.ensures (usage_ok (command_of (map string_bytes c.args.words.now)) c.obey.result c.obey.ensures.status)
+returns-clause-usage g c =
+    rw c.said.ensures (usage_ok (command_of (map string_bytes c.args.words.now)) c.obey.result c.obey.ensures.status)
 
 pub returns-clause-sound : goal.returns-clause-sound
 returns-clause-sound g c = rw c.said.ensures (says_ok c.obey.result _ c.obey.ensures.sound)

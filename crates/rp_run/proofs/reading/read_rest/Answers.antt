@@ -23,8 +23,10 @@ returns-then-count-eq0-clause-told g c =
 pub loop-taken-preserved : goal.loop-taken-preserved
 loop-taken-preserved g c =
     let clauses = c.in_ok-count.ensures in
-    let more : c.extend_from_slice.new.self.items ≡ c.loop-taken.taken.items ++ take c.in_ok-count.count c.read.new.into =
-    c.in_ok-extend_from_slice.ensures.items ∙ ap (λ front. c.loop-taken.taken.items ++ front) (take-append-le _ c.read.new.into _ clauses.bound) in
+    let more : c.extend_from_slice.new.self.items ≡ c.loop-taken.taken.items
+    ++ take c.in_ok-count.count c.read.new.into =
+    c.in_ok-extend_from_slice.ensures.items
+    ∙ ap (λ front. c.loop-taken.taken.items ++ front) (take-append-le _ c.read.new.into _ clauses.bound) in
     let some : not (c.in_ok-count.count == 0) ≡ true = ap not (ne_eqb _ 0 c.if-count-eq0.false) in
     record {
       sound = search rules;

@@ -3,7 +3,8 @@ use Rattle.rp_run.proofs.Sayings.{long_read, refused_never, whole_read}
 use Rattle.rp_run.proofs.reading.read_short.Goals as goal
 
 pub returns-in-Whole-clause-told : goal.returns-in-Whole-clause-told
-returns-in-Whole-clause-told g c = whole_read _ _ c.in-Whole.bytes _ _ c.in-Whole.is c.in_ok-copy.ensures (c.in_ok-bytes.ensures).told
+returns-in-Whole-clause-told g c =
+    whole_read _ _ c.in-Whole.bytes _ _ c.in-Whole.is c.in_ok-copy.ensures (c.in_ok-bytes.ensures).told
 
 pub returns-in_ok-labelled-in-TooLong-clause-refused : goal.returns-in_ok-labelled-in-TooLong-clause-refused
 returns-in_ok-labelled-in-TooLong-clause-refused g c =

@@ -1,6 +1,6 @@
 use Rattle.std.proofs.lemmas.Result.{err_from_is_err_and}
 use Rattle.rp_run.proofs.Sayings.{long_status}
-use Rattle.rp_run.proofs.Scripts.{long_script, tells_whole}
+use Rattle.rp_run.proofs.Asked.{long_script, tells_whole}
 use Rattle.rp_run.specs.Told.{said_to}
 use Rattle.rp_run.proofs.script_answer.answer_script.Goals as goal
 

@@ -1,15 +1,17 @@
 use Rattle.std.proofs.Common.{[], refl}
 use Rattle.rp_run.proofs.Ascii.{chars-ascii}
-use Rattle.rp_run.proofs.Scripts.{tells_accepted, tells_unaccepted}
+use Rattle.rp_run.proofs.Asked.{tells_accepted, tells_unaccepted}
 use Rattle.rp_run.specs.Told.{said_to}
-use Rattle.rp_run.specs.declared.command.Question.TheVariants.{Check}
+use Rattle.rp_words.specs.declared.command.Question.TheVariants.{Check}
 use Rattle.rp_run.proofs.script_answer.tell_check.Goals as goal
 
 pub returns-in-Ok-clause-told : goal.returns-in-Ok-clause-told
 returns-in-Ok-clause-told c =
-    tells_accepted (said_to Check) c.args.bytes.now _ c.fixed.result c.fixed.ensures c.in-Ok.ensures.program c.in-Ok.ensures.lawful
+    tells_accepted (said_to Check) c.args.bytes.now _ c.fixed.result c.fixed.ensures c.in-Ok.ensures.program
+    c.in-Ok.ensures.lawful
 
 pub returns-clause-told : goal.returns-clause-told
 returns-clause-told c =
-    tells_unaccepted (said_to Check) c.args.bytes.now c.read_script.new.names c.in-Err.refusal c.unaccepted.result c.in-Err.ensures.refused
+    tells_unaccepted (said_to Check) c.args.bytes.now c.read_script.new.names c.in-Err.refusal c.unaccepted.result
+    c.in-Err.ensures.refused
     (rw (chars-ascii [] refl) at c.unaccepted.ensures.said) c.unaccepted.ensures.other

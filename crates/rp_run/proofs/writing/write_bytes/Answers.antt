@@ -6,7 +6,13 @@ pub loop-written-preserved : goal.loop-written-preserved
 loop-written-preserved g c =
     let bound = c.in_ok-written.ensures.bound in
     record {
-      within = omega (arith, bound.1, length-take (length c.args.bytes.now - c.loop-written.written) (drop c.loop-written.written c.args.bytes.now), length-drop c.loop-written.written c.args.bytes.now);
+      within = omega (
+        arith,
+        bound.1,
+        length-take (length c.args.bytes.now - c.loop-written.written)
+            (drop c.loop-written.written c.args.bytes.now),
+        length-drop c.loop-written.written c.args.bytes.now,
+      );
       sound = search rules;
       front = written_front _ _ c.args.bytes.now _ _ _ c.loop-written.invariant.front c.in_ok-written.ensures.appended;
     }

@@ -1,11 +1,8 @@
 -- It has ended, no statement is left, or the next one ran.
-use Rattle.std.proofs.Common.{◌≡◌, refl, sym, ap, ◌∙◌, List, OnOk, arith}
+use Rattle.std.proofs.Common.{refl, sym, ap, ◌∙◌, arith}
 use Rattle.std.proofs.lemmas.Result.{on_ok_weaker}
-use Rattle.rp_meaning.specs.Frame.{Run}
-use Rattle.rp_step.specs.Moment.{program_at, run_of}
+use Rattle.rp_step.specs.Moment.{run_of}
 use Rattle.rp_tree.specs.StatementViews.{view_stmts}
-use Rattle.rp_tree.specs.declared.stmt.Stmt.{Stmt}
-use Rattle.rp_session.specs.Turns.{Runs, TakesTurn}
 use Rattle.rp_session.proofs.Settled.{some_run}
 use Rattle.rp_session.proofs.Turning.{first-of, none-of, turn-past, turn-ran}
 use Rattle.rp_session.proofs.session.Session.turn.Goals as goal

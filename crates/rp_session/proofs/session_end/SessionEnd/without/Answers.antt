@@ -1,8 +1,4 @@
 use Rattle.rp_session.proofs.Scripts.{first-left}
-use Rattle.rp_session.proofs.Numbered.{number-at}
-use Rattle.rp_session.proofs.Lasting.{home-last}
-use Rattle.rp_session.proofs.Settled.{settled}
-use Rattle.rp_session.proofs.Turning.{turn-ran}
 use Rattle.rp_session.proofs.session_end.SessionEnd.without.Goals as goal
 
 pub returns-in-len1-up : goal.returns-in-len1-up

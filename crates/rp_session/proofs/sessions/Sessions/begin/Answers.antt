@@ -1,6 +1,5 @@
 -- The scope is put into the store, and then the session behind the others.
 use Rattle.std.proofs.Common.{◌≡◌, ◌<◌, ◌+◌, ◌++◌, ◌∷◌, [], ◌∙◌, ap, sym, subst, length, arith}
-use Rattle.rp_proxy.specs.declared.world.Running.{Running}
 use Rattle.rp_step.specs.declared.units.Program.{Program}
 use Rattle.rp_session.specs.declared.sessions.Sessions.{Sessions}
 use Rattle.rp_session.proofs.Beginning.{begun, first_running, ready-more}
@@ -38,3 +37,9 @@ returns-clause-ready c =
     c.add_globals.new.self.world c.add_globals.new.self.alloc c.push_reserved.new.self c.requires.ready c.requires.few
     (number_of c) (ap (λ (s : Sessions). s.world) c.in_ok-globals.ensures.added) c.in_ok-globals.ensures.place (items_of c)
     (running_of c) c.first-session.ensures.globals c.requires.grants c.in_ok-globals.ensures.shape
+
+pub returns-clause-names : goal.returns-clause-names
+returns-clause-names c = ap (λ (s : Sessions). s.world.names) c.in_ok-globals.ensures.added
+
+pub returns-clause-decl : goal.returns-clause-decl
+returns-clause-decl c = ap (λ (s : Sessions). s.world.decl) c.in_ok-globals.ensures.added

@@ -1,8 +1,8 @@
-use Rattle.std.proofs.Common.{◌∙◌, ap, map}
+use Rattle.std.proofs.Common.{◌∙◌, IfErr, ap, map, subst}
 use Rattle.std.proofs.lemmas.Result.{on_ok_weaker}
 use Rattle.rp_meaning.specs.Sessions.{finished}
 use Rattle.rp_step.specs.Moment.{run_of}
-use Rattle.rp_session.specs.View.{session_view, sessions_view}
+use Rattle.rp_session.specs.View.{IsHaltOf, session_view, sessions_view}
 use Rattle.rp_session.proofs.Numbered.{finished-sides, sides-numbered}
 use Rattle.rp_session.proofs.sessions.Sessions.run_all.Goals as goal
 
@@ -15,3 +15,6 @@ returns-clause-run c =
     ∙ finished-sides (run_of base c.args.units.now) (map session_view after) (map session_view before) (sessions_view c.turns.new.self)
     (sides-numbered 1 after before c.in_ok-turns.ensures.ready.numbered c.requires.ready.numbered c.in_ok-turns.ensures.count)
     ∙ ap (finished (run_of base c.args.units.now) (map session_view before)) (c.in_ok-turns.ensures.turns base)) c.finish.ensures.finished
+
+pub returns-clause-halt : goal.returns-clause-halt
+returns-clause-halt c = subst (λ n. IfErr c.finish.result (IsHaltOf n)) c.in_ok-turns.ensures.count c.finish.ensures.halt

@@ -1,0 +1,28 @@
+-- Lists of which one element after another is taken.
+use Rattle.std.proofs.Common.{◌≡◌, ℕ, List, [], ◌∷◌, ◌++◌, map, append_assoc, refl, sym, ap, subst, ◌∙◌}
+use Rattle.std.specs.List.{AllZip}
+use Rattle.std.proofs.lemmas.List.{append-nil, map_push}
+
+module _ {X : Type 0} where
+  pub one-yielded : (yielded all rest whole : List X) (x : X) → all ≡ x ∷ rest → yielded ++ all ≡ whole → (yielded ++ x ∷ []) ++ rest ≡ whole
+  one-yielded yielded all rest whole x e before = append_assoc yielded (x ∷ []) rest ∙ ap (λ xs. yielded ++ xs) (sym e) ∙ before
+
+  pub all-yielded : (yielded rest whole : List X) → rest ≡ [] → yielded ++ rest ≡ whole → yielded ≡ whole
+  all-yielded yielded rest whole none before = sym (append-nil yielded) ∙ ap (λ xs. yielded ++ xs) (sym none) ∙ before
+
+module _ {X Y : Type 0} where
+  zip-more : (R : X → Y → Type 0) (xs : List X) (ys : List Y) (x : X) (y : Y) → AllZip R xs ys → R x y → AllZip R (xs ++ x ∷ []) (ys ++ y ∷ [])
+  zip-more R [] [] x y h r = (r, tt)
+  zip-more R [] (b ∷ ys) x y h r = absurd h
+  zip-more R (a ∷ xs) [] x y h r = absurd h
+  zip-more R (a ∷ xs) (b ∷ ys) x y h r = (h.0, zip-more R xs ys x y h.1 r)
+
+  -- the element that is taken stands for the one that is put last
+  pub zip-push : {A : Type 0} (R : X → Y → Type 0) (f : A → X) (taken : List A) (ys zs : List Y) (a : A) (y : Y) → zs ≡ ys ++ y ∷ [] → AllZip R (map f taken) ys → R (f a) y
+      → AllZip R (map f (taken ++ a ∷ [])) zs
+  zip-push R f taken ys zs a y pushed h r =
+      subst (λ (zs : List Y). AllZip R (map f (taken ++ a ∷ [])) zs) (sym pushed)
+      (subst (λ (xs : List X). AllZip R xs (ys ++ y ∷ [])) (sym (map_push f taken a)) (zip-more R (map f taken) ys (f a) y h r))
+
+  pub map-push : (f : X → Y) (xs : List X) (ys zs : List Y) (x : X) → zs ≡ ys ++ f x ∷ [] → ys ≡ map f xs → zs ≡ map f (xs ++ x ∷ [])
+  map-push f xs ys zs x pushed h = pushed ∙ ap (λ (ys : List Y). ys ++ f x ∷ []) h ∙ sym (map_push f xs x)

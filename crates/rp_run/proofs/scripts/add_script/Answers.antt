@@ -1,0 +1,18 @@
+use Rattle.std.proofs.Common.{refl}
+use Rattle.rp_run.proofs.Compiling.{adds_lines}
+use Rattle.rp_run.specs.Steps as step
+use Rattle.rp_run.proofs.scripts.add_script.Goals as goal
+
+pub returns-in_ok-push-in-Ok-clause-added : goal.returns-in_ok-push-in-Ok-clause-added
+returns-in_ok-push-in-Ok-clause-added c =
+    let read = c.in-Ok.ensures in
+    step.Adds.tree c.in-Ok.tree (record {
+      program = read.program;
+      lawful =
+          read.lawful;
+    }) read.held read.words c.in_ok-push-in-Ok.ensures.items refl
+
+pub returns-in-Err-clause-added : goal.returns-in-Err-clause-added
+returns-in-Err-clause-added c =
+    adds_lines c.args.number c.args.bytes.now _ c.read_script.new.names _ _ _ c.in-Err.refusal c.add_refusal.result
+    c.in-Err.ensures.refused c.add_refusal.ensures.other c.add_refusal.ensures.added

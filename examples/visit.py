@@ -1,0 +1,3 @@
+news.visits = news.visits + 1
+print(news.visits, home.title)
+news.title = "Old news"
