@@ -15,6 +15,8 @@ import sys
 from contextlib import redirect_stdout
 
 TABLES = {}
+# more calls than any script here makes at once but one that never ends
+sys.setrecursionlimit(5_000)
 
 
 def table(name, sentence, scripts, own=()):
@@ -352,6 +354,252 @@ table("ORDER", "The order in which operands are evaluated: each prints its numbe
     "print(max(print(1) or 1, print(2) or 2))",
     "for x in print(1) or [3]:\n    print(x)",
 ])
+
+table("CALLS", "Functions that are called", [
+    "def f():\n    print('in')\n    return 1\nprint(f())",
+    "def f(a, b=2):\n    return a + b\nprint(f(1), f(1, 5))",
+    "def f():\n    pass\nprint(f())",
+    "f = lambda x: x * 2\nprint(f(4), (lambda: 'a')())",
+    "def f(n):\n    if n == 0:\n        return 0\n    return n + f(n - 1)\nprint(f(10))",
+    "x = 1\ndef f():\n    x = 2\n    return x\nprint(f(), x)",
+    "x = 1\ndef f():\n    global x\n    x = 2\nf()\nprint(x)",
+    "def f(a):\n    def g(b):\n        return a + b\n    return g\nprint(f(1)(2), f(5)(6))",
+    "def f(*xs):\n    return xs\nprint(f(), f(1, 2))",
+    "def f(a, *xs):\n    return (a, xs)\nprint(f(1), f(1, 2, 3))",
+    "def f(xs):\n    for x in xs:\n        if x > 1:\n            return x\n    return None\nprint(f([1, 2, 3]), f([]))",
+    "def f():\n    while True:\n        return 'out'\nprint(f())",
+    "def f():\n    try:\n        return 'body'\n    finally:\n        print('last')\nprint(f())",
+    "def f():\n    try:\n        1 // 0\n    except ZeroDivisionError:\n        return 'taken'\n    finally:\n        print('last')\nprint(f())",
+    "def f():\n    try:\n        return 1\n    finally:\n        return 2\nprint(f())",
+    "def f():\n    try:\n        1 // 0\n    finally:\n        return 'no exception'\nprint(f())",
+    "def f():\n    for x in [1, 2]:\n        try:\n            return x\n        finally:\n            print('left', x)\nprint(f())",
+    "def f():\n    try:\n        1 // 0\n    except ZeroDivisionError as e:\n        try:\n            return 'inner'\n        finally:\n            print('finally')\nprint(f())",
+    "def f():\n    1 // 0\ntry:\n    f()\nexcept ZeroDivisionError:\n    print('out of f')",
+    "def f():\n    raise ValueError('v')\ntry:\n    f()\nexcept ValueError as e:\n    print(e)",
+    "def g():\n    return [1, 2]\na, b = g()\nprint(a, b)",
+    "def f(x):\n    return x\nprint([f(1), f(2)], f(3) + f(4), {'a': f(5)}['a'])",
+    "def f(x=[]):\n    x.append(1)\n    return x\nf()\nprint(f())",
+    "def f(x):\n    x[0] = 5\n    return x[0]\nprint(f([1, 2]))",
+    "def f(n):\n    return n if n < 2 else f(n - 1) + f(n - 2)\nprint(f(12))",
+    "def f():\n    return g()\ndef g():\n    return 'g'\nprint(f())",
+    "def f(a, b):\n    return a < b < 3\nprint(f(1, 2), f(2, 1))",
+    "def outer():\n    n = 0\n    def inner():\n        return n\n    n = 3\n    return inner()\nprint(outer())",
+    "def f(a):\n    del a\n    return 'gone'\nprint(f(1))",
+    "compose = lambda f, g: lambda x: f(g(x))\nprint(compose(lambda x: x + 1, lambda x: x * 2)(5))",
+])
+
+table("WRONG_CALLS", "Calls that come to no value", [
+    "def f(a):\n    return a\nf() !! arguments",
+    "def f(a):\n    return a\nf(1, 2) !! arguments",
+    "def f():\n    return f()\nf() !! calls",
+    "x = 5\nx() !! call",
+    "def f():\n    print(y)\nf() !! y",
+    "def f():\n    print(y)\n    y = 1\nf() !! y",
+    "f = lambda: 1 // 0\nf() !! zero",
+    "def f(a=1 // 0):\n    return a\nprint('no') !! zero",
+    "def f():\n    try:\n        1 // 0\n    finally:\n        print('last')\nf() !! zero",
+    "x = 5\nx(print('argument')) !! call",
+    "def f():\n    pass\nf(print('argument')) !! arguments",
+    "def f(x):\n    print('no')\nf(1 // 0) !! zero",
+    "def f():\n    pass\nf[0] !! item",
+    "def f():\n    pass\nf + 1 !! operand",
+    "def f():\n    pass\nf < f !! operand",
+    "def f():\n    pass\nfor x in f:\n    pass !! iterate",
+    "def f():\n    return 1\nf()() !! call",
+    "def f():\n    pass\nf.x !! x",
+], [
+    ("def f():\n    pass\nf.x = 1", "AttributeError: x", "only instances take attributes"),
+    ("def f():\n    pass\nd = {}\nd[f] = 1", "TypeError: key", "keys are None, numbers, truth values and texts"),
+])
+
+table("CLOSURES", "Functions within functions, and the names that they find", [
+    "def counter():\n    n = [0]\n    def more():\n        n[0] = n[0] + 1\n        return n[0]\n    return more\na = counter()\nb = counter()\nprint(a(), a(), b(), a())",
+    "fs = []\nfor i in range(3):\n    fs.append(lambda: i)\nprint(fs[0](), fs[2]())",
+    "fs = []\nfor i in range(3):\n    fs.append(lambda i=i: i)\nprint(fs[0](), fs[1](), fs[2](5))",
+    "def pair():\n    xs = []\n    def put(x):\n        xs.append(x)\n    def get():\n        return xs\n    return put, get\nput, get = pair()\nput(1)\nput('a')\nprint(get())",
+    "def a(x):\n    def b(y):\n        def c(z):\n            return [x, y, z]\n        return c\n    return b\nprint(a(1)(2)(3), a('x')('y')('z'))",
+    "x = 'global'\ndef f():\n    x = 'f'\n    def g():\n        return x\n    def h(x):\n        return x\n    return g(), h('h'), x\nprint(f(), x)",
+    "x = 1\ndef f():\n    x = 2\n    def g():\n        global x\n        x = 3\n    g()\n    return x\nprint(f(), x)",
+    "x = 1\ndef f():\n    x = 2\n    def g():\n        global x\n        return x\n    return g()\nprint(f())",
+    "def f():\n    def g():\n        return x\n    print(g())\n    x = 1\nf() !! x",
+    "def f():\n    x = 1\n    def g():\n        return x\n    del x\n    return g()\nf() !! x",
+    "x = 1\ndef f():\n    print(x)\n    x = 2\nf() !! x",
+    "def f(n):\n    def g(k):\n        return 1 if k == 0 else k * g(k - 1)\n    return g(n)\nprint(f(5), f(10))",
+    "add = lambda a: lambda b: lambda c: a + b + c\nprint(add(1)(2)(3))",
+    "def f():\n    if 0:\n        def g():\n            return 1\n    return g()\nf() !! g",
+    "def f(x):\n    def g():\n        return x\n    x = x + 1\n    return g\nprint(f(1)(), f(5)())",
+    "def f():\n    out = []\n    for i in range(3):\n        def g():\n            return i\n        out.append(g)\n    return [out[0](), out[1](), out[2]()]\nprint(f())",
+    "def f():\n    return y\ny = 5\nprint(f())\ny = 6\nprint(f())",
+    "def f():\n    return len('abc')\nprint(f())\ndef len(x):\n    return 'own'\nprint(f())",
+    "def f():\n    return 1\ng = f\ndef f():\n    return 2\nprint(g(), f())",
+    "for i in range(2):\n    def f():\n        return i\nprint(f())\ni = 5\nprint(f())",
+])
+
+table("DEFAULTS", "Defaults, and parameters that take what is left over", [
+    "x = 1\ndef f(a=x):\n    return a\nx = 2\nprint(f(), f(3))",
+    "def f(a=print(1), b=print(2)):\n    return a\nprint('def')\nf()",
+    "def f(a, b=2, c=3):\n    return [a, b, c]\nprint(f(1), f(1, 5), f(1, 5, 6))",
+    "f = lambda a, b=10: a + b\nprint(f(1), f(1, 2))",
+    "a = 5\ndef f(a=a + 1):\n    return a\nprint(f())",
+    "def f(a, *xs, **kw):\n    return [a, xs, kw]\nprint(f(1), f(1, 2, 3))",
+    "def f(**kw):\n    kw['a'] = 1\n    return kw\nprint(f(), f() == f())",
+    "def f(x, g=lambda v: v + 1):\n    return g(x)\nprint(f(1), f(1, lambda v: v * 10))",
+    "def f(*xs):\n    return xs\nt = f(1, [2])\nt[1].append(3)\nprint(t)",
+    "f = lambda *xs: xs\nprint(f(), f(1))",
+    "def f(a, b=1):\n    return a\nf() !! arguments",
+    "def f(a=1):\n    return a\nf(1, 2) !! arguments",
+    "def f(**kw):\n    return kw\nf(1) !! arguments",
+])
+
+table("RETURNS", "`return`", [
+    "def f():\n    return\nprint(f())",
+    "def f():\n    return 1, 2\nprint(f())",
+    "def f(x):\n    if x > 0:\n        return 'more'\n    elif x < 0:\n        return 'less'\nprint(f(1), f(-1), f(0))",
+    "def f(rows):\n    for row in rows:\n        for x in row:\n            if x > 3:\n                return x\nprint(f([[1, 2], [3, 4], [5]]), f([[1]]))",
+    "def f():\n    return print('in') or 5\nprint(f())",
+    "def f():\n    return 1 // 0\nf() !! zero",
+    "def f():\n    try:\n        pass\n    except ValueError:\n        return 'no'\n    else:\n        return 'else'\n    finally:\n        print('last')\nprint(f())",
+    "def f():\n    x = 1\n    try:\n        return x\n    finally:\n        x = 2\nprint(f())",
+    "def f():\n    xs = [1]\n    try:\n        return xs\n    finally:\n        xs.append(2)\nprint(f())",
+    "def f():\n    try:\n        return 1 // 0\n    except ZeroDivisionError:\n        return 'taken'\nprint(f())",
+    "def f():\n    try:\n        try:\n            return 1\n        finally:\n            print('inner')\n    finally:\n        print('outer')\nprint(f())",
+])
+
+table("CALLBACKS", "Functions as values", [
+    "def apply(f, x):\n    return f(x)\nprint(apply(len, 'abc'), apply(lambda v: v * 2, 4), apply(str, 5) + '!')",
+    "def each(f, xs):\n    out = []\n    for x in xs:\n        out.append(f(x))\n    return out\nprint(each(abs, [-1, 2]), each(lambda x: [x], 'ab'))",
+    "def twice(f):\n    return lambda x: f(f(x))\nprint(twice(twice(lambda n: n + 3))(0))",
+    "ops = {'add': lambda a, b: a + b, 'mul': lambda a, b: a * b}\nprint(ops['add'](2, 3), ops['mul'](2, 3))",
+    "for f in [len, lambda s: s + '!', str]:\n    print(f('ab'))",
+    "def fill(put):\n    put(1)\n    put(2)\nxs = []\nfill(xs.append)\nprint(xs)",
+    "def apply(f):\n    try:\n        return f()\n    except ZeroDivisionError:\n        return 'taken'\nprint(apply(lambda: 1 // 0), apply(lambda: 5))",
+    "def fold(f, xs, start):\n    for x in xs:\n        start = f(start, x)\n    return start\nprint(fold(lambda a, b: a * b, [1, 2, 3, 4], 1), fold(max, [3, 9, 2], 0))",
+    "def f():\n    print('callee')\n    return lambda x: x\nprint(f()(print('argument') or 1))",
+    "def f(a, b):\n    return a\nf(print(1), print(2))",
+    "def f():\n    pass\ng = f\nprint(f == g, f == print, f != g, [f].index(g))",
+    "def f():\n    return 0\nprint(bool(f), not f)",
+    "def f(n):\n    return (lambda: n) if n else f\nprint(f(3)(), f(0)(4)())",
+], [
+    ("def f():\n    pass\nprint(f, [f], lambda: 1)", "<function f> [<function f>] <function <lambda>>~well", "a function is shown by its name alone"),
+])
+
+table("RECURSION", "Functions that call themselves, and how many calls may be active", [
+    "def f(n):\n    return 1 if n < 2 else n * f(n - 1)\nprint(f(20))",
+    "def even(n):\n    return True if n == 0 else odd(n - 1)\ndef odd(n):\n    return False if n == 0 else even(n - 1)\nprint(even(10), even(7), odd(7))",
+    "def depth(t):\n    if not t:\n        return 0\n    return 1 + max(depth(t[0]), depth(t[1]))\nprint(depth(((), ((), ((), ())))), depth(()))",
+    "def hanoi(n, a, b, c):\n    if n == 0:\n        return 0\n    return hanoi(n - 1, a, c, b) + 1 + hanoi(n - 1, c, b, a)\nprint(hanoi(6, 'a', 'b', 'c'))",
+    "def a(m, n):\n    if m == 0:\n        return n + 1\n    if n == 0:\n        return a(m - 1, 1)\n    return a(m - 1, a(m, n - 1))\nprint(a(2, 3))",
+    "def perms(xs):\n    if not xs:\n        return [[]]\n    out = []\n    for i in range(len(xs)):\n        for p in perms(xs[:i] + xs[i + 1:]):\n            out.append([xs[i]] + p)\n    return out\nprint(perms([1, 2, 3]))",
+    "def gcd(a, b):\n    return a if b == 0 else gcd(b, a % b)\nprint(gcd(1071, 462))",
+    "def f(n):\n    return 0 if n == 0 else 1 + f(n - 1)\nprint(f(999))",
+    "f = lambda n: 0 if n == 0 else 1 + g(n - 1)\ng = lambda n: 0 if n == 0 else 1 + f(n - 1)\nprint(f(999))",
+    "def f(n):\n    return len('ab') if n == 0 else f(n - 1)\nprint(f(999))",
+    "def f():\n    return 1\nt = 0\nfor i in range(2000):\n    t += f()\nprint(t)",
+], [
+    ("def f(n):\n    return 1 if n < 2 else n * f(n - 1)\nprint(f(21))", "OverflowError: int", "whole numbers have 64 bits"),
+    ("def f(n):\n    return 0 if n == 0 else 1 + f(n - 1)\nprint(f(1000))", "RecursionError: calls", "1,000 calls may be active"),
+    ("f = lambda n: 0 if n == 0 else 1 + g(n - 1)\ng = lambda n: 0 if n == 0 else 1 + f(n - 1)\nprint(f(1000))", "RecursionError: calls", "1,000 calls may be active"),
+    ("def f(n):\n    return 0 if n == 0 else 1 + f(n - 1)\ntry:\n    print(f(1000))\nexcept RecursionError as e:\n    print(e)\nprint(f(999))", "calls~999~well", "1,000 calls may be active"),
+    ("def f():\n    try:\n        return 1 + f()\n    except RecursionError:\n        return 1\nprint(f())", "1000~well", "1,000 calls may be active"),
+])
+
+table("HANDLERS", "`except`", [
+    "try:\n    1 // 0\n    print('no')\nexcept ZeroDivisionError:\n    print('taken')\nprint('on')",
+    "try:\n    1 // 0\nexcept KeyError:\n    print('no') !! zero",
+    "try:\n    1 // 0\nexcept KeyError:\n    print('no')\nexcept ArithmeticError:\n    print('above')\nexcept ZeroDivisionError:\n    print('late')",
+    "try:\n    1 // 0\nexcept (KeyError, ZeroDivisionError):\n    print('one of two')",
+    "try:\n    1 // 0\nexcept (KeyError, IndexError):\n    print('no')\nexcept:\n    print('any')",
+    "try:\n    dict()['a']\nexcept LookupError:\n    print('lookup')",
+    "try:\n    [][0]\nexcept Exception:\n    print('exception')",
+    "try:\n    print(1)\nexcept ValueError:\n    print(2)\nelse:\n    print(3)",
+    "try:\n    1 // 0\nexcept ZeroDivisionError:\n    print(2)\nelse:\n    print(3)",
+    "try:\n    print(1)\nexcept ZeroDivisionError:\n    print(2)\nelse:\n    1 // 0 !! zero",
+    "try:\n    1 // 0\nexcept ZeroDivisionError as e:\n    print('in')\nprint(e) !! e",
+    "e = 1\ntry:\n    1 // 0\nexcept ZeroDivisionError as e:\n    e = 2\n    print(e)\nprint(e) !! e",
+    "try:\n    1 // 0\nexcept ZeroDivisionError as e:\n    del e\nprint('out')",
+    "try:\n    1 // 0\nexcept ZeroDivisionError as e:\n    [][0]\nprint('no') !! index",
+    "try:\n    try:\n        1 // 0\n    except ZeroDivisionError:\n        raise\nexcept ArithmeticError:\n    print('again')",
+    "try:\n    1 // 0\nexcept ZeroDivisionError:\n    try:\n        [][0]\n    except IndexError:\n        print('inner')\n    raise !! zero",
+    "try:\n    1 // 0\nexcept ZeroDivisionError:\n    try:\n        [][0]\n    except IndexError:\n        raise !! index",
+    "try:\n    1 // 0\nexcept 5:\n    print('no') !! except",
+    "try:\n    1 // 0\nexcept (ZeroDivisionError, 5):\n    print('no') !! except",
+    "try:\n    1 // 0\nexcept [][0]:\n    print('no') !! index",
+    "try:\n    1 // 0\nexcept (print('asked') or KeyError):\n    print('no')\nexcept (print('too') or ZeroDivisionError):\n    print('yes')",
+    "try:\n    print(1)\nexcept (print('never') or KeyError):\n    print('no')",
+    "for x in [1, 0, 2]:\n    try:\n        print(6 // x)\n    except ZeroDivisionError:\n        print('none')\n        continue\n    print('next')",
+    "for x in [1, 0, 2]:\n    try:\n        print(6 // x)\n    except ZeroDivisionError:\n        break\nprint('out')",
+    "for x in [[1, 0], [2]]:\n    try:\n        for y in x:\n            print(2 // y)\n    except ZeroDivisionError:\n        print(x)",
+])
+
+table("RAISED_WITHIN", "Exceptions that pass functions and handlers", [
+    "def f():\n    raise ValueError\ntry:\n    f()\nexcept ValueError as e:\n    print('[' + str(e) + ']')",
+    "def f(e):\n    raise e\ntry:\n    f(LookupError('k'))\nexcept LookupError as e:\n    print(e)",
+    "saved = None\ntry:\n    raise ValueError('kept')\nexcept ValueError as e:\n    saved = e\nprint(saved)\nraise saved !! kept",
+    "def inner():\n    try:\n        [][0]\n    except IndexError:\n        print('inner')\ntry:\n    1 // 0\nexcept ZeroDivisionError:\n    inner()\n    raise !! zero",
+    "try:\n    1 // 0\nexcept ZeroDivisionError:\n    for i in range(3):\n        print(i)\n        if i == 1:\n            raise !! zero",
+    "def f():\n    try:\n        g()\n    finally:\n        print('f')\ndef g():\n    try:\n        raise RuntimeError('deep')\n    finally:\n        print('g')\ntry:\n    f()\nexcept RuntimeError as e:\n    print(e)",
+    "try:\n    raise IndexError('i')\nexcept LookupError as e:\n    print(e)",
+    "try:\n    raise ValueError('v')\nexcept ValueError as e:\n    print([e], (e,))",
+    "try:\n    try:\n        raise ValueError('v')\n    except KeyError:\n        print('no')\n    finally:\n        print('last')\nexcept ValueError as e:\n    print(e)",
+    "def f():\n    try:\n        1 // 0\n    except ZeroDivisionError as e:\n        pass\n    return e\nf() !! e",
+    "def f():\n    try:\n        1 // 0\n    except ZeroDivisionError as e:\n        return lambda: e\nf()() !! e",
+    "for x in [1]:\n    try:\n        1 // 0\n    except ZeroDivisionError as e:\n        break\nprint(e) !! e",
+    "try:\n    try:\n        1 // 0\n    except ZeroDivisionError as e:\n        [][0]\nexcept IndexError:\n    pass\nprint(e) !! e",
+    "def f(kind):\n    try:\n        raise kind\n    except (KeyError, IndexError):\n        return 'lookup'\n    except ArithmeticError:\n        return 'arithmetic'\n    except:\n        return 'other'\nprint(f(KeyError), f(OverflowError), f(ZeroDivisionError), f(NameError))",
+    "def f(xs):\n    for x in xs:\n        try:\n            print(10 // x)\n        except ZeroDivisionError:\n            print('none')\n            return 'out'\n        finally:\n            print('last', x)\nprint(f([5, 0, 2]))",
+], [
+    ("raise ValueError('a', 'b')", "TypeError: arguments", "a kind takes one argument at most"),
+    ("try:\n    {}['k']\nexcept KeyError as e:\n    print(e)", "'k'~well", "the text is the key as it is shown in a container"),
+])
+
+table("LASTS", "`finally`", [
+    "try:\n    print(1)\nfinally:\n    print(2)",
+    "try:\n    1 // 0\nfinally:\n    print('last') !! zero",
+    "try:\n    1 // 0\nexcept ZeroDivisionError:\n    print(1)\nfinally:\n    print(2)",
+    "try:\n    print(1)\nexcept ValueError:\n    print(2)\nelse:\n    print(3)\nfinally:\n    print(4)",
+    "try:\n    print(1)\nexcept ZeroDivisionError:\n    print(2)\nelse:\n    1 // 0\nfinally:\n    print(4) !! zero",
+    "try:\n    1 // 0\nexcept ZeroDivisionError:\n    [][0]\nfinally:\n    print('last') !! index",
+    "try:\n    1 // 0\nfinally:\n    [][0] !! index",
+    "for x in [1, 2, 3]:\n    try:\n        if x == 2:\n            continue\n        if x == 3:\n            break\n        print(x)\n    finally:\n        print('last', x)\nprint('out')",
+    "for x in [1, 2]:\n    try:\n        1 // 0\n    finally:\n        print(x)\n        break\nprint('out')",
+    "i = 0\nwhile i < 2:\n    i += 1\n    try:\n        break\n    finally:\n        continue\nprint(i)",
+    "try:\n    try:\n        1 // 0\n    finally:\n        print('inner')\nexcept ZeroDivisionError:\n    print('outer')\nfinally:\n    print('last')",
+    "try:\n    try:\n        1 // 0\n    finally:\n        try:\n            [][0]\n        except IndexError:\n            print('within')\nexcept ZeroDivisionError:\n    print('outer')",
+])
+
+LEFT = ["pass", "return 'tried'", "break", "continue", "1 // 0"]
+LAST = ["pass", "return 'last'", "break", "continue", "[][0]"]
+TEXTS = {"ZeroDivisionError": "zero", "IndexError": "index"}
+
+
+def left(script, parts, lasts):
+    """The script for each way in which its block is left, and each in which its last block is."""
+    for part in parts:
+        for last in lasts:
+            whole = script.replace("PART", part).replace("LAST", last)
+            fault = re.fullmatch(r".*\?\? (\w+): .*", answer(whole, None), re.S)
+            yield f"{whole} !! {TEXTS[fault.group(1)]}" if fault else whole
+
+
+table("LEAVES", "A block that is left in each way, before a block of `finally` that is: in a loop of a function", list(left(
+    "def f():\n for x in [1, 2]:\n  try:\n   print('try', x)\n   PART\n  finally:\n   print('last', x)\n   LAST\n  print('on', x)\n return 'end'\n"
+    "print(f())", LEFT, LAST)))
+
+table("HANDLER_LEAVES", "The same of the block of a handler, where `raise` stands alone", list(left(
+    "def f():\n for x in [1, 2]:\n  try:\n   1 // 0\n  except ZeroDivisionError:\n   print('taken', x)\n   PART\n  finally:\n   print('last', x)\n"
+    "   LAST\n  print('on', x)\n return 'end'\nprint(f())", LEFT[:4] + ["raise"], LAST)))
+
+table("FUNCTION_LEAVES", "The same in a function, with no loop", list(left(
+    "def f():\n try:\n  print('try')\n  PART\n finally:\n  print('last')\n  LAST\n print('on')\n return 'end'\nprint(f())",
+    [LEFT[0], LEFT[1], LEFT[4]], [LAST[0], LAST[1], LAST[4]])))
+
+table("LOOP_LEAVES", "The same in a loop of the program", list(left(
+    "for x in [1, 2]:\n try:\n  print('try', x)\n  PART\n finally:\n  print('last', x)\n  LAST\n print('on', x)\nprint('end')",
+    [LEFT[0]] + LEFT[2:], [LAST[0]] + LAST[2:])))
+
+table("ELSE_LEAVES", "The same of the block of `else`", list(left(
+    "def f():\n for x in [1, 2]:\n  try:\n   print('try', x)\n  except ZeroDivisionError:\n   print('no')\n  else:\n   PART\n  finally:\n"
+    "   print('last', x)\n  print('on', x)\n return 'end'\nprint(f())", LEFT, LAST[:1])))
 
 if __name__ == "__main__":
     words = sys.argv[1:]

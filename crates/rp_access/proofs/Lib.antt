@@ -2,6 +2,7 @@ mod Asked
 mod Changed
 pub mod Coupled
 mod Decided
+mod Excepted
 mod Exposed
 mod FunctionLaws
 pub mod Going

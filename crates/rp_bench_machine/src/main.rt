@@ -3,10 +3,11 @@
 //! well, and 1 where it doesn't or is not run; without a word it does nothing.
 #![tactic(auto)]
 
-ghost use Rattle.rp_tests_stage.specs.Staged.{IsStaged};
+ghost use Rattle.rp_play.specs.Programs.{AreNumbered};
+ghost use Rattle.rp_tests_stage.specs.Staged.{IsGround, IsStaged};
 
 use rp_session::SessionEnd;
-use rp_tests_stage::{Code, Setting, Stage, set};
+use rp_tests_stage::{Code, Reading, Setting, Stage, read, set};
 use std::alloc::Global;
 use std::process::ExitCode;
 use std::rt::Env;
@@ -43,7 +44,19 @@ fn status_of(alloc: Global, script: &str) -> ExitCode {
         steps: AMPLE,
         cells: AMPLE,
     };
-    match set(alloc, setting, script) {
+    match read(alloc, setting, script) {
+        Ok(Some(reading)) => status_over(alloc, setting, reading),
+        Ok(None) => ExitCode::from(1),
+        Err(_) => ExitCode::from(8),
+    }
+}
+
+fn status_over(alloc: Global, setting: Setting<'_>, reading: Reading) -> ExitCode
+    requires ground { IsGround reading.ground }
+    requires numbered { AreNumbered reading.trees }
+{
+    let Reading { trees, ground } = reading;
+    match set(alloc, setting, &trees, ground) {
         Ok(Some(stage)) => ExitCode::from(ended(stage)),
         Ok(None) => ExitCode::from(1),
         Err(_) => ExitCode::from(8),
@@ -51,13 +64,18 @@ fn status_of(alloc: Global, script: &str) -> ExitCode {
 }
 
 /// 0 where the session of a stage ends well.
-fn ended(mut stage: Stage) -> u8
+fn ended(stage: Stage<'_>) -> u8
     requires { IsStaged stage }
 {
-    if stage.sessions.run_all(&stage.units, &[]).is_err() {
+    let Stage {
+        units,
+        mut sessions,
+        ..
+    } = stage;
+    if sessions.run_all(&units, &[]).is_err() {
         return 1;
     }
-    match stage.sessions.sessions().first() {
+    match sessions.sessions().first() {
         Some(session) => match session.end() {
             Some(SessionEnd::Well) => 0,
             _ => 1,

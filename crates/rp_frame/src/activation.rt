@@ -1,10 +1,10 @@
 //! Where code runs.
 
-use rp_base::{Oid, Side};
+use rp_base::{Oid, Raised, Side};
 
 /// Where code runs: in a frame of the program, or of a function that was called (Python Language Reference, Naming and
 /// binding, Structure of a program).
-#[derive(Clone, Copy, Debug, PartialEq, Eq)]
+#[derive(Drop)]
 pub struct Activation {
     /// Whose code runs.
     pub side: Side,
@@ -14,4 +14,6 @@ pub struct Activation {
     pub scope: Oid,
     /// How many calls it may make within one another.
     pub calls: usize,
+    /// The exception that the handler took in whose block the code stands.
+    pub handling: Option<Raised>,
 }

@@ -21,4 +21,8 @@ pub enum Control<'u> {
     Continued,
     /// A statement was cut off; why stands in the machine.
     CutOff,
+    /// Left by `return`, with the last value at hand.
+    Returned,
+    /// Calls what is at hand under so many arguments.
+    Call(u32),
 }

@@ -4,6 +4,7 @@
 mod activation;
 mod control;
 mod display;
+mod leaving;
 mod spot;
 mod task;
 mod tasks;
@@ -12,6 +13,7 @@ mod values;
 pub use activation::Activation;
 pub use control::Control;
 pub use display::Display;
+pub use leaving::Leaving;
 pub use spot::{Each, Spot};
 pub use task::{ExprTask, FlowTask, StmtTask, Task};
 pub use tasks::Tasks;

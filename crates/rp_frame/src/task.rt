@@ -1,9 +1,10 @@
 //! What waits for the end of a part.
 
 use crate::display::Display;
+use crate::leaving::Leaving;
 use crate::spot::{Each, Spot};
 use rp_base::{BinOp, Name, UnOp};
-use rp_tree::{Arg, Branch, Expr, Place, Stmt, Target, Test, Trailer};
+use rp_tree::{Arg, Branch, Except, Expr, Named, Place, Stmt, Target, Test, Trailer};
 
 /// What an expression does with the value of a part, or that of a statement.
 #[derive(Clone, Copy)]
@@ -48,6 +49,9 @@ pub enum ExprTask<'u> {
     /// With the value of a key of a dict display; so many keys and values before it are at hand, and these pairs are
     /// behind.
     DictValue(u32, &'u [(Expr, Expr)]),
+    /// With a default of a function of this code block, with a name or, for a lambda, without; so many before it are at
+    /// hand, and these parameters are behind.
+    Default(Option<Name>, usize, u32, &'u [(Named, Option<Expr>)]),
 }
 
 /// What a statement does with the value of an expression.
@@ -96,6 +100,12 @@ pub enum StmtTask<'u> {
     AugmentedItem(BinOp),
     /// With the value that is unpacked over a target.
     Unpack(&'u Target),
+    /// With the value in an `except` clause; the exception is at hand, and these clauses are behind.
+    Handler(&'u Except, &'u [Except]),
+    /// With the value that `return` gives back.
+    Return,
+    /// With the function that a `def` binds to this name.
+    Define(Name),
 }
 
 /// What waits for the end of a statement or a block.
@@ -113,6 +123,14 @@ pub enum FlowTask<'u> {
     For(u64, Spot, Each<'u>),
     /// The targets behind one that an element was stored to; their elements are at hand, the first one upon the others.
     StoreEach(&'u [Target]),
+    /// The `except` clauses of a `try` statement, and its block of `else`.
+    Try(&'u [Except], &'u [Stmt]),
+    /// A handler, whose exception is bound to the name; what was handled before, or None, is at hand.
+    Handled(Option<Name>),
+    /// The block of `finally`.
+    Finally(&'u [Stmt]),
+    /// What left the part before the block of `finally`; the exception, the value of `return`, or None is at hand.
+    Leave(Leaving),
 }
 
 /// What waits for the end of a part.

@@ -23,6 +23,7 @@ impl<'u> Model for Tasks<'u> {
     ghost use Rattle.rp_tree.specs.contracts.expr.Trailer as trailer;
     ghost use Rattle.rp_tree.specs.contracts.expr.Target as target;
     ghost use Rattle.rp_tree.specs.contracts.stmt.Branch as branch;
+    ghost use Rattle.rp_tree.specs.contracts.stmt.Except as except;
     ghost use Rattle.rp_tree.specs.contracts.stmt.Stmt as stmt;
 
     ghost Value = { List Task };
@@ -34,6 +35,7 @@ impl<'u> Model for Tasks<'u> {
       place.the_row.coded,
       target.the_row.coded,
       branch.the_row.coded,
+      except.the_row.coded,
       stmt.the_row.coded,
       trailer.the_row.coded,
     ) };

@@ -3,6 +3,7 @@ mod Endings
 mod Finished
 mod GlobalNames
 mod Lists
+mod Numbered
 pub mod Numbering
 pub mod Once
 mod Placing

@@ -1,7 +1,7 @@
 -- Lists of which one element after another is taken.
-use Rattle.std.proofs.Common.{◌≡◌, ℕ, List, [], ◌∷◌, ◌++◌, map, append_assoc, refl, sym, ap, subst, ◌∙◌}
+use Rattle.std.proofs.Common.{◌≡◌, ℕ, ◌+◌, ◌<◌, List, [], ◌∷◌, ◌++◌, map, length, take, get_or, append_assoc, refl, sym, ap, subst, ◌∙◌}
 use Rattle.std.specs.List.{AllZip}
-use Rattle.std.proofs.lemmas.List.{append-nil, map_push}
+use Rattle.std.proofs.lemmas.List.{append-nil, map_push, take_more}
 
 module _ {X : Type 0} where
   pub one-yielded : (yielded all rest whole : List X) (x : X) → all ≡ x ∷ rest → yielded ++ all ≡ whole → (yielded ++ x ∷ []) ++ rest ≡ whole
@@ -23,6 +23,13 @@ module _ {X Y : Type 0} where
   zip-push R f taken ys zs a y pushed h r =
       subst (λ (zs : List Y). AllZip R (map f (taken ++ a ∷ [])) zs) (sym pushed)
       (subst (λ (xs : List X). AllZip R xs (ys ++ y ∷ [])) (sym (map_push f taken a)) (zip-more R (map f taken) ys (f a) y h r))
+
+  -- the same where the elements are taken by their places
+  pub zip-turn : {A : Type 0} (R : X → Y → Type 0) (f : A → X) (all : List A) (i : ℕ) (a : A) (ys zs : List Y) (y : Y) → i < length all → a ≡ get_or all i a → zs ≡ ys ++ y ∷ []
+      → AllZip R (map f (take i all)) ys → R (f a) y → AllZip R (map f (take (i + 1) all)) zs
+  zip-turn {A = A} R f all i a ys zs y inside is pushed h r =
+      subst (λ (taken : List A). AllZip R (map f taken) zs) (sym (take_more all i a inside))
+      (zip-push R f (take i all) ys zs (get_or all i a) y pushed h (subst (λ (b : A). R (f b) y) is r))
 
   pub map-push : (f : X → Y) (xs : List X) (ys zs : List Y) (x : X) → zs ≡ ys ++ f x ∷ [] → ys ≡ map f xs → zs ≡ map f (xs ++ x ∷ [])
   map-push f xs ys zs x pushed h = pushed ∙ ap (λ (ys : List Y). ys ++ f x ∷ []) h ∙ sym (map_push f xs x)

@@ -1,11 +1,11 @@
 -- The run of the programs of some scripts is that of their direct meaning.
-use Rattle.std.proofs.Common.{◌≡◌, ℕ, zero, suc, ◌-◌, ◌<◌, Bool, true, false, if◌then◌else◌, nat_eq, List, [], ◌∷◌, length, slice_get, refl, sym, ap, subst, ◌∙◌, ne_eqb, arith}
+use Rattle.std.proofs.Common.{◌≡◌, ℕ, zero, suc, ◌-◌, Bool, true, false, if◌then◌else◌, nat_eq, List, [], ◌∷◌, slice_get, refl, sym, ap, subst, ◌∙◌, ne_eqb, arith}
 use Rattle.std.specs.List.{AllZip}
 use Rattle.std.specs.Option.{option_map_or}
 use Rattle.rp_base.specs.declared.value.Side.{Side}
 use Rattle.rp_decl.specs.Records.{Declarations}
 use Rattle.rp_meaning.specs.Frame.{Program, Run}
-use Rattle.rp_session.specs.Ready.{AreLaidOut}
+use Rattle.rp_session.specs.Ready.{AreLaidOut, IsLaidOut}
 use Rattle.rp_step.specs.Moment as step
 use Rattle.rp_step.specs.Moment.{program_view}
 use Rattle.rp_step.specs.declared.units.Program.{Program as CodeProgram}
@@ -45,22 +45,21 @@ module _ (module' : CodeProgram) where
   view-on m is_module trees us are zero = is_module
   view-on m is_module trees us are (suc place) = ap program_view (behind-first place us) ∙ view-at m is_module trees us are place
 
-  laid-at : 0 < length module'.layouts → (trees : List Stmts) (us : List CodeProgram) → AllZip IsProgramOf trees us → (place : ℕ) → 0 < length (at_place place us).layouts
+  laid-at : IsLaidOut module' → (trees : List Stmts) (us : List CodeProgram) → AllZip IsProgramOf trees us → (place : ℕ) → IsLaidOut (at_place place us)
   laid-at laid [] [] are place = laid
   laid-at laid [] (u ∷ us) are place = absurd are
   laid-at laid (t ∷ ts) [] are place = absurd are
-  laid-at laid (t ∷ ts) (u ∷ us) are zero = are.0.block
+  laid-at laid (t ∷ ts) (u ∷ us) are zero = are.0.laid
   laid-at laid (t ∷ ts) (u ∷ us) are (suc place) = laid-at laid ts us are.1 place
 
-  laid-on : 0 < length module'.layouts → (trees : List Stmts) (us : List CodeProgram) → AllZip IsProgramOf trees us → (n : ℕ) → 0 < length (on_side n us).layouts
+  laid-on : IsLaidOut module' → (trees : List Stmts) (us : List CodeProgram) → AllZip IsProgramOf trees us → (n : ℕ) → IsLaidOut (on_side n us)
   laid-on laid trees us are zero = laid
-  laid-on laid trees us are (suc place) =
-      subst (λ (u : CodeProgram). 0 < length u.layouts) (sym (behind-first place us)) (laid-at laid trees us are place)
+  laid-on laid trees us are (suc place) = subst IsLaidOut (sym (behind-first place us)) (laid-at laid trees us are place)
 
 pub run-is : (names : List (List ℕ)) (d : Declarations) (trees : List Stmts) (units : Units) → program_view units.module ≡ module_in names d → AllZip IsProgramOf trees units.scripts.items
     → step.run_of (run_of names d trees) units ≡ run_of names d trees
 run-is names d trees units is_module are =
     λ i. record (run_of names d trees) { programs = λ side. view-on units.module (module_in names d) is_module trees units.scripts.items are side.0 i }
 
-pub laid-out : (trees : List Stmts) (units : Units) → 0 < length units.module.layouts → AllZip IsProgramOf trees units.scripts.items → AreLaidOut units
+pub laid-out : (trees : List Stmts) (units : Units) → IsLaidOut units.module → AllZip IsProgramOf trees units.scripts.items → AreLaidOut units
 laid-out trees units laid are side = laid-on units.module laid trees units.scripts.items are side.0

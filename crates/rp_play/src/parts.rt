@@ -1,13 +1,9 @@
 //! The scripts of a run, and what each is taken apart into.
 
 ghost use Rattle.std.specs.Prelude.{◌≡◌, IfOk, map};
-ghost use Rattle.std.specs.List.{AllZip};
-ghost use Rattle.rp_play.specs.Programs.{IsNumberedWhereFew};
-ghost use Rattle.rp_tree.specs.StatementViews.{view_tree};
 
 use rp_base::Memory;
 use rp_interact::Interaction;
-use rp_scope::number;
 use rp_tree::Tree;
 use std::alloc::Global;
 
@@ -18,7 +14,7 @@ pub struct SessionScript {
     pub tree: Tree,
 }
 
-/// For whom the scripts of a run run, and their trees with the code blocks numbered.
+/// For whom the scripts of a run run, and their trees.
 #[derive(Drop)]
 pub(crate) struct Parts {
     pub whos: Vec<Interaction>,
@@ -31,25 +27,14 @@ pub(crate) struct Parts {
 /// `Memory` where a growth was refused.
 pub(crate) fn parts_of(alloc: Global, scripts: Vec<SessionScript>) -> Result<Parts, Memory>
     ensures whos { IfOk result (λ parts. parts.whos.items ≡ map (λ script. script.who) scripts.items) }
-    ensures trees { IfOk result (λ parts. AllZip IsNumberedWhereFew
-        (map (λ script. view_tree script.tree) scripts.items) (map view_tree parts.trees.items)) }
+    ensures trees { IfOk result (λ parts. parts.trees.items ≡ map (λ script. script.tree) scripts.items) }
 {
     let mut whos = Vec::new(alloc);
     let mut trees = Vec::new(alloc);
     for script in scripts {
         let SessionScript { who, tree } = script;
-        let tree = numbered(tree);
         whos.push(who)?;
         trees.push(tree)?;
     }
     Ok(Parts { whos, trees })
-}
-
-/// A tree with its code blocks numbered.
-fn numbered(tree: Tree) -> Tree
-    ensures { IsNumberedWhereFew (view_tree tree) (view_tree result) }
-{
-    let mut numbered = tree;
-    number(&mut numbered);
-    numbered
 }

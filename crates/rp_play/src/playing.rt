@@ -24,8 +24,9 @@ ghost use Rattle.rp_tree.specs.StatementViews.{view_tree};
 ghost use Rattle.rp_world.specs.Worlds.{IsLoaded};
 
 use crate::no_outcome::NoOutcome;
-use crate::parts::{SessionScript, parts_of};
+use crate::parts::{Parts, SessionScript, parts_of};
 use crate::programs::units_of;
+use crate::trees::Trees;
 use rp_base::{Memory, Meter, Names, Printed};
 use rp_decl::Decl;
 use rp_interact::{Interaction, WhoFault};
@@ -77,10 +78,12 @@ pub fn play(
     ensures cause { IfErr result (IsAmong (length scripts.items)) }
 {
     let parts = parts_of(alloc, scripts)?;
-    let units = units_of(alloc, &decl, parts.trees)?;
+    let Parts { whos, trees } = parts;
+    let trees = Trees::of_scripts(alloc, trees)?;
+    let units = units_of(alloc, &decl, &trees)?;
     let world = empty_world(alloc, decl, names, limits.cells)?;
     let mut sessions = Sessions::new(alloc, world);
-    begin_all(&mut sessions, &units, parts.whos, limits.steps)?;
+    begin_all(&mut sessions, &units, whos, limits.steps)?;
     match sessions.run_all(&units, listed) {
         Ok(()) => Ok(sessions),
         Err(halt) => Err(NoOutcome::of(halt)),
@@ -93,7 +96,7 @@ pub fn play(
 /// `Memory` where a growth was refused.
 fn begin_all(
     sessions: &mut Sessions,
-    units: &Units,
+    units: &Units<'_>,
     whos: Vec<Interaction>,
     steps: u64,
 ) -> Result<(), Memory>

@@ -1,32 +1,33 @@
 //! Programs of scripts, and of a module without a text.
 
-ghost use Rattle.std.specs.Prelude.{◌≡◌, ◌<◌, [], IfOk, OnOk, length, map};
-ghost use Rattle.std.specs.List.{AllZip};
+ghost use Rattle.std.specs.Prelude.{◌≡◌, IfOk, OnOk, map};
+ghost use Rattle.std.specs.List.{All, AllZip};
 ghost use Rattle.rp_machine.specs.Globals.{placed_names};
 ghost use Rattle.rp_play.specs.Played.{program_in};
-ghost use Rattle.rp_play.specs.Programs.{AreOf, HasFewBlocks, IsProgramOf};
-ghost use Rattle.rp_session.specs.Ready.{AreLaidOut};
+ghost use Rattle.rp_play.specs.Programs.{AreNumbered, AreOf, HasFewBlocks, HasNumbersWhereFew, IsProgramOf};
+ghost use Rattle.rp_session.specs.Ready.{AreLaidOut, IsLaidOut};
 ghost use Rattle.rp_step.specs.Moment.{program_view};
-ghost use Rattle.rp_tree.specs.Statements.{no_stmts};
 ghost use Rattle.rp_tree.specs.StatementViews.{view_tree};
 
+use crate::trees::Trees;
 use rp_base::{Memory, Name};
 use rp_decl::{ClassDecl, Decl, ObjectDecl};
-use rp_scope::resolve;
 use rp_step::{Program, Units};
 use rp_tree::Tree;
 use std::alloc::Global;
 
-/// The programs of a run of some scripts over declarations without a module. The scripts are read as these trees, whose
-/// code blocks have their numbers, as `rp_scope::number` sets them.
+/// The programs of a run of some scripts over declarations without a module, which are read as these trees.
 ///
 /// # Errors
 /// `Memory` where a growth was refused.
-pub fn units_of(alloc: Global, decl: &Decl, scripts: Vec<Tree>) -> Result<Units, Memory>
-    ensures of { IfOk result (AreOf decl.now (map view_tree scripts.items)) }
+pub fn units_of<'t>(alloc: Global, decl: &Decl, trees: &'t Trees) -> Result<Units<'t>, Memory>
+    requires numbered { AreNumbered trees.now }
+    ensures of { IfOk result (AreOf decl.now (map view_tree trees.now.scripts.items)) }
     ensures laid { IfOk result AreLaidOut }
 {
-    let module = module_program(alloc, decl)?;
+    let declared = declared_names(alloc, decl)?;
+    let module = program_of(alloc, &trees.module, declared.as_slice())?;
+    let scripts = trees.scripts.as_slice();
     let programs = script_programs(alloc, scripts)?;
     Ok(Units {
         module,
@@ -34,39 +35,29 @@ pub fn units_of(alloc: Global, decl: &Decl, scripts: Vec<Tree>) -> Result<Units,
     })
 }
 
-/// The program of a module without a text, whose global names are those of the declared classes and objects.
-fn module_program(alloc: Global, decl: &Decl) -> Result<Program, Memory>
-    ensures is { IfOk result (λ program. program_view program ≡ program_in (placed_names decl.now) no_stmts) }
-    ensures block { IfOk result (λ program. 0 < length program.layouts) }
-{
-    let tree = Tree {
-        body: Vec::new(alloc),
-    };
-    let first = declared_names(alloc, decl)?;
-    let layouts = resolve(alloc, &tree, first.as_slice())?;
-    Ok(Program { tree, layouts })
-}
-
 /// The programs of scripts, in order.
-fn script_programs(alloc: Global, trees: Vec<Tree>) -> Result<Vec<Program>, Memory>
-    ensures { IfOk result (λ programs. AllZip IsProgramOf (map view_tree trees.items) programs.items) }
+fn script_programs<'t>(alloc: Global, trees: &'t [Tree]) -> Result<Vec<Program<'t>>, Memory>
+    requires numbers { All (λ tree. HasNumbersWhereFew (view_tree tree)) trees.now }
+    ensures { IfOk result (λ programs. AllZip IsProgramOf (map view_tree trees.now) programs.items) }
 {
     let mut programs = Vec::new(alloc);
     for tree in trees {
-        let program = script_program(alloc, tree)?;
+        let program = program_of(alloc, tree, &[])?;
         programs.push(program)?;
     }
     Ok(programs)
 }
 
-/// The program of a script.
-fn script_program(alloc: Global, tree: Tree) -> Result<Program, Memory>
-    ensures is { IfOk result (λ program. program_view program ≡ program_in [] (view_tree tree)) }
-    ensures few { OnOk result (HasFewBlocks (view_tree tree)) }
-    ensures block { IfOk result (λ program. 0 < length program.layouts) }
+/// The program of a tree, whose global names begin with these.
+fn program_of<'t>(alloc: Global, tree: &'t Tree, first: &[Name]) -> Result<Program<'t>, Memory>
+    requires numbers { HasNumbersWhereFew (view_tree tree.now) }
+    ensures is { IfOk result (λ program. program_view program ≡ program_in first.now (view_tree tree.now)) }
+    ensures few { OnOk result (HasFewBlocks (view_tree tree.now)) }
+    ensures laid { IfOk result IsLaidOut }
 {
-    let layouts = resolve(alloc, &tree, &[])?;
-    Ok(Program { tree, layouts })
+    let program = Program::of_tree(alloc, tree, first)?;
+    let _blocks = program.layouts.len();
+    Ok(program)
 }
 
 /// The names of the declared classes, and then of the declared objects.

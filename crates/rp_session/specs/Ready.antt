@@ -7,7 +7,9 @@ use Rattle.rp_interact.specs.Interacting.{Interacting}
 use Rattle.rp_proxy.specs.Faithful.{IsFaithful, MayGrowTo}
 use Rattle.rp_proxy.specs.declared.world.World.{World}
 use Rattle.rp_store.specs.Kept.{IsScopeOf}
+use Rattle.rp_step.specs.Codes.{IsIndexed}
 use Rattle.rp_step.specs.Moment.{program_at}
+use Rattle.rp_step.specs.declared.units.Program.{Program}
 use Rattle.rp_step.specs.declared.units.Units.{Units}
 use Rattle.rp_session.specs.declared.session.Session.{Session}
 use Rattle.rp_session.specs.declared.sessions.Sessions.{Sessions}
@@ -33,6 +35,10 @@ pub record AreReady (x : Sessions) : Type 0 where
   -- their numbers fit the code's
   pub few : length x.list.items < 2 ^ 32
 
--- each program has the layout of its own block
+-- it has the layout of its own block, and the table of its functions
+pub record IsLaidOut (p : Program) : Type 0 where
+  pub block : 0 < length p.layouts
+  pub indexed : IsIndexed p
+
 abbrev pub AreLaidOut : Units → Type 0
-AreLaidOut units = (side : Side) → 0 < length (program_at units side).layouts
+AreLaidOut units = (side : Side) → IsLaidOut (program_at units side)

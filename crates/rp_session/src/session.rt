@@ -78,11 +78,11 @@ impl Session {
     /// Takes a turn: runs the next statement, where the session has not ended.
     ///
     /// # Errors
-    /// As those of `Machine::run_block`.
-    pub(crate) fn turn(
+    /// As those of `Runner::run_block`.
+    pub(crate) fn turn<'u>(
         &mut self,
         alloc: Global,
-        units: &Units,
+        units: &'u Units<'u>,
         world: &mut World,
     ) -> Result<(), Halt>
         requires faithful { IsFaithful world.old }
@@ -120,7 +120,7 @@ impl Session {
     fn run<'u>(
         &mut self,
         alloc: Global,
-        units: &'u Units,
+        units: &'u Units<'u>,
         world: &mut World,
         statements: &'u [Stmt],
         is_last: bool,

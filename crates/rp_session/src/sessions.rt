@@ -51,7 +51,7 @@ impl Sessions {
     ///
     /// # Errors
     /// `Memory` where a growth was refused; then there is no session more.
-    pub fn begin(&mut self, units: &Units, who: Interaction, steps: u64) -> Result<(), Memory>
+    pub fn begin(&mut self, units: &Units<'_>, who: Interaction, steps: u64) -> Result<(), Memory>
         requires ready { AreReady self.old }
         requires few { length self.old.list.items < 2 ^ 32 - 1 }
         requires laid { AreLaidOut units.now }
@@ -107,8 +107,8 @@ impl Sessions {
     /// no such session, nothing changes.
     ///
     /// # Errors
-    /// Those of `Machine::run_block`, with the number.
-    pub fn turn(&mut self, units: &Units, number: u32) -> Result<(), SessionHalt>
+    /// Those of `Runner::run_block`, with the number.
+    pub fn turn(&mut self, units: &Units<'_>, number: u32) -> Result<(), SessionHalt>
         requires ready { AreReady self.old }
         requires laid { AreLaidOut units.now }
         ensures turn { OnOk result ((base : Run) → sessions_view self.new
@@ -127,7 +127,7 @@ impl Sessions {
     }
 
     /// The same turn. There is such a session where its machine does not go on.
-    fn take_turn(&mut self, units: &Units, number: u32) -> Result<(), Halt>
+    fn take_turn(&mut self, units: &Units<'_>, number: u32) -> Result<(), Halt>
         requires ready { AreReady self.old }
         requires laid { AreLaidOut units.now }
         ensures turn { OnOk result ((base : Run) → sessions_view self.new
@@ -149,7 +149,7 @@ impl Sessions {
     ///
     /// # Errors
     /// As those of `turn`.
-    pub fn turns(&mut self, units: &Units, listed: &[u32]) -> Result<(), SessionHalt>
+    pub fn turns(&mut self, units: &Units<'_>, listed: &[u32]) -> Result<(), SessionHalt>
         requires ready { AreReady self.old }
         requires laid { AreLaidOut units.now }
         ensures turns { OnOk result ((base : Run) → sessions_view self.new
@@ -165,7 +165,7 @@ impl Sessions {
     }
 
     /// So many turns of the session of a number.
-    fn turns_of(&mut self, units: &Units, count: usize, number: u32) -> Result<(), SessionHalt>
+    fn turns_of(&mut self, units: &Units<'_>, count: usize, number: u32) -> Result<(), SessionHalt>
         requires ready { AreReady self.old }
         requires laid { AreLaidOut units.now }
         ensures turns { OnOk result ((base : Run) → sessions_view self.new
@@ -186,7 +186,7 @@ impl Sessions {
     ///
     /// # Errors
     /// As those of `turn`.
-    pub fn finish(&mut self, units: &Units) -> Result<(), SessionHalt>
+    pub fn finish(&mut self, units: &Units<'_>) -> Result<(), SessionHalt>
         requires ready { AreReady self.old }
         requires laid { AreLaidOut units.now }
         ensures finished { OnOk result ((base : Run) → sessions_view self.new
@@ -208,7 +208,7 @@ impl Sessions {
     ///
     /// # Errors
     /// As those of `turn`.
-    pub fn run_all(&mut self, units: &Units, listed: &[u32]) -> Result<(), SessionHalt>
+    pub fn run_all(&mut self, units: &Units<'_>, listed: &[u32]) -> Result<(), SessionHalt>
         requires ready { AreReady self.old }
         requires laid { AreLaidOut units.now }
         ensures run { OnOk result ((base : Run) → sessions_view self.new

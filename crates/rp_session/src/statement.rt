@@ -1,11 +1,12 @@
 //! Statements of programs.
 
-ghost use Rattle.std.specs.Prelude.{◌<◌, IfOk, length};
+ghost use Rattle.std.specs.Prelude.{◌<◌, IfOk, OnOk, length};
 ghost use Rattle.rp_access.specs.Comes.{Comes};
 ghost use Rattle.rp_access.specs.Moment.{state_of};
 ghost use Rattle.rp_meaning.specs.Frame.{Run};
 ghost use Rattle.rp_meaning.specs.Running.{program_frame};
 ghost use Rattle.rp_proxy.specs.Faithful.{IsFaithful};
+ghost use Rattle.rp_step.specs.Codes.{AreIndexed};
 ghost use Rattle.rp_step.specs.Does as does;
 ghost use Rattle.rp_step.specs.Left.{flows};
 ghost use Rattle.rp_step.specs.Moment.{program_at, run_of};
@@ -15,7 +16,7 @@ ghost use Rattle.rp_store.specs.Shape.{KeepsShape};
 use rp_base::{Oid, OpEnd, Side};
 use rp_frame::{Activation, Control, Tasks, Values};
 use rp_proxy::World;
-use rp_step::{Halt, Left, Machine, Units};
+use rp_step::{Halt, Left, Machine, Runner, Units};
 use rp_tree::Stmt;
 use std::alloc::Global;
 
@@ -25,10 +26,10 @@ const CALLS: usize = 1000;
 /// Runs statements of a side's program in its global scope, and tells how they were left.
 ///
 /// # Errors
-/// As those of `Machine::run_block`.
+/// As those of `Runner::run_block`.
 pub(crate) fn run_statements<'u>(
     alloc: Global,
-    units: &'u Units,
+    units: &'u Units<'u>,
     world: &mut World,
     side: Side,
     globals: Oid,
@@ -37,12 +38,13 @@ pub(crate) fn run_statements<'u>(
     requires faithful { IsFaithful world.old }
     requires scope { IsScopeOf world.old.store.heap side globals }
     requires block { 0 < length (program_at units.now side).layouts }
+    requires indexed { AreIndexed units.now }
     ensures law { IfOk result (λ end. (base : Run) → Comes (flows end) (state_of world.new)
         (does.block statements.now (program_frame (run_of base units.now) side globals) (state_of world.old))) }
-    ensures faithful { IsFaithful world.new }
+    ensures faithful { OnOk result (IsFaithful world.new) }
     ensures shape { KeepsShape world.old.store.heap world.new.store.heap }
 {
-    let mut machine = Machine {
+    let machine = Machine {
         alloc,
         units,
         frame: Activation {
@@ -50,11 +52,16 @@ pub(crate) fn run_statements<'u>(
             block: 0,
             scope: globals,
             calls: CALLS,
+            handling: None,
         },
         tasks: Tasks::new(alloc),
         values: Values::new(alloc),
         control: Control::Next,
         end: None,
     };
-    machine.run_block(world, statements)
+    let mut runner = Runner {
+        machine,
+        callers: Vec::new(alloc),
+    };
+    runner.run_block(world, statements)
 }

@@ -31,7 +31,7 @@ unfolding does.expr
 ops_are [] = refl
 ops_are (p ∷ ps) = ap (λ ms. (p.0, meaning.eval (view_expr p.1)) ∷ ms) (ops_are ps)
 
-stmts_are : (xs : List Stmt) → meaning.stmts (stmts_of (map view_stmt xs)) ≡ map does.stmt xs
+pub stmts_are : (xs : List Stmt) → meaning.stmts (stmts_of (map view_stmt xs)) ≡ map does.stmt xs
 unfolding does.stmt
 stmts_are [] = refl
 stmts_are (x ∷ xs) = ap (λ ms. meaning.exec (view_stmt x) ∷ ms) (stmts_are xs)
@@ -46,7 +46,7 @@ unfolding does.branch
 branches_are [] = refl
 branches_are (b ∷ bs) = ap (λ ms. (meaning.eval (view_branch b).0, stmt_forms.block (meaning.stmts (view_branch b).1)) ∷ ms) (branches_are bs)
 
-maybe_is : (b : Option (Vec Stmt Global)) → meaning.maybe_block (view_maybe_stmts b) ≡ does.block (block_items b)
+pub maybe_is : (b : Option (Vec Stmt Global)) → meaning.maybe_block (view_maybe_stmts b) ≡ does.block (block_items b)
 maybe_is None = refl
 maybe_is (Some b) = ap stmt_forms.block (stmts_are b.items)
 
@@ -136,7 +136,7 @@ pub stmt_while : (x : Expr) (b : Vec Stmt Global) → does.stmt_form (stmt_form.
 unfolding does.stmt_form does.expr
 stmt_while x b = ap meaning.exec_form (stmt_equations.stmt_while x b) ∙ ap (λ ds. stmt_forms.while (meaning.eval (view_expr x)) (stmt_forms.block ds)) (stmts_are b.items)
 
-maybe_expr : (x : Option Expr) → meaning.option (option_map view_expr x) ≡ does.maybe x
+pub maybe_expr : (x : Option Expr) → meaning.option (option_map view_expr x) ≡ does.maybe x
 unfolding does.expr
 maybe_expr None = refl
 maybe_expr (Some x) = refl

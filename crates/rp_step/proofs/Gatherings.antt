@@ -131,6 +131,14 @@ made_by (Err e) p s = refl
 makes_plainly : (side : Side) (c : Content) (s : State) → makes_of side c s ≡ plainly (new_object side c) s
 makes_plainly side c s = made_by (plain.makes side c s.plain).answer (plain.makes side c s.plain).state s
 
+-- an object is made, in a world with another store
+pub object_made : (w : World) (store : Cells) (r : Result Value OpEnd) (side : Side) (c : Content)
+    → plain.Meets r (plain.state_of store w.running.meter.left) (new_object side c (plain.state_of w.store w.running.meter.left))
+    → Comes r (state_of (with_store w store)) (makes_of side c (state_of w))
+object_made w store r side c is =
+    Comes-same r (state_of (with_store w store)) _ _ (makes_plainly side c (state_of w))
+    (Comes-lifted r (state_of w) (plain.state_of store w.running.meter.left) (new_object side c (plain.state_of w.store w.running.meter.left)) is)
+
 -- a display is made, in a world with another store
 pub display_made : (w : World) (store : Cells) (r : Result Value OpEnd) (side : Side) (d : Display) (vs : List Value) (c : Content) → displayed d vs ≡ Ok c
     → plain.Meets r (plain.state_of store w.running.meter.left) (new_object side c (plain.state_of w.store w.running.meter.left))

@@ -6,7 +6,6 @@ use Rattle.rp_frame.specs.Top.{below}
 use Rattle.rp_frame.specs.declared.control.Control.{Control}
 use Rattle.rp_frame.specs.declared.task.ExprTask.{ExprTask}
 use Rattle.rp_frame.specs.declared.task.ExprTask.TheVariants as expr
-use Rattle.rp_frame.specs.declared.task.FlowTask.TheVariants as flow
 use Rattle.rp_frame.specs.declared.task.StmtTask.{StmtTask}
 use Rattle.rp_frame.specs.declared.task.StmtTask.TheVariants as stmt
 use Rattle.rp_frame.specs.declared.task.Task.{Task}
@@ -16,14 +15,14 @@ use Rattle.rp_meaning.specs.State.{State, Outcome, Flow}
 use Rattle.rp_ops.specs.Outcome.{End, ends}
 use Rattle.rp_proxy.specs.declared.world.World.{World}
 use Rattle.rp_step.specs.Law.{Leaves, Takes, frame_in, rest_of}
-use Rattle.rp_step.specs.Left.{at_hand, flow_with, stmt_with}
+use Rattle.rp_step.specs.Left.{at_hand, stmt_with}
 use Rattle.rp_access.specs.Moment.{state_of}
 use Rattle.rp_step.specs.Ready.{IsReady}
 use Rattle.rp_step.specs.Rest.{Held, after, begun, did, gave, rest}
 use Rattle.rp_step.specs.declared.machine.Machine.{Machine}
 use Rattle.rp_step.proofs.AtHand.{below_ready, drop_ready}
 
-below_drop : (vs : List Value) → below vs ≡ drop 1 vs
+pub below_drop : (vs : List Value) → below vs ≡ drop 1 vs
 below_drop [] = refl
 below_drop (v ∷ vs) = refl
 
@@ -57,6 +56,7 @@ module _ (f : Frame) (vs : List Value) where
   expr_cut (expr.SliceStep ts) e s = ap (λ vs. gave f vs (ends e s)) (below_thrice vs)
   expr_cut (expr.DictKey n x ps) e s = refl
   expr_cut (expr.DictValue n ps) e s = refl
+  expr_cut (expr.Default name block n ps) e s = refl
 
   pub stmt_cut : (t : StmtTask) (e : End) (s : State) → after (task.Stmt t) (gave f vs (ends e s)) ≡ did f (drop (stmt_with t) vs) (ends e s)
   stmt_cut stmt.Evaluate e s = refl
@@ -80,17 +80,9 @@ module _ (f : Frame) (vs : List Value) where
   stmt_cut (stmt.AugmentKey op x) e s = ap (λ vs. did f vs (ends e s)) (below_drop vs)
   stmt_cut (stmt.AugmentedItem op) e s = ap (λ vs. did f vs (ends e s)) (below_thrice vs)
   stmt_cut (stmt.Unpack t) e s = refl
-
-  -- a statement that was cut off
-  pub did_cut : (t : Task) (e : End) (s : State) → after t (did f vs (ends e s)) ≡ did f (drop (flow_with t) vs) (ends e s)
-  did_cut (task.Expr t) e s = refl
-  did_cut (task.Stmt t) e s = refl
-  did_cut (task.Flow (flow.Block xs)) e s = refl
-  did_cut (task.Flow (flow.While n x b)) e s = refl
-  did_cut (task.Flow (flow.Store ps)) e s = ap (λ vs. did f vs (ends e s)) (below_drop vs)
-  did_cut (task.Flow (flow.Delete ps)) e s = refl
-  did_cut (task.Flow (flow.For n p x)) e s = ap (λ vs. did f vs (ends e s)) (below_drop vs)
-  did_cut (task.Flow (flow.StoreEach ts)) e s = refl
+  stmt_cut (stmt.Handler h hs) e s = ap (λ vs. did f vs (ends e s)) (below_drop vs)
+  stmt_cut stmt.Return e s = refl
+  stmt_cut (stmt.Define name) e s = refl
 
 -- a task that was taken off
 pub leaves_by : (m n : Machine) (w v : World) (t : Task) (ts : List Task) → m.tasks ≡ t ∷ ts → Takes t (record m { tasks = ts }) w n v → Leaves m w n v

@@ -111,4 +111,5 @@ put_ready units a us vs ws w is h fit = record {
   block = h.block;
   scope = h.scope;
   fit = subst (AreFit w.store.heap a.side) (sym is) (All-append (IsFit w.store.heap a.side) us vs fit h.fit);
+  indexed = h.indexed;
 }

@@ -18,6 +18,7 @@ IsReady-goes units a vs w v h shape faithful = record {
   block = h.block;
   scope = shape.scope a.side a.scope h.scope;
   fit = shape.all_fit a.side vs h.fit;
+  indexed = h.indexed;
 }
 
 -- one whose world has the same store
@@ -27,6 +28,7 @@ IsReady-stored units a vs w v h same faithful = record {
   block = h.block;
   scope = subst (λ (s : Cells). IsScopeOf s.heap a.side a.scope) (sym same) h.scope;
   fit = subst (λ (s : Cells). AreFit s.heap a.side vs) (sym same) h.fit;
+  indexed = h.indexed;
 }
 
 -- objects stand where they stood in the same store

@@ -1,6 +1,6 @@
 -- What the program's trees do: what the trees do that they stand for. These names are opaque where the machine is proved, and their equations, one for
 -- each level of a tree, are all that is known of them there.
-use Rattle.std.specs.Prelude.{List, Option, map, option_map}
+use Rattle.std.specs.Prelude.{List, [], ◌∷◌, Option, Some, None, map, option_map}
 use Rattle.rp_base.specs.declared.operator.BinOp.{BinOp}
 use Rattle.rp_base.specs.declared.value.Value.{Value}
 use Rattle.rp_tree.specs.declared.expr.Arg.{Arg}
@@ -11,11 +11,14 @@ use Rattle.rp_tree.specs.declared.expr.Target.{Target}
 use Rattle.rp_tree.specs.declared.expr.Trailer.{Trailer}
 use Rattle.rp_tree.specs.declared.parts.Test.{Test}
 use Rattle.rp_tree.specs.declared.stmt.Branch.{Branch}
+use Rattle.rp_tree.specs.declared.stmt.Except.{Except}
 use Rattle.rp_tree.specs.declared.stmt.Stmt.{Stmt}
 use Rattle.rp_tree.specs.declared.stmt.StmtForm.{StmtForm}
+use Rattle.rp_tree.specs.Expressions.{Named}
 use Rattle.rp_tree.specs.ExpressionViews.{view_arg, view_expr, view_form, view_place, view_target, view_trailer}
-use Rattle.rp_tree.specs.StatementViews.{view_branch, view_stmt, view_stmt_form}
+use Rattle.rp_tree.specs.StatementViews.{view_branch, view_except, view_stmt, view_stmt_form}
 use Rattle.rp_meaning.specs.Calls.{Argument}
+use Rattle.rp_meaning.specs.Exceptions.{Handler}
 use Rattle.rp_meaning.specs.Frame.{Meaning, Doing}
 use Rattle.rp_meaning.specs.Meaning as meaning
 use Rattle.rp_meaning.specs.Statements as stmt_forms
@@ -110,3 +113,17 @@ arg x = meaning.arg (view_arg x)
 
 abbrev pub args : List Arg → List Argument
 args xs = map arg xs
+
+-- the handlers of a `try` statement
+
+unfoldable pub handler : Except → Handler
+handler x = meaning.handler (view_except x)
+
+abbrev pub handlers : List Except → List Handler
+handlers xs = map handler xs
+
+-- the defaults of parameters
+abbrev pub defaults : List (Named × Option Expr) → List Meaning
+defaults [] = []
+defaults ((name, None) ∷ ps) = defaults ps
+defaults ((name, Some x) ∷ ps) = expr x ∷ defaults ps

@@ -30,6 +30,10 @@ Evaluates does m w n v = (base : Run) → rest_of base n (state_of v) ≡ rest m
 abbrev pub Executes : Doing → Machine → World → Machine → World → Type 0
 Executes does m w n v = (base : Run) → rest_of base n (state_of v) ≡ rest m.tasks (did (frame_in base m) m.values (does (frame_in base m) (state_of w)))
 
+-- the same, in any state
+abbrev pub Moves : Doing → Machine → Machine → Type 0
+Moves does m n = (base : Run) (s : State) → rest_of base n s ≡ rest m.tasks (did (frame_in base m) m.values (does (frame_in base m) s))
+
 -- they leave the same
 abbrev pub Leaves : Machine → World → Machine → World → Type 0
 Leaves m w n v = (base : Run) → rest_of base n (state_of v) ≡ rest_of base m (state_of w)

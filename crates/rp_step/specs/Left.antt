@@ -3,11 +3,8 @@ use Rattle.std.specs.Prelude.{ℕ, suc, length, Result, Ok, Err}
 use Rattle.rp_base.specs.declared.value.OpEnd.{OpEnd}
 use Rattle.rp_frame.specs.declared.task.ExprTask.{ExprTask}
 use Rattle.rp_frame.specs.declared.task.ExprTask.TheVariants as expr
-use Rattle.rp_frame.specs.declared.task.FlowTask.TheVariants as flow
 use Rattle.rp_frame.specs.declared.task.StmtTask.{StmtTask}
 use Rattle.rp_frame.specs.declared.task.StmtTask.TheVariants as stmt
-use Rattle.rp_frame.specs.declared.task.Task.{Task}
-use Rattle.rp_frame.specs.declared.task.Task.TheVariants as task
 use Rattle.rp_meaning.specs.State as meant
 use Rattle.rp_meaning.specs.State.{Flow}
 use Rattle.rp_step.specs.declared.unwinding.Left.{Left}
@@ -17,6 +14,7 @@ abbrev pub flow_of : Left → Flow
 flow_of left.Next = meant.next
 flow_of left.Broke = meant.broke
 flow_of left.Continued = meant.continued
+flow_of (left.Returned v) = meant.returned v
 
 abbrev pub flows : Result Left OpEnd → Result Flow OpEnd
 flows (Ok left) = Ok (flow_of left)
@@ -35,6 +33,7 @@ at_hand (expr.SliceTo c ts) = 2
 at_hand (expr.SliceStep ts) = 3
 at_hand (expr.DictKey n x ps) = n
 at_hand (expr.DictValue n ps) = n
+at_hand (expr.Default name block n ps) = n
 at_hand _ = 0
 
 -- those that a statement waits with for the value of an expression
@@ -47,11 +46,5 @@ stmt_with (stmt.AugmentName n op) = 1
 stmt_with (stmt.AugmentedAttr n op) = 2
 stmt_with (stmt.AugmentKey op x) = 1
 stmt_with (stmt.AugmentedItem op) = 3
+stmt_with (stmt.Handler h hs) = 1
 stmt_with _ = 0
-
--- and what waits for the end of a statement
-abbrev pub flow_with : Task → ℕ
-flow_with (task.Flow (flow.Store ps)) = 1
-flow_with (task.Flow (flow.For n p e)) = 1
-flow_with (task.Flow (flow.StoreEach ts)) = length ts.now
-flow_with _ = 0

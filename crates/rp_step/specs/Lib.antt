@@ -1,12 +1,17 @@
 pub mod ArgumentSteps
 pub mod Arguments
 pub mod Augments
+pub mod Codes
+pub mod Callables
 pub mod ComparisonSteps
+pub mod Defining
+pub mod DefinitionSteps
 pub mod DisplaySteps
 pub mod Does
 pub mod Ends
 pub mod ExpressionSteps
 pub mod Gathering
+pub mod Handling
 pub mod JoinSteps
 pub mod Law
 pub mod Left
@@ -15,6 +20,7 @@ pub mod Moment
 pub mod Raising
 pub mod Ready
 pub mod Rest
+pub mod Running
 pub mod SliceSteps
 pub mod Slots
 pub mod TrailerSteps

@@ -1,5 +1,5 @@
 -- What the code of a machine sees that stays the same in a run.
-use Rattle.std.specs.Prelude.{◌-◌, nat_eq, if◌then◌else◌, List, None, slice_get}
+use Rattle.std.specs.Prelude.{◌-◌, nat_eq, if◌then◌else◌, List, slice_get}
 use Rattle.std.specs.Option.{option_map_or}
 use Rattle.rp_base.specs.declared.value.Side.{Side}
 use Rattle.rp_frame.specs.declared.activation.Activation.{Activation}
@@ -23,7 +23,7 @@ abbrev pub layouts_view : List Scope → scopes.Layouts
 layouts_view table = record { locals = locals_of table; place = λ block name. place_view (found_from table block name) }
 
 abbrev pub program_view : CodeProgram → Program
-program_view u = program_of (view_tree u.tree) (layouts_view u.layouts)
+program_view u = program_of (view_tree u.tree.now) (layouts_view u.layouts)
 
 -- the unit of a side
 abbrev pub program_at : Units → Side → CodeProgram
@@ -40,5 +40,5 @@ frame_of run a = record {
   side = a.side;
   block = a.block;
   scope = a.scope;
-  handling = None;
+  handling = a.handling;
 }

@@ -19,10 +19,12 @@ use Rattle.rp_frame.specs.declared.task.StmtTask.TheVariants as stmt
 use Rattle.rp_frame.specs.declared.task.Task.{Task}
 use Rattle.rp_frame.specs.declared.task.Task.TheVariants as task
 use Rattle.rp_meaning.specs.Access as access
+use Rattle.rp_meaning.specs.Exceptions as exception
+use Rattle.rp_meaning.specs.Binding.{only}
 use Rattle.rp_meaning.specs.Expressions as forms
-use Rattle.rp_meaning.specs.Frame.{Frame, Meaning, Doing, asked_for}
+use Rattle.rp_meaning.specs.Frame.{Frame, Meaning, Doing, asked_for, bind_name}
 use Rattle.rp_meaning.specs.Operators.{operate, operate_unary}
-use Rattle.rp_meaning.specs.State.{State, Outcome, Flow, next, broke, continued, on_next, stepped, done, plainly}
+use Rattle.rp_meaning.specs.State.{State, Outcome, Flow, next, broke, continued, returned, on_next, stepped, done, plainly}
 use Rattle.rp_meaning.specs.Statements as stmt_forms
 use Rattle.rp_meaning.specs.Walks.{on_truth, on_turn, turns}
 use Rattle.rp_ops.specs.Outcome.{gives, ends, raises, on_value}
@@ -31,8 +33,10 @@ use Rattle.rp_step.specs.ArgumentSteps.{with_arguments}
 use Rattle.rp_step.specs.Augments.{attribute_augmented, attribute_from, item_augmented, item_from, key_from, name_augmented}
 use Rattle.rp_step.specs.Ends.{end_of}
 use Rattle.rp_step.specs.ComparisonSteps.{with_test}
+use Rattle.rp_step.specs.DefinitionSteps.{called, with_defaults}
 use Rattle.rp_step.specs.DisplaySteps.{elements, parts}
 use Rattle.rp_step.specs.Does as does
+use Rattle.rp_step.specs.Handling.{handling, left, thrown_of, tried, without_as}
 use Rattle.rp_step.specs.JoinSteps.{later}
 use Rattle.rp_step.specs.Raising.{raised_value}
 use Rattle.rp_step.specs.SliceSteps.{from_stride, from_upper, with_slice}
@@ -100,6 +104,8 @@ after_expr (expr.DictKey n x ps) f vs o = gave f (drop n vs)
     (on_value o (λ k s. elements kind.Dict (does.expr x.now ∷ parts (does.pairs ps.now)) (reverse (take n vs) ++ k ∷ []) f s))
 after_expr (expr.DictValue n ps) f vs o =
     gave f (drop n vs) (on_value o (λ v s. elements kind.Dict (parts (does.pairs ps.now)) (reverse (take n vs) ++ v ∷ []) f s))
+after_expr (expr.Default name block n ps) f vs o =
+    gave f (drop n vs) (on_value o (λ v s. with_defaults name block (does.defaults ps.now) (reverse (take n vs) ++ v ∷ []) f s))
 
 abbrev pub after_stmt : StmtTask → Frame → List Value → Outcome Value → Held
 after_stmt stmt.Evaluate f vs o = did f vs (on_value o (λ v s. done s))
@@ -127,6 +133,10 @@ after_stmt (stmt.AugmentKey op x) f vs o = did f (below vs) (on_value o (λ i s.
 after_stmt (stmt.AugmentedItem op) f vs o = did f (below (below (below vs)))
     (on_value o (λ b s. item_augmented (top (below (below vs))) (top (below vs)) op (top vs) b f s))
 after_stmt (stmt.Unpack t) f vs o = did f vs (on_value o (λ v s. does.target t.now v f s))
+after_stmt (stmt.Handler h hs) f vs o =
+    did f (below vs) (on_value o (λ v s. tried (does.handler h.now) (does.handlers hs.now) (thrown_of (top vs)) v f s))
+after_stmt stmt.Return f vs o = did f vs (on_value o (λ v s. gives (returned v) s))
+after_stmt (stmt.Define name) f vs o = did f vs (on_value o (λ v s. bind_name name v f s))
 
 -- the turns that a loop may still make
 abbrev pub loop : ℕ → Meaning → Doing → Doing
@@ -139,6 +149,11 @@ after_flow (flow.Store ps) f vs o = did f (below vs) (on_next o (stmt_forms.stor
 after_flow (flow.Delete ps) f vs o = did f vs (on_next o (does.deletes ps.now f))
 after_flow (flow.For n p e) f vs o = did f (below vs) (on_turn o (walked n (does.target e.target.now) (does.block e.body.now) (cursor_at (top vs) p) f))
 after_flow (flow.StoreEach ts) f vs o = did f (drop (length ts.now) vs) (on_next o (store_from (does.targets ts.now) vs f))
+after_flow (flow.Try hs x) f vs o =
+    did f vs (exception.otherwise o (does.block x.now f) (λ r s. exception.handle (does.handlers hs.now) r f s))
+after_flow (flow.Handled n) f vs o = did (handling (thrown_of (top vs)) f) (below vs) (exception.after o (without_as n f))
+after_flow (flow.Finally b) f vs o = did f vs (exception.finally o (does.block b.now f))
+after_flow (flow.Leave l) f vs o = did f (below vs) (on_next o (left l (top vs) f))
 
 abbrev pub after : Task → Held → Held
 after (task.Expr t) (gave f vs o) = after_expr t f vs o
@@ -164,3 +179,5 @@ begun f control.Next vs end s = did f vs (gives next s)
 begun f control.Broke vs end s = did f vs (gives broke s)
 begun f control.Continued vs end s = did f vs (gives continued s)
 begun f control.CutOff vs end s = did f vs (ends (end_of end) s)
+begun f control.Returned vs end s = did f (below vs) (gives (returned (top vs)) s)
+begun f (control.Call n) vs end s = gave f (drop (suc n) vs) (called (top (drop n vs)) (only (reverse (take n vs))) f s)

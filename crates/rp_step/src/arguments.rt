@@ -1,7 +1,8 @@
 //! Calls: the arguments, and what is done once they are at hand (Python Language Reference, Calls).
 #![tactic(auto, using(rp_store::proofs::Shapes::goes_on))]
 
-ghost use Rattle.std.specs.Prelude.{◌≡◌, ◌∷◌, [], suc, IfOk, IfSome, OnOk, drop, reverse, take};
+ghost use Rattle.std.specs.Prelude.{◌≡◌, ◌≢◌, ◌∷◌, [], false, suc, IfNone, IfOk, IfSome, None, OnOk};
+ghost use Rattle.std.specs.Prelude.{drop, reverse, take};
 ghost use Rattle.rp_base.specs.declared.value.Value.{Value as TheValue};
 ghost use Rattle.rp_frame.specs.Top.{top};
 ghost use Rattle.rp_meaning.specs.Expressions as forms;
@@ -13,8 +14,9 @@ ghost use Rattle.rp_store.specs.Kept.{IsFit};
 ghost use Rattle.rp_store.specs.Shape.{KeepsShape};
 ghost use Rattle.rp_step.specs.ArgumentSteps.{with_arguments};
 ghost use Rattle.rp_step.specs.Arguments.{Calls};
-ghost use Rattle.rp_access.specs.Calling.{CallComes};
+ghost use Rattle.rp_access.specs.Calling.{CallComes, IsCallLeft};
 ghost use Rattle.rp_access.specs.Comes.{IsEnd};
+ghost use Rattle.rp_step.specs.DefinitionSteps.{callee_of, with_called};
 ghost use Rattle.rp_step.specs.Does as does;
 ghost use Rattle.rp_step.specs.Law.{Evaluates, Resumes, frame_in, rest_of};
 ghost use Rattle.rp_access.specs.Moment.{state_of};
@@ -162,9 +164,30 @@ impl<'u> Machine<'u> {
     {
         match self.called(world, count as usize) {
             Ok(Some(value)) => self.with_result(count, value, rest),
-            Ok(None) => Err(Halt::NotBuilt),
+            Ok(None) => self.ask_call(count, rest),
             Err(end) => self.without_result(count, end),
         }
+    }
+
+    /// Asks for the call of what is at hand, whose decision is made; it is code of the store.
+    #[inline(always)]
+    fn ask_call(&mut self, count: u32, trailers: &'u [Trailer]) -> Result<(), Halt>
+        ensures law { OnOk result ((base : Run) (s : State) → rest_of base self.new s
+            ≡ rest self.old.tasks (gave (frame_in base self.old) (drop (suc count) self.old.values)
+            (with_called (does.trailers trailers.now) (top (drop count self.old.values))
+            (reverse (take count self.old.values)) (frame_in base self.old) s))) }
+        ensures reference { OnOk result (callee_of (top (drop count self.old.values)) ≢ None) }
+        ensures ready { (w : TheWorld) → IsReady self.old.units.now self.old.frame self.old.values w
+            → IsReady self.new.units.now self.new.frame self.new.values w }
+    {
+        let nil = Value::Rock(Rock::Nil);
+        if is_rock(self.values.under(count as usize, &nil)) {
+            return Err(Halt::NotBuilt);
+        }
+        self.wait(
+            Task::Expr(ExprTask::Trailers(trailers)),
+            Control::Call(count),
+        )
     }
 
     /// Goes on with the trailers that are left; the callee and the arguments are dropped.
@@ -183,7 +206,7 @@ impl<'u> Machine<'u> {
 
     /// A call has no value; the callee and the arguments are dropped.
     #[inline(never)]
-    fn without_result(&mut self, count: u32, end: OpEnd) -> Result<(), Halt>
+    pub(crate) fn without_result(&mut self, count: u32, end: OpEnd) -> Result<(), Halt>
         ensures law { OnOk result ((base : Run) (s : State) (o : Outcome TheValue) → IsEnd end s o
             → rest_of base self.new s
             ≡ rest self.old.tasks (gave (frame_in base self.old) (drop (suc count) self.old.values) o)) }
@@ -200,6 +223,8 @@ impl<'u> Machine<'u> {
         requires ready { IsReady self.now.units.now self.now.frame self.now.values world.old }
         ensures law { CallComes self.now.frame.side (top (drop count self.now.values))
             (reverse (take count self.now.values)) result world.old world.new }
+        ensures left { IfOk result (λ v. IfNone v (IsCallLeft (top (drop count self.now.values))
+            (reverse (take count self.now.values)) (state_of world.old) (state_of world.new))) }
         ensures faithful { IsFaithful world.new }
         ensures shape { KeepsShape world.old.store.heap world.new.store.heap }
         ensures fit { IfOk result (λ v. IfSome v (IsFit world.new.store.heap self.now.frame.side)) }
@@ -212,5 +237,16 @@ impl<'u> Machine<'u> {
             self.values.under(count, &nil),
             self.values.last(count),
         )
+    }
+}
+
+/// Whether it is a rock, and no reference.
+fn is_rock(value: &Value) -> bool
+    ensures { result ≡ false → callee_of value.now ≢ None }
+{
+    match value {
+        Value::Rock(_) => true,
+        Value::Ref(_) => false,
+        Value::Prox(_) => false,
     }
 }

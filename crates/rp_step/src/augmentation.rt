@@ -141,7 +141,12 @@ impl<'u> Machine<'u> {
 
     /// Binds a name, which ends the statement.
     #[inline(always)]
-    fn bind_next(&mut self, world: &mut World, name: Name, value: Value) -> Result<(), Halt>
+    pub(crate) fn bind_next(
+        &mut self,
+        world: &mut World,
+        name: Name,
+        value: Value,
+    ) -> Result<(), Halt>
         requires ready { IsReady self.old.units.now self.old.frame self.old.values world.old }
         requires value { IsFit world.old.store.heap self.old.frame.side value }
         ensures law { OnOk result (Executes (bind_name name value) self.old world.old self.new world.new) }

@@ -129,6 +129,9 @@ impl<'u> Machine<'u> {
                 self.after_dict_key(world, count, value, x, rest)
             }
             ExprTask::DictValue(count, rest) => { self.after_dict_value(world, count, value, rest) }
+            ExprTask::Default(name, block, count, rest) => {
+                self.after_default(world, name, block, count, value, rest)
+            }
         }
     }
 }

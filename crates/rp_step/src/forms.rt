@@ -33,6 +33,7 @@ impl<'u> Machine<'u> {
             ExprForm::Tuple(items) => self.display(world, Display::Tuple, items),
             ExprForm::List(items) => self.display(world, Display::List, items),
             ExprForm::Dict(pairs) => self.dict_display(world, pairs),
+            ExprForm::Lambda(block, params, _) => self.lambda(world, block.0, params),
             _ => Err(Halt::NotBuilt),
         }
     }

@@ -22,7 +22,7 @@ use std::alloc::Global;
 #[derive(Drop)]
 pub struct Machine<'u> {
     pub alloc: Global,
-    pub units: &'u Units,
+    pub units: &'u Units<'u>,
     pub frame: Activation,
     pub tasks: Tasks<'u>,
     pub values: Values,

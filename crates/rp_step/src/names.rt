@@ -4,11 +4,11 @@ ghost use Rattle.std.specs.Prelude.{◌≡◌, ◌<◌, ◌≤◌, length, optio
 ghost use Rattle.std.specs.Prelude.{IfOk, IfSome, IsTrue};
 ghost use Rattle.std.specs.Prelude.{Some, None, false, is_some};
 ghost use Rattle.rp_base.specs.Names.{word_of};
-ghost use Rattle.rp_meaning.specs.Frame.{Run, read_name, slot_of, unbind_name};
+ghost use Rattle.rp_meaning.specs.Frame.{Run, read_name, slot_of, unbind_name, without_name};
 ghost use Rattle.rp_meaning.specs.Scopes.{global, held, outwards, unbound_kind, value_at, with_slot_set};
 ghost use Rattle.rp_base.specs.declared.value.Value.{Value as TheValue};
 ghost use Rattle.rp_meaning.specs.State.{Flow, next};
-ghost use Rattle.rp_ops.specs.Outcome.{raises};
+ghost use Rattle.rp_ops.specs.Outcome.{Raises, raises};
 ghost use Rattle.rp_proxy.specs.Faithful.{IsFaithful};
 ghost use Rattle.rp_scope.specs.Scopes.{found_from};
 ghost use Rattle.rp_store.specs.Heap.{slots_at};
@@ -24,11 +24,11 @@ ghost use Rattle.rp_step.specs.Ready.{IsReady};
 
 use crate::machine::Machine;
 use rp_access::elsewhere;
-use rp_base::{Kind, Name, Oid, OpEnd, Side, Value};
-use rp_ops::{raised, word_of};
+use rp_base::{Kind, Memory, Name, Names, Oid, OpEnd, Raised, Side, Text, Value};
+use rp_ops::word_of;
 use rp_proxy::World;
 use rp_scope::Place2;
-use rp_store::{Object, Store};
+use rp_store::{Object, Store, bytes_of};
 use std::alloc::Global;
 
 /// A slot of a scope.
@@ -42,13 +42,18 @@ impl<'u> Machine<'u> {
     /// The value of a name.
     ///
     /// # Errors
-    /// `Raised` with `NameError` or `UnboundLocalError` and the name, where it is not bound.
+    /// `Raised` with `NameError` or `UnboundLocalError` and the name, where it is not bound; `Memory` where the store
+    /// holds no more bytes of such texts.
     #[inline(always)]
-    pub fn read(&self, world: &World, name: Name) -> Result<Value, OpEnd>
-        requires ready { IsReady self.now.units.now self.now.frame self.now.values world.now }
-        ensures law { (base : Run) → Comes result (state_of world.now)
-            (read_name name (frame_in base self.now) (state_of world.now)) }
-        ensures fit { IfOk result (IsFit world.now.store.heap self.now.frame.side) }
+    pub fn read(&self, world: &mut World, name: Name) -> Result<Value, OpEnd>
+        requires ready { IsReady self.now.units.now self.now.frame self.now.values world.old }
+        ensures law { (base : Run) → Comes result (state_of world.new)
+            (read_name name (frame_in base self.now) (state_of world.old)) }
+        ensures faithful { IsFaithful world.new }
+        ensures store { world.new.store ≡ world.old.store }
+        ensures ready { IsReady self.now.units.now self.now.frame self.now.values world.new }
+        ensures shape { KeepsShape world.old.store.heap world.new.store.heap }
+        ensures fit { IfOk result (IsFit world.new.store.heap self.now.frame.side) }
     {
         let place = self.place(name);
         let slot = self.slot(&world.store, place, name);
@@ -77,7 +82,7 @@ impl<'u> Machine<'u> {
     /// Unbinds a name.
     ///
     /// # Errors
-    /// `Raised` with `NameError` or `UnboundLocalError` and the name, where it is not bound.
+    /// As `read`.
     #[inline(never)]
     pub fn unbind(&self, world: &mut World, name: Name) -> Result<(), OpEnd>
         requires ready { IsReady self.now.units.now self.now.frame self.now.values world.old }
@@ -94,6 +99,20 @@ impl<'u> Machine<'u> {
         } else {
             Err(not_bound(self.alloc, world, place, name))
         }
+    }
+
+    /// Unbinds a name, which may be unbound.
+    #[inline(never)]
+    pub(crate) fn clear(&self, world: &mut World, name: Name)
+        requires ready { IsReady self.now.units.now self.now.frame self.now.values world.old }
+        ensures law { (base : Run) → state_of world.new
+            ≡ without_name name (frame_in base self.now) (state_of world.old) }
+        ensures faithful { IsFaithful world.new }
+        ensures shape { KeepsShape world.old.store.heap world.new.store.heap }
+    {
+        let place = self.place(name);
+        let slot = self.slot(&world.store, place, name);
+        set(world, slot, self.frame.side, None);
     }
 
     /// Where the code finds a name.
@@ -167,15 +186,16 @@ fn held(store: &Store, slot: Option<Slot>, side: Side) -> Option<&Value>
 #[inline(never)]
 fn behind(
     alloc: Global,
-    world: &World,
+    world: &mut World,
     side: Side,
     place: Place2,
     name: Name,
 ) -> Result<Value, OpEnd>
-    requires { IsFaithful world.now }
-    ensures law { Comes result (state_of world.now) (value_at side (place_view place) None
-        (word_of world.now.names name) (state_of world.now)) }
-    ensures fit { IfOk result (IsFit world.now.store.heap side) }
+    requires { IsFaithful world.old }
+    ensures law { Comes result (state_of world.new) (value_at side (place_view place) None
+        (word_of world.old.names name) (state_of world.old)) }
+    ensures same { world.new ≡ world.old }
+    ensures fit { IfOk result (IsFit world.new.store.heap side) }
 {
     match place {
         Place2::Local(_) => Err(unbound(alloc, world, Kind::UnboundLocalError, name)),
@@ -185,11 +205,12 @@ fn behind(
 }
 
 /// The value of a global name that the program does not bind.
-fn global_value(alloc: Global, world: &World, side: Side, name: Name) -> Result<Value, OpEnd>
-    requires { IsFaithful world.now }
-    ensures law { Comes result (state_of world.now) (value_at side global None
-        (word_of world.now.names name) (state_of world.now)) }
-    ensures fit { IfOk result (IsFit world.now.store.heap side) }
+fn global_value(alloc: Global, world: &mut World, side: Side, name: Name) -> Result<Value, OpEnd>
+    requires { IsFaithful world.old }
+    ensures law { Comes result (state_of world.new) (value_at side global None
+        (word_of world.old.names name) (state_of world.old)) }
+    ensures same { world.new ≡ world.old }
+    ensures fit { IfOk result (IsFit world.new.store.heap side) }
 {
     match elsewhere(world, side, name)? {
         Some(value) => Ok(value),
@@ -197,14 +218,40 @@ fn global_value(alloc: Global, world: &World, side: Side, name: Name) -> Result<
     }
 }
 
-/// The exception with the word of a name.
-fn unbound(alloc: Global, world: &World, kind: Kind, name: Name) -> OpEnd
-    ensures value { IsEnd {A = TheValue} result (state_of world.now)
-        (raises kind (word_of world.now.names name) (state_of world.now)) }
-    ensures flow { IsEnd {A = Flow} result (state_of world.now)
-        (raises kind (word_of world.now.names name) (state_of world.now)) }
+/// The exception with the word of a name; `Memory` where there is none for its text, or the store holds no more bytes
+/// of such texts.
+fn unbound(alloc: Global, world: &mut World, kind: Kind, name: Name) -> OpEnd
+    ensures value { IsEnd {A = TheValue} result (state_of world.new)
+        (raises kind (word_of world.old.names name) (state_of world.old)) }
+    ensures flow { IsEnd {A = Flow} result (state_of world.new)
+        (raises kind (word_of world.old.names name) (state_of world.old)) }
+    ensures same { world.new ≡ world.old }
 {
-    raised(alloc, kind, word_of(&world.names, name))
+    word_raised(alloc, &mut world.store, &world.names, kind, name)
+}
+
+/// The same, of the store and the names alone.
+fn word_raised(alloc: Global, store: &mut Store, names: &Names, kind: Kind, name: Name) -> OpEnd
+    ensures exception { Raises result (record { kind = kind; text = word_of names.now name }) }
+    ensures same { store.new ≡ store.old }
+{
+    match word_text(alloc, store, names, name) {
+        Ok(text) => OpEnd::Raised(Raised { kind, text }),
+        Err(_) => OpEnd::Memory,
+    }
+}
+
+/// The word of a name as a text, whose bytes the store counts.
+///
+/// # Errors
+/// `Memory` where a growth was refused, or the store holds no more bytes of such texts.
+fn word_text(alloc: Global, store: &mut Store, names: &Names, name: Name) -> Result<Text, Memory>
+    ensures text { IfOk result (λ t. t ≡ word_of names.now name) }
+    ensures same { store.new ≡ store.old }
+{
+    let text = Text::new(alloc, word_of(names, name))?;
+    store.hold_text(bytes_of(&text))?;
+    Ok(text)
 }
 
 /// Fills a slot, or empties it.
@@ -245,8 +292,9 @@ fn is_bound(store: &Store, slot: Option<Slot>, side: Side) -> bool
 }
 
 /// The exception where a name is to be unbound that is not bound.
-fn not_bound(alloc: Global, world: &World, place: Place2, name: Name) -> OpEnd
-    ensures { IsEnd result (state_of world.now) (unbound_at (place_view place) name (state_of world.now)) }
+fn not_bound(alloc: Global, world: &mut World, place: Place2, name: Name) -> OpEnd
+    ensures law { IsEnd result (state_of world.new) (unbound_at (place_view place) name (state_of world.old)) }
+    ensures same { world.new ≡ world.old }
 {
     unbound(alloc, world, unbound_kind(place), name)
 }

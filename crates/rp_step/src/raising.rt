@@ -12,14 +12,14 @@ ghost use Rattle.rp_step.specs.Ready.{IsReady};
 
 use crate::halt::Halt;
 use crate::machine::Machine;
-use rp_access::{raise_again, raise_value};
+use rp_access::raise_value;
 use rp_base::Value;
 use rp_frame::{Control, StmtTask, Task};
 use rp_proxy::World;
 use rp_tree::Expr;
 
 impl<'u> Machine<'u> {
-    /// `raise`, with a value or without, where no exception is handled.
+    /// `raise`, with a value or without.
     ///
     /// # Errors
     /// `Memory` where a growth was refused, as all that follow.
@@ -33,7 +33,7 @@ impl<'u> Machine<'u> {
     {
         match value {
             Some(x) => self.raise_of(world, x),
-            None => self.cut_off(raise_again(self.alloc)),
+            None => self.raise_handled(),
         }
     }
 

@@ -21,7 +21,8 @@ use rp_tree::{Branch, Expr, Place, Stmt, StmtForm, stmts_of};
 
 impl<'u> Machine<'u> {
     /// Begins a statement, with its step. Expression statements, assignments, unpacking too, augmented assignments,
-    /// `if`, `while`, `for`, `break`, `continue`, `pass`, `global`, `del`, `raise` and `assert` run.
+    /// `if`, `while`, `for`, `break`, `continue`, `pass`, `global`, `del`, `raise`, `try`, `assert`, `return` and `def`
+    /// run.
     ///
     /// # Errors
     /// `Memory` where a growth was refused, `NotBuilt` where the form is none that runs, as all that follow.
@@ -81,6 +82,16 @@ impl<'u> Machine<'u> {
             ),
             StmtForm::Raise(value) => self.raise(world, value),
             StmtForm::Unpack(target, value, _) => self.assign_target(world, target, value),
+            StmtForm::Try {
+                body,
+                handlers,
+                other,
+                last,
+            } => self.begin_try(body, handlers, stmts_of(other), stmts_of(last)),
+            StmtForm::Return(value) => self.give_back(world, value),
+            StmtForm::Def(block, name, params, _) => {
+                self.definition(world, name.name, block.0, params)
+            }
             _ => Err(Halt::NotBuilt),
         }
     }
@@ -284,6 +295,9 @@ impl<'u> Machine<'u> {
             StmtTask::AugmentKey(op, x) => self.after_augmented_key(world, op, value, x),
             StmtTask::AugmentedItem(op) => self.after_augmented_item(world, op, value),
             StmtTask::Unpack(target) => self.store_target(world, target, value),
+            StmtTask::Handler(handler, behind) => self.after_handler(world, handler, behind, value),
+            StmtTask::Return => self.returns(value),
+            StmtTask::Define(name) => self.bind_next(world, name, value),
         }
     }
 }

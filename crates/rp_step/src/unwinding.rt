@@ -13,19 +13,19 @@ ghost use Rattle.rp_access.specs.Comes.{Comes, IsEnd};
 ghost use Rattle.rp_store.specs.Shape.{KeepsShape};
 ghost use Rattle.rp_step.specs.Ends.{end_of};
 ghost use Rattle.rp_step.specs.Law.{Takes, TakesUp, frame_in, rest_of};
-ghost use Rattle.rp_step.specs.Left.{at_hand, flow_with, flows, stmt_with};
+ghost use Rattle.rp_step.specs.Left.{at_hand, flows, stmt_with};
 ghost use Rattle.rp_access.specs.Moment.{state_of};
 ghost use Rattle.rp_step.specs.Ready.{IsReady};
 ghost use Rattle.rp_step.specs.Rest.{after, after_flow, begun, did, gave, rest};
 
 use crate::halt::Halt;
 use crate::machine::Machine;
-use rp_base::OpEnd;
-use rp_frame::{Control, ExprTask, FlowTask, StmtTask, Task};
+use rp_base::{OpEnd, Rock, Value};
+use rp_frame::{Control, ExprTask, FlowTask, Leaving, StmtTask, Task};
 use rp_proxy::World;
 
 /// How a block was left (Python Language Reference, Simple statements).
-#[derive(Clone, Copy, Debug, PartialEq, Eq)]
+#[derive(Drop)]
 pub enum Left {
     /// Behind its last statement.
     Next,
@@ -33,6 +33,8 @@ pub enum Left {
     Broke,
     /// By `continue`.
     Continued,
+    /// By `return`, with this value.
+    Returned(Value),
 }
 
 impl<'u> Machine<'u> {
@@ -47,10 +49,11 @@ impl<'u> Machine<'u> {
         match self.control {
             Control::Value => self.with_value(world, task),
             Control::Next => self.with_next(world, task),
-            Control::Broke => self.with_break(task),
+            Control::Broke => self.with_break(world, task),
             Control::Continued => self.with_continue(world, task),
             Control::NoValue => self.without_value(task),
-            Control::CutOff => self.with_cut(task),
+            Control::CutOff => self.with_cut(world, task),
+            Control::Returned => self.with_return(world, task),
             _ => self.put_back(task),
         }
     }
@@ -150,6 +153,10 @@ impl<'u> Machine<'u> {
             FlowTask::Delete(places) => self.delete_all(world, places),
             FlowTask::For(turns, spot, each) => self.walk_on(world, turns, spot, each),
             FlowTask::StoreEach(targets) => self.store_each(world, targets),
+            FlowTask::Try(_, other) => self.go(Control::Block(other)),
+            FlowTask::Handled(name) => self.behind_handler(world, name, Control::Next),
+            FlowTask::Finally(last) => self.finish(Value::Rock(Rock::Nil), Leaving::Next, last),
+            FlowTask::Leave(leaving) => self.leave(leaving),
         }
     }
 
@@ -184,18 +191,25 @@ impl<'u> Machine<'u> {
             FlowTask::Delete(_) => self.go(Control::Continued),
             FlowTask::For(turns, spot, each) => self.walk_on(world, turns, spot, each),
             FlowTask::StoreEach(targets) => self.go_less(targets.len(), Control::Continued),
+            FlowTask::Try(_, _) => self.go(Control::Continued),
+            FlowTask::Handled(name) => self.behind_handler(world, name, Control::Continued),
+            FlowTask::Finally(last) => {
+                self.finish(Value::Rock(Rock::Nil), Leaving::Continued, last)
+            }
+            FlowTask::Leave(_) => self.go_without(Control::Continued),
         }
     }
 
     /// A task takes up `break`.
     #[inline(never)]
-    fn with_break(&mut self, task: Task<'u>) -> Result<(), Halt>
-        ensures law { OnOk result ((w : TheWorld) → TakesUp task.entry (leave broke) self.old w self.new w) }
-        ensures ready { (w : TheWorld) → IsReady self.old.units.now self.old.frame self.old.values w
-            → IsReady self.new.units.now self.new.frame self.new.values w }
+    fn with_break(&mut self, world: &mut World, task: Task<'u>) -> Result<(), Halt>
+        requires ready { IsReady self.old.units.now self.old.frame self.old.values world.old }
+        ensures law { OnOk result (TakesUp task.entry (leave broke) self.old world.old self.new world.new) }
+        ensures ready { IsReady self.new.units.now self.new.frame self.new.values world.new }
+        ensures shape { KeepsShape world.old.store.heap world.new.store.heap }
     {
         match task {
-            Task::Flow(task) => self.flow_break(task),
+            Task::Flow(task) => self.flow_break(world, task),
             Task::Expr(_) => self.go(Control::Broke),
             Task::Stmt(_) => self.go(Control::Broke),
         }
@@ -203,11 +217,12 @@ impl<'u> Machine<'u> {
 
     /// A loop is done; all else is left.
     #[inline(always)]
-    fn flow_break(&mut self, task: FlowTask<'u>) -> Result<(), Halt>
-        ensures law { OnOk result ((base : Run) (s : State) → rest_of base self.new s ≡ rest self.old.tasks
-            (after_flow task.entry (frame_in base self.old) self.old.values (gives broke s))) }
-        ensures ready { (w : TheWorld) → IsReady self.old.units.now self.old.frame self.old.values w
-            → IsReady self.new.units.now self.new.frame self.new.values w }
+    fn flow_break(&mut self, world: &mut World, task: FlowTask<'u>) -> Result<(), Halt>
+        requires ready { IsReady self.old.units.now self.old.frame self.old.values world.old }
+        ensures law { OnOk result ((base : Run) → rest_of base self.new (state_of world.new) ≡ rest self.old.tasks
+            (after_flow task.entry (frame_in base self.old) self.old.values (gives broke (state_of world.old)))) }
+        ensures ready { IsReady self.new.units.now self.new.frame self.new.values world.new }
+        ensures shape { KeepsShape world.old.store.heap world.new.store.heap }
     {
         match task {
             FlowTask::While(_, _, _) => self.go(Control::Next),
@@ -216,11 +231,15 @@ impl<'u> Machine<'u> {
             FlowTask::Delete(_) => self.go(Control::Broke),
             FlowTask::For(_, _, _) => self.go_without(Control::Next),
             FlowTask::StoreEach(targets) => self.go_less(targets.len(), Control::Broke),
+            FlowTask::Try(_, _) => self.go(Control::Broke),
+            FlowTask::Handled(name) => self.behind_handler(world, name, Control::Broke),
+            FlowTask::Finally(last) => { self.finish(Value::Rock(Rock::Nil), Leaving::Broke, last) }
+            FlowTask::Leave(_) => self.go_without(Control::Broke),
         }
     }
 
     /// Goes on with the last value at hand dropped.
-    fn go_without(&mut self, control: Control<'u>) -> Result<(), Halt>
+    pub(crate) fn go_without(&mut self, control: Control<'u>) -> Result<(), Halt>
         ensures law { (base : Run) (s : State) → rest_of base self.new s ≡ rest self.old.tasks
             (begun (frame_in base self.old) control.entry (below self.old.values) self.old.end s) }
         ensures ready { (w : TheWorld) → IsReady self.old.units.now self.old.frame self.old.values w
@@ -231,7 +250,7 @@ impl<'u> Machine<'u> {
     }
 
     /// Goes on with so many of the values at hand dropped.
-    fn go_less(&mut self, count: usize, control: Control<'u>) -> Result<(), Halt>
+    pub(crate) fn go_less(&mut self, count: usize, control: Control<'u>) -> Result<(), Halt>
         ensures law { (base : Run) (s : State) → rest_of base self.new s ≡ rest self.old.tasks
             (begun (frame_in base self.old) control.entry (drop count self.old.values) self.old.end s) }
         ensures ready { (w : TheWorld) → IsReady self.old.units.now self.old.frame self.old.values w
@@ -241,16 +260,21 @@ impl<'u> Machine<'u> {
         self.go(control)
     }
 
-    /// A task takes up that a statement was cut off: it drops the value that it waited with.
+    /// A task takes up that a statement was cut off.
     #[inline(never)]
-    fn with_cut(&mut self, task: Task<'u>) -> Result<(), Halt>
-        ensures law { OnOk result ((base : Run) (s : State) → rest_of base self.new s ≡ rest self.old.tasks
-            (after task.entry (did (frame_in base self.old) self.old.values (ends (end_of self.old.end) s)))) }
-        ensures ready { (w : TheWorld) → IsReady self.old.units.now self.old.frame self.old.values w
-            → IsReady self.new.units.now self.new.frame self.new.values w }
+    fn with_cut(&mut self, world: &mut World, task: Task<'u>) -> Result<(), Halt>
+        requires ready { IsReady self.old.units.now self.old.frame self.old.values world.old }
+        ensures law { OnOk result ((base : Run) → rest_of base self.new (state_of world.new) ≡ rest self.old.tasks
+            (after task.entry (did (frame_in base self.old) self.old.values
+            (ends (end_of self.old.end) (state_of world.old))))) }
+        ensures ready { IsReady self.new.units.now self.new.frame self.new.values world.new }
+        ensures shape { KeepsShape world.old.store.heap world.new.store.heap }
     {
-        self.forget(flow_with(task));
-        self.go(Control::CutOff)
+        match task {
+            Task::Flow(task) => self.flow_cut(world, task),
+            Task::Expr(_) => self.go(Control::CutOff),
+            Task::Stmt(_) => self.go(Control::CutOff),
+        }
     }
 
     /// How a block was left, where no task waits for that.
@@ -269,6 +293,7 @@ impl<'u> Machine<'u> {
             Control::Broke => Ok(Left::Broke),
             Control::Continued => Ok(Left::Continued),
             Control::CutOff => Err(self.why()),
+            Control::Returned => Ok(Left::Returned(self.values.pop())),
             _ => Err(OpEnd::Memory),
         }
     }
@@ -301,6 +326,7 @@ fn held_with(task: ExprTask) -> usize
         ExprTask::SliceStep(_) => 3,
         ExprTask::DictKey(count, _, _) => count as usize,
         ExprTask::DictValue(count, _) => count as usize,
+        ExprTask::Default(_, _, count, _) => count as usize,
         _ => 0,
     }
 }
@@ -318,18 +344,7 @@ fn stmt_with(task: StmtTask) -> usize
         StmtTask::AugmentedAttr(_, _) => 2,
         StmtTask::AugmentKey(_, _) => 1,
         StmtTask::AugmentedItem(_) => 3,
-        _ => 0,
-    }
-}
-
-/// How many a task waits with for the end of a statement.
-fn flow_with(task: Task) -> usize
-    ensures { result ≡ flow_with task.entry }
-{
-    match task {
-        Task::Flow(FlowTask::Store(_)) => 1,
-        Task::Flow(FlowTask::For(_, _, _)) => 1,
-        Task::Flow(FlowTask::StoreEach(targets)) => targets.len(),
+        StmtTask::Handler(_, _) => 1,
         _ => 0,
     }
 }

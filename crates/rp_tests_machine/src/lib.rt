@@ -2,7 +2,13 @@
 #![tactic(auto)]
 
 #[cfg(test)]
+mod exit_tests;
+#[cfg(test)]
 mod flow_tests;
+#[cfg(test)]
+mod function_tests;
+#[cfg(test)]
+mod handler_tests;
 #[cfg(test)]
 mod plain_tests;
 #[cfg(test)]

@@ -73,6 +73,33 @@ eve => site.draft += print('value') => Unauthorized: demo.Edit~1 1 eve deny get 
 bob => site.tags[0] += 'x' => ForbiddenAttribute: __setitem__~1 1 bob allow get Page.tags demo.View~\
     2 1 bob allow get list.__getitem__ zope.Public~3 1 bob forbid get list.__setitem__~"#;
 
+/// Functions that get, keep and give what is lent, and handlers of what is refused.
+const FUNCTIONS: &str = r#"bob => def f(page):~    return page.title~print(f(site)) \
+    => Home~well~1 1 bob allow get Page.title zope.Public~
+bob => tags = lambda: site.tags~for t in tags():~    print(t) \
+    => a~b~well~1 1 bob allow get Page.tags demo.View~2 1 bob allow get list.__iter__ zope.Public~
+bob => def each(xs, f):~    for x in xs:~        f(x)~each(site.tags, print) \
+    => a~b~well~1 1 bob allow get Page.tags demo.View~2 1 bob allow get list.__iter__ zope.Public~
+bob => def f(tags=site.tags):~    return tags[0]~print(f()) \
+    => a~well~1 1 bob allow get Page.tags demo.View~2 1 bob allow get list.__getitem__ zope.Public~
+bob => def f():~    tags = site.tags~    return lambda i: tags[i]~g = f()~print(g(0), g(1)) \
+    => a b~well~1 1 bob allow get Page.tags demo.View~2 1 bob allow get list.__getitem__ zope.Public~\
+    3 1 bob allow get list.__getitem__ zope.Public~
+bob => def f(get):~    return get('n')~print(f(site.info.get)) => 1~well~1 1 bob allow get Page.info demo.View~\
+    2 1 bob allow get dict.get zope.Public~3 1 bob allow get method.__call__ zope.Public~
+bob => def f(*pages):~    return pages[0].title~print(f(site, 1)) \
+    => Home~well~1 1 bob allow get Page.title zope.Public~
+eve => try:~    print(site.tags)~except Unauthorized as e:~    print('no', e)~finally:~    print('last') \
+    => no demo.View~last~well~1 1 eve deny get Page.tags demo.View~
+eve => def f(page):~    try:~        return page.nothing~    except AttributeError as e:~        return e~\
+    print(f(site)) => nothing~well~1 1 eve forbid get Page.nothing~
+eve => try:~    site.title = 1~except (KeyError, Forbidden):~    print('no')~except Unauthorized:~    print('yes') \
+    => yes~well~1 1 eve deny set Page.title demo.Edit~
+eve => def f():~    try:~        return site.tags~    finally:~        print(site.title)~f() \
+    => Home~Unauthorized: demo.View~1 1 eve deny get Page.tags demo.View~2 1 eve allow get Page.title zope.Public~
+eve => try:~    site()~except ForbiddenAttribute:~    raise => ForbiddenAttribute: __call__~\
+    1 1 eve forbid get Page.__call__~"#;
+
 const OPERATIONS: &str =
     r#"eve => print(site + 1) => ForbiddenAttribute: __add__~1 1 eve forbid get Page.__add__~
 eve => print(1 + site) => ForbiddenAttribute: __radd__~1 1 eve forbid get Page.__radd__~
@@ -105,6 +132,30 @@ const LIMITS: &str = r#"1000 => 11 => xs = range(10) => well~
 1000 => 5 => print(site.title) => no cell~1 1 eve allow get Page.title zope.Public~
 1000 => 6 => print(site.title) => Home~well~1 1 eve allow get Page.title zope.Public~"#;
 
+/// The same: no handler takes a stop, and no block of `finally` runs behind it.
+const STOPS: &str =
+    r#"1000 => 1000 => try:~    while 1:~        pass~except:~    print('no')~finally:~    print() => no step~
+1000 => 1000 => def f():~    try:~        while 1:~            pass~    finally:~        print('no')~f() => no step~
+1000 => 3 => try:~    print('abc')~except:~    print()~finally:~    print() => no cell~
+6 => 1000 => def f():~    return 1~f() => well~
+5 => 1000 => def f():~    return 1~f() => no step~
+7 => 1000 => try:~    1 // 0~except ZeroDivisionError:~    pass => well~
+6 => 1000 => try:~    1 // 0~except ZeroDivisionError:~    pass => no step~
+4 => 1000 => try:~    x = 1~finally:~    pass => well~
+3 => 1000 => try:~    x = 1~finally:~    pass => no step~
+1000 => 1 => def f():~    return 1 => well~
+1000 => 0 => def f():~    return 1 => no cell~
+1000 => 2 => def f():~    return 1~f() => well~
+1000 => 1 => def f():~    return 1~f() => no cell~
+1000 => 5 => def f(a, b):~    c = a~f(1, 2) => well~
+1000 => 4 => def f(a, b):~    c = a~f(1, 2) => no cell~
+1000 => 4 => def f(a=1):~    return a~f() => well~
+1000 => 3 => def f(a=1):~    return a~f() => no cell~
+1000 => 6 => def f(*xs):~    return 1~f(1, 2) => well~
+1000 => 5 => def f(*xs):~    return 1~f(1, 2) => no cell~
+1000 => 1 => f = lambda: 1 => well~
+1000 => 0 => f = lambda: 1 => no cell~"#;
+
 #[test]
 fn reads_are_decided(rt: HostRuntime) -> Result<(), Fail> {
     all_answer(rt.alloc(), &RanFor, READS)
@@ -131,6 +182,16 @@ fn operations_are_decided(rt: HostRuntime) -> Result<(), Fail> {
 }
 
 #[test]
+fn functions_and_handlers_are_decided(rt: HostRuntime) -> Result<(), Fail> {
+    all_answer(rt.alloc(), &RanFor, FUNCTIONS)
+}
+
+#[test]
 fn sessions_stop_at_their_limits(rt: HostRuntime) -> Result<(), Fail> {
     all_answer(rt.alloc(), &RanWithin, LIMITS)
+}
+
+#[test]
+fn nothing_runs_behind_a_stop(rt: HostRuntime) -> Result<(), Fail> {
+    all_answer(rt.alloc(), &RanWithin, STOPS)
 }

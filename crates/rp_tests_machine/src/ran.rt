@@ -3,10 +3,10 @@
 ghost use Rattle.std.specs.Prelude.{◌≡◌, IfOk, IfSome};
 ghost use Rattle.rp_tests_stage.specs.Staged.{IsStaged};
 
-use rp_session::{Session, SessionEnd, SessionHalt};
+use rp_session::{Session, SessionEnd, SessionHalt, Sessions};
 use rp_step::Halt;
 use rp_tests_cases::{Question, number, part};
-use rp_tests_stage::{Code, Setting, Stage, set};
+use rp_tests_stage::{Code, Reading, Setting, Stage, Words, read, set};
 use std::alloc::Global;
 use std::test::Fail;
 
@@ -66,28 +66,38 @@ fn end_of(alloc: Global, session: &Session) -> Result<String, Fail> {
     })
 }
 
-/// What the session of a stage has come to.
-fn outcome_of(alloc: Global, stage: &Stage, who: &str) -> Result<Option<Outcome>, Fail> {
-    let Some(session) = stage.sessions.sessions().first() else {
+/// What the only one of some sessions has come to.
+fn outcome_of(
+    alloc: Global,
+    sessions: &Sessions,
+    words: &Words,
+    who: &str,
+) -> Result<Option<Outcome>, Fail> {
+    let Some(session) = sessions.sessions().first() else {
         return Ok(None);
     };
-    let world = stage.sessions.world();
+    let world = sessions.world();
     let end = end_of(alloc, session)?;
     let printed = session.printed();
     Ok(Some(Outcome {
         told: format!(in alloc; "{printed}{end}")?,
-        trail: stage.words.lines(alloc, world.trail.entries(), who)?,
+        trail: words.lines(alloc, world.trail.entries(), who)?,
         steps: session.steps(),
         cells: world.store.used(),
     }))
 }
 
 /// Plays the session of a stage to its end; None where it comes to what does not run.
-fn played(alloc: Global, mut stage: Stage, who: &str) -> Result<Option<Outcome>, Fail>
+fn played(alloc: Global, stage: Stage<'_>, who: &str) -> Result<Option<Outcome>, Fail>
     requires { IsStaged stage }
 {
-    match stage.sessions.run_all(&stage.units, &[]) {
-        Ok(()) => outcome_of(alloc, &stage, who),
+    let Stage {
+        units,
+        mut sessions,
+        words,
+    } = stage;
+    match sessions.run_all(&units, &[]) {
+        Ok(()) => outcome_of(alloc, &sessions, &words, who),
         Err(
             SessionHalt {
                 halt: Halt::Memory,
@@ -100,7 +110,11 @@ fn played(alloc: Global, mut stage: Stage, who: &str) -> Result<Option<Outcome>,
 
 /// What a script comes to.
 fn outcome_in(alloc: Global, setting: Setting<'_>, script: &str) -> Result<Option<Outcome>, Fail> {
-    match set(alloc, setting, script)? {
+    let Some(reading) = read(alloc, setting, script)? else {
+        return Ok(None);
+    };
+    let Reading { trees, ground } = reading;
+    match set(alloc, setting, &trees, ground)? {
         Some(stage) => played(alloc, stage, setting.who),
         None => Ok(None),
     }

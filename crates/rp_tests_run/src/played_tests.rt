@@ -49,13 +49,39 @@ saw.tags.append('x') => session 1 bob~end ForbiddenAttribute: append~1
 saw.tags[0] = 'x' => session 1 bob~end ForbiddenAttribute: __setitem__~1
 print(saw.sold) => session 1 bob~end ForbiddenAttribute: sold~1"#;
 
+/// Functions and handlers, over the folder too.
+const FUNCTIONS: &str =
+    r#"def fib(n):~    return n if n < 2 else fib(n - 1) + fib(n - 2)~for i in range(8):~    print(fib(i)) => session\
+     1 bob~0~1~1~2~3~5~8~13~end ok~0
+def f(n):~    return 0 if n == 0 else 1 + f(n - 1)~print(f(999))~print(f(1000)) => session 1 bob~999~end RecursionErro\
+    r: calls~1
+def f(page):~    try:~        return page.secret~    except AttributeError as e:~        return e~    finally:~        \
+    print('asked')~print(f(root)) => session 1 bob~asked~secret~end ok~0
+title = lambda page=root: page.title~try:~    root.title = 'New'~except Unauthorized as e:~    print(title(), e) => ses\
+    sion 1 bob~Home zope.Manage~end ok~0
+def f(n, k=2):~    def g(x):~        return x * k + n~    return g~print(f(1)(3), f(1, 5)(3)) \
+    => session 1 bob~7 16~end ok~0
+f = lambda *xs: sum(xs)~try:~    print(f(1, 2), f('a'))~except TypeError:~    print('taken')~finally:~    print('las\
+    t') => session 1 bob~taken~last~end ok~0
+try:~    root.title = 'New'~except Unauthorized as e:~    print('not without', e)~else:~    print('set') \
+    => session 1 bob~not without zope.Manage~end ok~0
+try:~    print(root.secret)~except Forbidden as e:~    print(e)~    raise \
+    => session 1 bob~secret~end ForbiddenAttribute: secret~1
+def f():~    return f()~f() => session 1 bob~end RecursionError: calls~1
+def f():~    try:~        while True:~            pass~    except:~        print('no')~    finally:~        print('no')\
+    ~f() => session 1 bob~end stopped steps~5"#;
+
 /// Forms that do not run yet, and one that a script does not come to.
-const NOT_YET: &str = r#"print(1)~def f(): pass => script 1: not yet~4
+const NOT_YET: &str = r#"print(1)~class A: pass => script 1: not yet~4
 x = [i for i in (1, 2)] => script 1: not yet~4
-x = lambda: 1 => script 1: not yet~4
-class A: pass => script 1: not yet~4
-try:~    x = 1~except ValueError:~    pass => script 1: not yet~4
-if 1 > 2:~    x = lambda: 1~print('on') => session 1 bob~on~end ok~0"#;
+x = {i: 1 for i in (1, 2)} => script 1: not yet~4
+print(1 in {i for i in (1, 2)}) => script 1: not yet~4
+def f(x):~    return x~f(x=1) => script 1: not yet~4
+def f(x):~    return x~f(*[1]) => script 1: not yet~4
+def f(x):~    return x~f(**{'x': 1}) => script 1: not yet~4
+print(getattr('', 'join')) => script 1: not yet~4
+setattr(root, 'title', 1) => script 1: not yet~4
+if 1 > 2:~    x = [i for i in (1, 2)]~print('on') => session 1 bob~on~end ok~0"#;
 
 #[test]
 fn runs_plain_scripts_as_python_does(rt: HostRuntime) -> Result<(), Fail> {
@@ -70,6 +96,11 @@ fn runs_scripts_over_numbers_and_texts(rt: HostRuntime) -> Result<(), Fail> {
 #[test]
 fn runs_scripts_over_lists_and_dicts(rt: HostRuntime) -> Result<(), Fail> {
     all_answer(rt.alloc(), &Said::Shop, SHOP)
+}
+
+#[test]
+fn runs_functions_and_handlers(rt: HostRuntime) -> Result<(), Fail> {
+    all_answer(rt.alloc(), &Said::Of, FUNCTIONS)
 }
 
 #[test]

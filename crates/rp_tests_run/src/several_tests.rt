@@ -152,6 +152,20 @@ const BOX_TRAILS: &str =
 run title.toml eve:one.py --trail => print(root.items[1]) => session 1 eve~2~end ok~trail 2~1 1 eve allow get Folder.i\
     tems zope.Public~2 1 eve allow get list.__getitem__ zope.Public~0"#;
 
+/// Functions of one script that another one calls: they run as code of their own side, for whom the session runs.
+const CALLS: &str =
+    r#"run title.toml bob:one.py eve:two.py --trail => root.box = lambda x: x * 2 => print(root.box(4)) \
+    => session 1 bob~end ok~session 2 eve~8~end ok~trail 3~1 1 bob allow set Folder.box zope.Public~2 2 eve allow get \
+    Folder.box zope.Public~3 2 eve allow get function.__call__ zope.Public~0
+run title.toml bob:one.py eve:two.py => root.box = lambda: root.title => print(root.box()) \
+    => session 1 bob~end ok~session 2 eve~end Unauthorized: zope.View~1
+run title.toml bob:one.py eve:two.py => root.box = lambda xs: xs.append(1) => ys = []~root.box(ys) \
+    => session 1 bob~end ok~session 2 eve~end ForbiddenAttribute: append~1
+run title.toml bob:one.py eve:two.py => xs = [1]~root.box = lambda: xs => ys = root.box()~print(ys[0])~ys.append(2) \
+    => session 1 bob~end ok~session 2 eve~1~end ForbiddenAttribute: append~1
+run title.toml bob:one.py eve:two.py => n = 5~def say():~    print(n)~root.box = say => n = 6~root.box() \
+    => session 1 bob~end ok~session 2 eve~5~end ok~0"#;
+
 /// Every step before the sessions refuses for all scripts, in order.
 const REFUSED: &str =
     r#"run title.toml bob:one.py bob:two.py => x = = 1 => exec(y) => script 1: line 1: syntax~script\
@@ -178,6 +192,11 @@ fn stops_sessions_at_the_limits_of_the_words(rt: HostRuntime) -> Result<(), Fail
 fn writes_the_trail_behind_the_sessions(rt: HostRuntime) -> Result<(), Fail> {
     all_answer(rt.alloc(), &Several::Folder, TRAILS)?;
     all_answer(rt.alloc(), &Several::Boxes, BOX_TRAILS)
+}
+
+#[test]
+fn calls_functions_of_other_scripts(rt: HostRuntime) -> Result<(), Fail> {
+    all_answer(rt.alloc(), &Several::Boxes, CALLS)
 }
 
 #[test]

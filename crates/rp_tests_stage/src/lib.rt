@@ -7,5 +7,5 @@ mod stage;
 mod words;
 
 pub use programs::Code;
-pub use stage::{Setting, Stage, set};
+pub use stage::{Ground, Reading, Setting, Stage, read, set};
 pub use words::Words;

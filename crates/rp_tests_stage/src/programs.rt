@@ -1,15 +1,13 @@
-//! Programs of scripts, and of a module without a text.
+//! Trees of scripts.
 
 ghost use Rattle.std.specs.Prelude.{IfOk, IfSome};
 ghost use Rattle.rp_decl.specs.Places.{GrowsTo};
-ghost use Rattle.rp_session.specs.Ready.{AreLaidOut};
+ghost use Rattle.rp_play.specs.Programs.{AreNumbered};
 
 use rp_base::{Memory, Names};
-use rp_decl::Decl;
+use rp_play::Trees;
 use rp_program::{ProgramFault, read_text};
-use rp_scope::number;
 use rp_script::{Refusal, read_script};
-use rp_step::Units;
 use rp_tree::Tree;
 use std::alloc::Global;
 
@@ -22,26 +20,24 @@ pub enum Code {
     Trusted,
 }
 
-/// The programs of a run of one script over declarations without a module; None where the script is refused.
+/// The trees of a run of one script over declarations without a module; None where the script is refused.
 ///
 /// # Errors
 /// `Memory` where a growth was refused.
-pub fn units_of(
+pub fn trees_of(
     alloc: Global,
-    decl: &Decl,
     code: Code,
     script: &str,
     names: &mut Names,
-) -> Result<Option<Units>, Memory>
-    ensures laid { IfOk result (λ o. IfSome o AreLaidOut) }
+) -> Result<Option<Trees>, Memory>
+    ensures numbered { IfOk result (λ o. IfSome o AreNumbered) }
     ensures grown { GrowsTo names.old names.new }
 {
-    let Some(mut tree) = tree_of(alloc, code, script, names)? else {
+    let Some(tree) = tree_of(alloc, code, script, names)? else {
         return Ok(None);
     };
-    number(&mut tree);
-    let trees = vec![in alloc; tree]?;
-    Ok(Some(rp_play::units_of(alloc, decl, trees)?))
+    let trees = Trees::of_scripts(alloc, vec![in alloc; tree]?)?;
+    Ok(Some(trees))
 }
 
 /// The tree of a text that is read so; None where it is refused.

@@ -7,15 +7,17 @@ ghost use Rattle.rp_decl.specs.InOrder.{AreInOrder};
 ghost use Rattle.rp_decl.specs.Places.{GrowsTo, IsHeldBy};
 ghost use Rattle.rp_decl.specs.View.{declarations_view};
 ghost use Rattle.rp_interact.specs.Answers.{AnswersAs};
+ghost use Rattle.rp_play.specs.Programs.{AreNumbered};
 ghost use Rattle.rp_proxy.specs.Faithful.{IsFaithful};
 ghost use Rattle.rp_session.specs.Ready.{AreLaidOut};
-ghost use Rattle.rp_tests_stage.specs.Staged.{IsStaged};
+ghost use Rattle.rp_tests_stage.specs.Staged.{IsGround, IsStaged};
 
-use crate::programs::{Code, units_of};
+use crate::programs::{Code, trees_of};
 use crate::words::Words;
 use rp_base::{Memory, Meter, Names, Printed, Text};
 use rp_decl::{Decl, declarations};
 use rp_interact::Interaction;
+use rp_play::{Trees, units_of};
 use rp_proxy::{Running, World};
 use rp_session::Sessions;
 use rp_step::Units;
@@ -34,29 +36,45 @@ pub struct Setting<'a> {
     pub cells: u64,
 }
 
+/// A script that was read, and over what it runs.
+#[derive(Drop)]
+pub struct Reading {
+    pub trees: Trees,
+    pub ground: Ground,
+}
+
+/// The declarations over which a script runs, and the names of both.
+#[derive(Drop)]
+pub struct Ground {
+    pub decl: Decl,
+    pub names: Names,
+}
+
 /// A script that is ready to run as session 1.
 #[derive(Drop)]
-pub struct Stage {
-    pub units: Units,
+pub struct Stage<'t> {
+    pub units: Units<'t>,
     pub sessions: Sessions,
     pub words: Words,
 }
 
-/// Sets a script up. None where declarations, script or ids are refused.
+/// Reads a script and its declarations. None where one of them is refused.
 ///
 /// # Errors
 /// `Memory` where a growth was refused.
-pub fn set(alloc: Global, setting: Setting<'_>, script: &str) -> Result<Option<Stage>, Memory>
-    ensures { IfOk result (λ o. IfSome o IsStaged) }
+pub fn read(alloc: Global, setting: Setting<'_>, script: &str) -> Result<Option<Reading>, Memory>
+    ensures ground { IfOk result (λ o. IfSome o (λ reading. IsGround reading.ground)) }
+    ensures numbered { IfOk result (λ o. IfSome o (λ reading. AreNumbered reading.trees)) }
 {
     let mut names = Names::new(alloc, seed())?;
     let Some(decl) = declared(alloc, setting.declarations, &mut names)? else {
         return Ok(None);
     };
-    let Some(units) = units_of(alloc, &decl, setting.code, script, &mut names)? else {
+    let Some(trees) = trees_of(alloc, setting.code, script, &mut names)? else {
         return Ok(None);
     };
-    staged(alloc, decl, names, units, setting)
+    let ground = Ground { decl, names };
+    Ok(Some(Reading { trees, ground }))
 }
 
 /// The declarations, which are read into names.
@@ -109,14 +127,33 @@ fn world_of(alloc: Global, decl: Decl, names: Names, cells: u64) -> Result<Optio
     Ok(load(alloc, decl, names, cells, running).ok())
 }
 
+/// Sets a script that was read up. None where the ids are refused.
+///
+/// # Errors
+/// `Memory` where a growth was refused.
+pub fn set<'t>(
+    alloc: Global,
+    setting: Setting<'_>,
+    trees: &'t Trees,
+    ground: Ground,
+) -> Result<Option<Stage<'t>>, Memory>
+    requires ground { IsGround ground }
+    requires numbered { AreNumbered trees.now }
+    ensures { IfOk result (λ o. IfSome o IsStaged) }
+{
+    let units = units_of(alloc, &ground.decl, trees)?;
+    let Ground { decl, names } = ground;
+    staged(alloc, decl, names, units, setting)
+}
+
 /// The script of some programs, as session 1 over declarations that were read into the names.
-fn staged(
+fn staged<'t>(
     alloc: Global,
     decl: Decl,
     names: Names,
-    units: Units,
+    units: Units<'t>,
     setting: Setting<'_>,
-) -> Result<Option<Stage>, Memory>
+) -> Result<Option<Stage<'t>>, Memory>
     requires first { GrowsTo first_words names }
     requires held { IsHeldBy names decl }
     requires consistent { IsConsistent (declarations_view names decl) }

@@ -1,36 +1,24 @@
-use Rattle.std.proofs.Common.{◌≡◌, ◌∙◌, ◌∷◌, ◌++◌, [], List, length, map, ap, subst, arith}
+use Rattle.std.proofs.Common.{List, map, sym, subst, arith}
 use Rattle.std.specs.List.{AllZip}
-use Rattle.std.proofs.lemmas.List.{nil_from_length}
-use Rattle.std.specs.Vec.Iter.{into_iter_items}
+use Rattle.std.proofs.lemmas.List.{take_all}
+use Rattle.rp_play.specs.Programs.{HasNumbersWhereFew, IsProgramOf}
+use Rattle.rp_play.proofs.Lists.{zip-turn}
 use Rattle.rp_tree.specs.StatementViews.{view_tree}
 use Rattle.rp_tree.specs.declared.stmt.Tree.{Tree}
-use Rattle.rp_play.specs.Programs.{IsProgramOf}
-use Rattle.rp_play.proofs.Lists.{all-yielded, one-yielded, zip-push}
 use Rattle.rp_play.proofs.programs.script_programs.Goals as goal
+
+pub program_of-requires : goal.program_of-requires
+program_of-requires c = record {
+  numbers = subst (λ (tree : Tree). HasNumbersWhereFew (view_tree tree)) (sym c.tree-item.is) (c.requires.numbers c.loop-tree.tree-index c.tree-item.result (omega arith));
+}
 
 pub loop-tree-preserved : goal.loop-tree-preserved
 loop-tree-preserved c =
-    let at = c.loop-tree in
-    let tree = c.in-Some.tree in
-    let rest = into_iter_items c.next.new.self in
-    let steps : into_iter_items at.tree-iterator ≡ tree ∷ rest = c.in-Some.ensures.steps.0 in
     let made = c.in_ok-program.ensures in
-    record {
-      yielded = one-yielded at.yielded (into_iter_items at.tree-iterator) rest _ tree steps at.invariant.yielded;
-      left = (let was = at.invariant.left in
-          let gone = c.in-Some.ensures.steps.1 in
-          let short = ap length steps in
-          omega arith);
-      programs = zip-push IsProgramOf view_tree at.yielded at.programs.items c.push.new.self.items tree c.in_ok-program.program c.in_ok-push.ensures.items at.invariant.programs
-          (record { is = made.is; few = made.few; block = made.block });
-    }
+    zip-turn IsProgramOf view_tree c.args.trees.now c.loop-tree.tree-index c.tree-item.result c.loop-tree.programs.items c.push.new.self.items c.in_ok-program.program
+    (omega arith) c.tree-item.is c.in_ok-push.ensures.items c.loop-tree.invariant (record { is = made.is; few = made.few; laid = made.laid })
 
 pub returns : goal.returns
 returns c =
-    let at = c.loop-tree in
-    let gone = c.in-None.ensures.steps in
-    let left = at.invariant.left in
-    let none : into_iter_items at.tree-iterator ≡ [] = nil_from_length (into_iter_items at.tree-iterator) (omega arith) in
-    let all : at.yielded ≡ c.args.trees.items =
-    all-yielded at.yielded (into_iter_items at.tree-iterator) c.args.trees.items none (at.invariant.yielded ∙ c.into_iter-tree-iterator.ensures.into_iter_gives.0) in
-    subst (λ (trees : List Tree). AllZip IsProgramOf (map view_tree trees) at.programs.items) all at.invariant.programs
+    subst (λ (trees : List Tree). AllZip IsProgramOf (map view_tree trees) c.loop-tree.programs.items)
+    (take_all c.loop-tree.tree-index c.args.trees.now (omega arith)) c.loop-tree.invariant

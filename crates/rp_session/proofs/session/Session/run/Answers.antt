@@ -8,7 +8,7 @@ done c = ran c.args.units.now c.args.world.now c.args.self.now c.args.statements
     c.run_statements-end.new.world c.swap-2.new.x c.swap-2.new.y c.in_ok-end.field-0 c.in_ok-self.field-0
     c.swap.ensures.x_after c.swap.ensures.y_after c.swap-2.ensures.x_after c.swap-2.ensures.y_after
     c.in_ok-end.ensures.law c.in_ok-self.ensures
-    c.requires.faithful c.requires.home c.run_statements-end.ensures.faithful c.run_statements-end.ensures.shape
+    c.requires.faithful c.requires.home c.in_ok-end.ensures.faithful c.run_statements-end.ensures.shape
 
 pub returns-clause-runs : goal.returns-clause-runs
 returns-clause-runs c = (done c).runs
@@ -21,3 +21,9 @@ returns-clause-home c = (done c).home
 
 pub returns-clause-others : goal.returns-clause-others
 returns-clause-others c = (done c).others
+
+pub run_statements-end-requires-clause-block : goal.run_statements-end-requires-clause-block
+run_statements-end-requires-clause-block c = (c.requires.laid _).block
+
+pub run_statements-end-requires-clause-indexed : goal.run_statements-end-requires-clause-indexed
+run_statements-end-requires-clause-indexed c = λ side. (c.requires.laid side).indexed

@@ -6,7 +6,7 @@ use Rattle.rp_session.proofs.Beginning.{begun, first_running, ready-more}
 use Rattle.rp_session.proofs.sessions.Sessions.begin.Goals as goal
 
 pub add_globals-requires : goal.add_globals-requires
-add_globals-requires c = record { block = subst (λ (p : Program). 0 < length p.layouts) (sym c.program-program.ensures) (c.requires.laid _) }
+add_globals-requires c = record { block = subst (λ (p : Program). 0 < length p.layouts) (sym c.program-program.ensures) (c.requires.laid _).block }
 
 abbrev items_of : (c : goal.After-push_reserved) → c.push_reserved.new.self.items ≡ c.args.self.now.list.items ++ c.first-session.result ∷ []
 items_of c =

@@ -15,8 +15,8 @@ loop-place-preserved c =
     let within : c.loop-place.place < length list.items = omega arith in
     let program = program_at c.args.units.now (record { 0 = c.loop-place.place + 1 }) in
     let statements : (base : Run) → count ((run_of base c.args.units.now).programs (record { 0 = c.loop-place.place + 1 })).body ≡ c.len-statements.result = λ base.
-    count-of program.tree.body.items ∙ ap (λ (p : Program). length p.tree.body.items) (sym c.program.ensures)
-    ∙ sym c.program.result.now.tree.body.ok.0 ∙ sym c.len-statements.ensures in
+    count-of program.tree.now.body.items ∙ ap (λ (p : Program). length p.tree.now.body.items) (sym c.program.ensures)
+    ∙ sym c.program.result.now.tree.now.body.ok.0 ∙ sym c.len-statements.ensures in
     record {
       ready = c.in_ok-turns_of.ensures.ready;
       count = c.in_ok-turns_of.ensures.count ∙ c.loop-place.invariant.count;

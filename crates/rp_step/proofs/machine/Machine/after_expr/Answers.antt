@@ -56,3 +56,6 @@ returns-in-DictKey-clause-law c = rw (c.in-DictKey.is) c.after_dict_key.ensures.
 
 pub returns-in-DictValue-clause-law : goal.returns-in-DictValue-clause-law
 returns-in-DictValue-clause-law c = rw (c.in-DictValue.is) c.after_dict_value.ensures.law
+
+pub returns-in-Default-clause-law : goal.returns-in-Default-clause-law
+returns-in-Default-clause-law c = rw (c.in-Default.is) c.after_default.ensures.law

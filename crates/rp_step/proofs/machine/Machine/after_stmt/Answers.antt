@@ -1,15 +1,16 @@
-use Rattle.std.proofs.Common.{ap}
-use Rattle.rp_meaning.specs.State.{next}
+use Rattle.std.proofs.Common.{◌≡◌, sym, ap, ◌∙◌}
+use Rattle.rp_meaning.specs.Frame.{Run}
+use Rattle.rp_meaning.specs.State.{State, next, returned}
 use Rattle.rp_meaning.specs.Statements as forms
 use Rattle.rp_ops.specs.Outcome.{gives}
 use Rattle.rp_proxy.specs.declared.world.World.{World}
 use Rattle.rp_step.proofs.Doings.{held_as, held_by}
 use Rattle.rp_step.proofs.Moves.{on_ok}
 use Rattle.rp_step.specs.Does as does
-use Rattle.rp_step.specs.Law.{Executes, frame_in}
+use Rattle.rp_step.specs.Law.{Executes, ResumesStmt, frame_in, rest_of}
 use Rattle.rp_step.specs.Raising.{raised_value}
 use Rattle.rp_access.specs.Moment.{state_of}
-use Rattle.rp_step.specs.Rest.{after_stmt, asserted, did, failed_with, tested_turn}
+use Rattle.rp_step.specs.Rest.{after_stmt, asserted, did, failed_with, rest, tested_turn}
 use Rattle.rp_frame.specs.declared.task.StmtTask.TheVariants as stmt
 use Rattle.rp_step.proofs.machine.Machine.after_stmt.Goals as goal
 
@@ -183,3 +184,27 @@ returns-in-AugmentedItem-clause-law c =
     held_as m c.after_augmented_item.new.self c.after_augmented_item.new.world c.after_augmented_item.result (λ base. after_stmt c.args.task (frame_in base m) m.values (gives c.args.value (state_of w)))
     (λ base. after_stmt (stmt.AugmentedItem c.in-AugmentedItem.op) (frame_in base m) m.values (gives c.args.value (state_of w)))
     (λ base. ap (λ t. after_stmt t (frame_in base m) m.values (gives c.args.value (state_of w))) c.in-AugmentedItem.is) c.after_augmented_item.ensures.law
+
+pub returns-in-Handler-clause-law : goal.returns-in-Handler-clause-law
+returns-in-Handler-clause-law c =
+    let m = c.args.self.now in
+    let w = c.args.world.now in
+    held_as m c.after_handler.new.self c.after_handler.new.world c.after_handler.result (λ base. after_stmt c.args.task (frame_in base m) m.values (gives c.args.value (state_of w)))
+    (λ base. after_stmt (stmt.Handler c.in-Handler.handler c.in-Handler.behind) (frame_in base m) m.values (gives c.args.value (state_of w)))
+    (λ base. ap (λ t. after_stmt t (frame_in base m) m.values (gives c.args.value (state_of w))) c.in-Handler.is) c.after_handler.ensures.law
+
+pub returns-in-Return-clause-law : goal.returns-in-Return-clause-law
+returns-in-Return-clause-law c =
+    let m = c.args.self.now in
+    let n = c.returns.new.self in
+    let w = c.args.world.now in
+    on_ok c.returns.result ((base : Run) (s : State) → rest_of base n s ≡ rest m.tasks (did (frame_in base m) m.values (gives (returned c.args.value) s))) (ResumesStmt c.args.task c.args.value m w n w)
+    (λ law base. law base (state_of w) ∙ ap (λ t. rest m.tasks (after_stmt t (frame_in base m) m.values (gives c.args.value (state_of w)))) (sym c.in-Return.is)) c.returns.ensures.law
+
+pub returns-in-Define-clause-law : goal.returns-in-Define-clause-law
+returns-in-Define-clause-law c =
+    let m = c.args.self.now in
+    let w = c.args.world.now in
+    held_as m c.bind_next.new.self c.bind_next.new.world c.bind_next.result (λ base. after_stmt c.args.task (frame_in base m) m.values (gives c.args.value (state_of w)))
+    (λ base. after_stmt (stmt.Define c.in-Define.name) (frame_in base m) m.values (gives c.args.value (state_of w)))
+    (λ base. ap (λ t. after_stmt t (frame_in base m) m.values (gives c.args.value (state_of w))) c.in-Define.is) c.bind_next.ensures.law

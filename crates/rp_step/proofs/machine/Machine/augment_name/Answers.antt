@@ -11,16 +11,18 @@ pub returns-in-Ok-clause-law : goal.returns-in-Ok-clause-law
 returns-in-Ok-clause-law c =
     let m = c.args.self.now in
     let w = c.args.world.now in
+    let u = c.read.new.world in
     let n = c.args.name in
     let store : Store = λ a. forms.assign (does.expr c.args.value.now) (name_augmented n c.args.op a) in
-    does_as m c.augment_by.new.self w c.augment_by.new.world c.augment_by.result (forms.assign (read_name n) store) (store c.in-Ok.a) w
-    (assign_gives m w w (read_name n) store c.in-Ok.a c.in-Ok.ensures.law) c.augment_by.ensures.law
+    does_as m c.augment_by.new.self w c.augment_by.new.world c.augment_by.result (forms.assign (read_name n) store) (store c.in-Ok.a) u
+    (assign_gives m w u (read_name n) store c.in-Ok.a c.in-Ok.ensures.law) c.augment_by.ensures.law
 
 pub returns-in-Err-clause-law : goal.returns-in-Err-clause-law
 returns-in-Err-clause-law c =
     let m = c.args.self.now in
     let w = c.args.world.now in
+    let u = c.read.new.world in
     let n = c.args.name in
     let store : Store = λ a. forms.assign (does.expr c.args.value.now) (name_augmented n c.args.op a) in
-    does_end m c.cut_off.new.self w w c.cut_off.result (forms.assign (read_name n) store) c.in-Err.end
-    (assign_ends m w w (read_name n) store c.in-Err.end c.in-Err.ensures.law) c.cut_off.ensures.law
+    does_end m c.cut_off.new.self w u c.cut_off.result (forms.assign (read_name n) store) c.in-Err.end
+    (assign_ends m w u (read_name n) store c.in-Err.end c.in-Err.ensures.law) c.cut_off.ensures.law

@@ -1,6 +1,8 @@
 use Rattle.std.proofs.Common.{drop, reverse, subst, sym, take}
 use Rattle.rp_frame.specs.Top.{top}
 use Rattle.rp_store.specs.Kept.{AreSound}
+use Rattle.rp_access.specs.Moment.{state_of}
+use Rattle.rp_step.proofs.Asks.{left_same}
 use Rattle.rp_step.proofs.Callings.{call_same, sound_last, sound_under}
 use Rattle.rp_step.proofs.machine.Machine.called.Goals as goal
 
@@ -16,3 +18,8 @@ pub returns-clause-law : goal.returns-clause-law
 returns-clause-law c =
     call_same c.args.self.now.frame.side (top (drop c.args.count c.args.self.now.values)) c.under.result.now (reverse (take c.args.count c.args.self.now.values)) c.last.result.now
     c.call.result c.args.world.now c.call.new.world c.under.ensures c.last.ensures c.call.ensures.law
+
+pub returns-clause-left : goal.returns-clause-left
+returns-clause-left c =
+    left_same (top (drop c.args.count c.args.self.now.values)) c.under.result.now (reverse (take c.args.count c.args.self.now.values)) c.last.result.now
+    c.call.result (state_of c.args.world.now) (state_of c.call.new.world) c.under.ensures c.last.ensures c.call.ensures.left

@@ -1,51 +1,100 @@
 use Rattle.std.proofs.Common.{ap}
-use Rattle.rp_frame.specs.Top.{below}
+use Rattle.rp_frame.specs.Top.{below, top}
 use Rattle.rp_frame.specs.declared.task.FlowTask.TheVariants as flow
 use Rattle.rp_meaning.specs.State.{broke, next}
 use Rattle.rp_ops.specs.Outcome.{gives}
-use Rattle.rp_step.proofs.Doings.{held_any}
+use Rattle.rp_step.proofs.Doings.{held_as, held_by}
+use Rattle.rp_step.specs.Does as does
 use Rattle.rp_step.specs.Law.{frame_in}
+use Rattle.rp_access.specs.Moment.{state_of}
 use Rattle.rp_step.specs.Rest.{after_flow, did}
+use Rattle.rp_frame.specs.declared.leaving.Leaving.TheVariants as leaving
+use Rattle.rp_meaning.specs.Expressions.{nil}
+use Rattle.rp_meaning.specs.Frame.{Doing}
+use Rattle.rp_step.specs.Handling as steps
+use Rattle.rp_step.proofs.Handlings.{moves_executes}
 use Rattle.rp_step.proofs.machine.Machine.flow_break.Goals as goal
 
 pub returns-in-While-clause-law : goal.returns-in-While-clause-law
 returns-in-While-clause-law c =
     let m = c.args.self.now in
-    held_any m c.go.new.self c.go.result (λ base s. after_flow c.args.task (frame_in base m) m.values (gives broke s))
-    (λ base s. did (frame_in base m) m.values (gives next s))
-    (λ base s. ap (λ t. after_flow t (frame_in base m) m.values (gives broke s)) c.in-While.is) c.go.ensures.law
+    let w = c.args.world.now in
+    held_by m c.go.new.self w c.go.result (λ base. after_flow c.args.task (frame_in base m) m.values (gives broke (state_of w)))
+    (λ base. did (frame_in base m) m.values (gives next (state_of w)))
+    (λ base. ap (λ t. after_flow t (frame_in base m) m.values (gives broke (state_of w))) c.in-While.is) (λ base. c.go.ensures.law base (state_of w))
 
 pub returns-in-Store-clause-law : goal.returns-in-Store-clause-law
 returns-in-Store-clause-law c =
     let m = c.args.self.now in
-    held_any m c.go_without.new.self c.go_without.result (λ base s. after_flow c.args.task (frame_in base m) m.values (gives broke s))
-    (λ base s. did (frame_in base m) (below m.values) (gives broke s))
-    (λ base s. ap (λ t. after_flow t (frame_in base m) m.values (gives broke s)) c.in-Store.is) c.go_without.ensures.law
+    let w = c.args.world.now in
+    held_by m c.go_without.new.self w c.go_without.result (λ base. after_flow c.args.task (frame_in base m) m.values (gives broke (state_of w)))
+    (λ base. did (frame_in base m) (below m.values) (gives broke (state_of w)))
+    (λ base. ap (λ t. after_flow t (frame_in base m) m.values (gives broke (state_of w))) c.in-Store.is) (λ base. c.go_without.ensures.law base (state_of w))
 
 pub returns-in-Block-clause-law : goal.returns-in-Block-clause-law
 returns-in-Block-clause-law c =
     let m = c.args.self.now in
-    held_any m c.go-in-Block.new.self c.go-in-Block.result (λ base s. after_flow c.args.task (frame_in base m) m.values (gives broke s))
-    (λ base s. did (frame_in base m) m.values (gives broke s))
-    (λ base s. ap (λ t. after_flow t (frame_in base m) m.values (gives broke s)) c.in-Block.is) c.go-in-Block.ensures.law
+    let w = c.args.world.now in
+    held_by m c.go-in-Block.new.self w c.go-in-Block.result (λ base. after_flow c.args.task (frame_in base m) m.values (gives broke (state_of w)))
+    (λ base. did (frame_in base m) m.values (gives broke (state_of w)))
+    (λ base. ap (λ t. after_flow t (frame_in base m) m.values (gives broke (state_of w))) c.in-Block.is) (λ base. c.go-in-Block.ensures.law base (state_of w))
 
 pub returns-in-Delete-clause-law : goal.returns-in-Delete-clause-law
 returns-in-Delete-clause-law c =
     let m = c.args.self.now in
-    held_any m c.go-in-Delete.new.self c.go-in-Delete.result (λ base s. after_flow c.args.task (frame_in base m) m.values (gives broke s))
-    (λ base s. did (frame_in base m) m.values (gives broke s))
-    (λ base s. ap (λ t. after_flow t (frame_in base m) m.values (gives broke s)) c.in-Delete.is) c.go-in-Delete.ensures.law
+    let w = c.args.world.now in
+    held_by m c.go-in-Delete.new.self w c.go-in-Delete.result (λ base. after_flow c.args.task (frame_in base m) m.values (gives broke (state_of w)))
+    (λ base. did (frame_in base m) m.values (gives broke (state_of w)))
+    (λ base. ap (λ t. after_flow t (frame_in base m) m.values (gives broke (state_of w))) c.in-Delete.is) (λ base. c.go-in-Delete.ensures.law base (state_of w))
 
 pub returns-in-For-clause-law : goal.returns-in-For-clause-law
 returns-in-For-clause-law c =
     let m = c.args.self.now in
-    held_any m c.go_without-in-For.new.self c.go_without-in-For.result (λ base s. after_flow c.args.task (frame_in base m) m.values (gives broke s))
-    (λ base s. did (frame_in base m) (below m.values) (gives next s))
-    (λ base s. ap (λ t. after_flow t (frame_in base m) m.values (gives broke s)) c.in-For.is) c.go_without-in-For.ensures.law
+    let w = c.args.world.now in
+    held_by m c.go_without-in-For.new.self w c.go_without-in-For.result (λ base. after_flow c.args.task (frame_in base m) m.values (gives broke (state_of w)))
+    (λ base. did (frame_in base m) (below m.values) (gives next (state_of w)))
+    (λ base. ap (λ t. after_flow t (frame_in base m) m.values (gives broke (state_of w))) c.in-For.is) (λ base. c.go_without-in-For.ensures.law base (state_of w))
 
 pub returns-in-StoreEach-clause-law : goal.returns-in-StoreEach-clause-law
 returns-in-StoreEach-clause-law c =
     let m = c.args.self.now in
-    held_any m c.go_less.new.self c.go_less.result (λ base s. after_flow c.args.task (frame_in base m) m.values (gives broke s))
-    (λ base s. after_flow (flow.StoreEach c.in-StoreEach.targets) (frame_in base m) m.values (gives broke s))
-    (λ base s. ap (λ t. after_flow t (frame_in base m) m.values (gives broke s)) c.in-StoreEach.is) c.go_less.ensures.law
+    let w = c.args.world.now in
+    held_by m c.go_less.new.self w c.go_less.result (λ base. after_flow c.args.task (frame_in base m) m.values (gives broke (state_of w)))
+    (λ base. after_flow (flow.StoreEach c.in-StoreEach.targets) (frame_in base m) m.values (gives broke (state_of w)))
+    (λ base. ap (λ t. after_flow t (frame_in base m) m.values (gives broke (state_of w))) c.in-StoreEach.is) (λ base. c.go_less.ensures.law base (state_of w))
+
+pub returns-in-Try-clause-law : goal.returns-in-Try-clause-law
+returns-in-Try-clause-law c =
+    let m = c.args.self.now in
+    let w = c.args.world.now in
+    held_by m c.go-in-Try.new.self w c.go-in-Try.result (λ base. after_flow c.args.task (frame_in base m) m.values (gives broke (state_of w)))
+    (λ base. did (frame_in base m) m.values (gives broke (state_of w)))
+    (λ base. ap (λ t. after_flow t (frame_in base m) m.values (gives broke (state_of w))) c.in-Try.is) (λ base. c.go-in-Try.ensures.law base (state_of w))
+
+pub returns-in-Handled-clause-law : goal.returns-in-Handled-clause-law
+returns-in-Handled-clause-law c =
+    let m = c.args.self.now in
+    let w = c.args.world.now in
+    held_by m c.behind_handler.new.self c.behind_handler.new.world c.behind_handler.result (λ base. after_flow c.args.task (frame_in base m) m.values (gives broke (state_of w)))
+    (λ base. did (steps.handling (steps.thrown_of (top m.values)) (frame_in base m)) (below m.values) (gives broke (steps.without_as c.in-Handled.name (frame_in base m) (state_of w))))
+    (λ base. ap (λ t. after_flow t (frame_in base m) m.values (gives broke (state_of w))) c.in-Handled.is) c.behind_handler.ensures.law
+
+pub returns-in-Finally-clause-law : goal.returns-in-Finally-clause-law
+returns-in-Finally-clause-law c =
+    let m = c.args.self.now in
+    let w = c.args.world.now in
+    let done : Doing = steps.finished_by (does.block c.in-Finally.last.now) leaving.Broke nil in
+    held_as m c.finish.new.self w c.finish.result (λ base. after_flow c.args.task (frame_in base m) m.values (gives broke (state_of w)))
+    (λ base. did (frame_in base m) m.values (done (frame_in base m) (state_of w)))
+    (λ base. ap (λ t. after_flow t (frame_in base m) m.values (gives broke (state_of w))) c.in-Finally.is) (moves_executes m c.finish.new.self c.finish.result done w c.finish.ensures.law)
+
+pub returns-in-Finally-clause-ready : goal.returns-in-Finally-clause-ready
+returns-in-Finally-clause-ready c = c.finish.ensures.ready c.args.world.now c.requires.ready (tt, tt)
+
+pub returns-in-Leave-clause-law : goal.returns-in-Leave-clause-law
+returns-in-Leave-clause-law c =
+    let m = c.args.self.now in
+    let w = c.args.world.now in
+    held_by m c.go_without-in-Leave.new.self w c.go_without-in-Leave.result (λ base. after_flow c.args.task (frame_in base m) m.values (gives broke (state_of w)))
+    (λ base. did (frame_in base m) (below m.values) (gives broke (state_of w)))
+    (λ base. ap (λ t. after_flow t (frame_in base m) m.values (gives broke (state_of w))) c.in-Leave.is) (λ base. c.go_without-in-Leave.ensures.law base (state_of w))

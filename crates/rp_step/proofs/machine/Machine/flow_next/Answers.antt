@@ -4,13 +4,18 @@ use Rattle.rp_meaning.specs.State.{next}
 use Rattle.rp_meaning.specs.Statements as forms
 use Rattle.rp_ops.specs.Outcome.{gives}
 use Rattle.rp_proxy.specs.declared.world.World.{World}
-use Rattle.rp_step.proofs.Doings.{held_as}
+use Rattle.rp_step.proofs.Doings.{held_as, held_by}
 use Rattle.rp_step.proofs.Moves.{on_ok}
 use Rattle.rp_step.specs.Does as does
 use Rattle.rp_frame.specs.declared.task.FlowTask.TheVariants as flow
 use Rattle.rp_step.specs.Law.{Executes, frame_in}
 use Rattle.rp_access.specs.Moment.{state_of}
 use Rattle.rp_step.specs.Rest.{after_flow, did, loop}
+use Rattle.rp_frame.specs.declared.leaving.Leaving.TheVariants as leaving
+use Rattle.rp_meaning.specs.Expressions.{nil}
+use Rattle.rp_meaning.specs.Frame.{Doing}
+use Rattle.rp_step.specs.Handling as steps
+use Rattle.rp_step.proofs.Handlings.{left_executes, moves_executes}
 use Rattle.rp_step.proofs.machine.Machine.flow_next.Goals as goal
 
 pub returns-in-Block-clause-law : goal.returns-in-Block-clause-law
@@ -60,3 +65,39 @@ returns-in-StoreEach-clause-law c =
     held_as m c.store_each.new.self c.store_each.new.world c.store_each.result (λ base. after_flow c.args.task (frame_in base m) m.values (gives next (state_of w)))
     (λ base. after_flow (flow.StoreEach c.in-StoreEach.targets) (frame_in base m) m.values (gives next (state_of w)))
     (λ base. ap (λ t. after_flow t (frame_in base m) m.values (gives next (state_of w))) c.in-StoreEach.is) c.store_each.ensures.law
+
+pub returns-in-Try-clause-law : goal.returns-in-Try-clause-law
+returns-in-Try-clause-law c =
+    let m = c.args.self.now in
+    let w = c.args.world.now in
+    held_by m c.go.new.self w c.go.result (λ base. after_flow c.args.task (frame_in base m) m.values (gives next (state_of w)))
+    (λ base. did (frame_in base m) m.values (does.block c.in-Try.other.now (frame_in base m) (state_of w)))
+    (λ base. ap (λ t. after_flow t (frame_in base m) m.values (gives next (state_of w))) c.in-Try.is) (λ base. c.go.ensures.law base (state_of w))
+
+pub returns-in-Handled-clause-law : goal.returns-in-Handled-clause-law
+returns-in-Handled-clause-law c =
+    let m = c.args.self.now in
+    let w = c.args.world.now in
+    held_by m c.behind_handler.new.self c.behind_handler.new.world c.behind_handler.result (λ base. after_flow c.args.task (frame_in base m) m.values (gives next (state_of w)))
+    (λ base. did (steps.handling (steps.thrown_of (top m.values)) (frame_in base m)) (below m.values) (gives next (steps.without_as c.in-Handled.name (frame_in base m) (state_of w))))
+    (λ base. ap (λ t. after_flow t (frame_in base m) m.values (gives next (state_of w))) c.in-Handled.is) c.behind_handler.ensures.law
+
+pub returns-in-Finally-clause-law : goal.returns-in-Finally-clause-law
+returns-in-Finally-clause-law c =
+    let m = c.args.self.now in
+    let w = c.args.world.now in
+    let done : Doing = steps.finished_by (does.block c.in-Finally.last.now) leaving.Next nil in
+    held_as m c.finish.new.self w c.finish.result (λ base. after_flow c.args.task (frame_in base m) m.values (gives next (state_of w)))
+    (λ base. did (frame_in base m) m.values (done (frame_in base m) (state_of w)))
+    (λ base. ap (λ t. after_flow t (frame_in base m) m.values (gives next (state_of w))) c.in-Finally.is) (moves_executes m c.finish.new.self c.finish.result done w c.finish.ensures.law)
+
+pub returns-in-Finally-clause-ready : goal.returns-in-Finally-clause-ready
+returns-in-Finally-clause-ready c = c.finish.ensures.ready c.args.world.now c.requires.ready (tt, tt)
+
+pub returns-in-Leave-clause-law : goal.returns-in-Leave-clause-law
+returns-in-Leave-clause-law c =
+    let m = c.args.self.now in
+    let w = c.args.world.now in
+    held_as m c.leave.new.self w c.leave.result (λ base. after_flow c.args.task (frame_in base m) m.values (gives next (state_of w)))
+    (λ base. did (frame_in base m) (below m.values) (steps.left c.in-Leave.leaving (top m.values) (frame_in base m) (state_of w)))
+    (λ base. ap (λ t. after_flow t (frame_in base m) m.values (gives next (state_of w))) c.in-Leave.is) (left_executes m c.leave.new.self c.leave.result (steps.left c.in-Leave.leaving (top m.values)) w c.leave.ensures.law)

@@ -6,5 +6,5 @@ use Rattle.rp_step.proofs.machine.Machine.name.Goals as goal
 
 pub returns-clause-law : goal.returns-clause-law
 returns-clause-law c = λ base.
-    Comes-same c.read.result (state_of c.take_step.new.world) _ _
+    Comes-same c.read.result (state_of c.read.new.world) _ _
     (gives-then (tt {0}) (state_of c.take_step.new.world) _ (λ _ s. read_name c.args.name (frame_in base c.args.self.now) s) c.in_ok-take_step.ensures.law) (c.read.ensures.law base)

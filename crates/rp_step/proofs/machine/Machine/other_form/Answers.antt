@@ -1,4 +1,5 @@
 use Rattle.std.proofs.Common.{sym}
+use Rattle.rp_step.proofs.DefinitionEquations.{form_lambda}
 use Rattle.rp_step.proofs.FormEquations.{form_and, form_compare, form_dict, form_list, form_or, form_primary, form_tuple}
 use Rattle.rp_step.proofs.machine.Machine.other_form.Goals as goal
 
@@ -22,3 +23,6 @@ returns-in-List-clause-law c = rw (c.in-List.is, form_list, sym c.deref-in-List.
 
 pub returns-in-Dict-clause-law : goal.returns-in-Dict-clause-law
 returns-in-Dict-clause-law c = rw (c.in-Dict.is, form_dict, sym c.deref-in-Dict.ensures.value) c.dict_display.ensures.law
+
+pub returns-in-Lambda-clause-law : goal.returns-in-Lambda-clause-law
+returns-in-Lambda-clause-law c = rw (c.in-Lambda.is, form_lambda, sym c.deref-in-Lambda.ensures) c.lambda.ensures.law

@@ -1,7 +1,9 @@
-use Rattle.std.proofs.Common.{None}
+use Rattle.std.proofs.Common.{Option, None, ap}
 use Rattle.rp_meaning.specs.Statements as forms
-use Rattle.rp_step.proofs.Doings.{does_end}
-use Rattle.rp_access.specs.Moment.{state_of}
+use Rattle.rp_tree.specs.declared.expr.Expr.{Expr}
+use Rattle.rp_step.proofs.Handlings.{moves_as, moves_executes}
+use Rattle.rp_step.specs.Does as does
+use Rattle.rp_step.specs.Law.{frame_in}
 use Rattle.rp_step.proofs.machine.Machine.raise.Goals as goal
 
 pub returns-in-Some-clause-law : goal.returns-in-Some-clause-law
@@ -10,5 +12,6 @@ returns-in-Some-clause-law c = rw c.in-Some.is c.raise_of.ensures.law
 pub returns-in-None-clause-law : goal.returns-in-None-clause-law
 returns-in-None-clause-law c =
     let m = c.args.self.now in
-    let w = c.args.world.now in
-    rw c.in-None.is (does_end m c.cut_off.new.self w w c.cut_off.result (forms.raise None) c.raise_again.result (λ base. c.raise_again.ensures (state_of w)) c.cut_off.ensures.law)
+    moves_executes m c.raise_handled.new.self c.raise_handled.result (forms.raise (does.maybe c.args.value.now)) c.args.world.now
+    (moves_as m c.raise_handled.new.self c.raise_handled.result (forms.raise (does.maybe c.args.value.now)) (forms.raise None)
+    (λ base s. ap (λ (x : Option Expr). forms.raise (does.maybe x) (frame_in base m) s) c.in-None.is) c.raise_handled.ensures.law)

@@ -1,4 +1,4 @@
-use Rattle.std.proofs.Common.{sym, ap, ◌∙◌}
+use Rattle.std.proofs.Common.{refl, sym, ap, ◌∙◌}
 use Rattle.rp_step.specs.Law.{frame_in}
 use Rattle.rp_access.specs.Moment.{state_of}
 use Rattle.rp_step.specs.Rest.{begun, rest}
@@ -18,3 +18,6 @@ pub returns-in_ok-block-in-Block-clause-law : goal.returns-in_ok-block-in-Block-
 returns-in_ok-block-in-Block-clause-law c = λ base.
     let m = c.args.self.now in
     c.in_ok-block-in-Block.ensures.law c.args.world.now base ∙ ap (λ z. rest m.tasks (begun (frame_in base m) z m.values m.end (state_of c.args.world.now))) (sym c.in-Block.is)
+
+pub returns-in-Call-clause-law : goal.returns-in-Call-clause-law
+returns-in-Call-clause-law c = λ base. refl

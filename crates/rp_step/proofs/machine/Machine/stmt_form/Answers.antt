@@ -1,9 +1,12 @@
 use Rattle.std.proofs.Common.{sym, refl}
+use Rattle.rp_meaning.specs.Exceptions as exception
+use Rattle.rp_step.proofs.DefinitionEquations.{stmt_def, stmt_return}
 use Rattle.rp_meaning.specs.State.{broke, continued, next}
 use Rattle.rp_meaning.specs.Statements as forms
 use Rattle.rp_step.proofs.Doings.{does_any, does_goes, does_moves}
 use Rattle.rp_step.proofs.Equations.{stmt_assert, stmt_assign, stmt_break, stmt_continue, stmt_del, stmt_expr, stmt_global, stmt_if, stmt_pass, stmt_raise, stmt_while}
 use Rattle.rp_step.proofs.PlaceEquations.{stmt_aug, stmt_for, stmt_unpack}
+use Rattle.rp_step.proofs.TryEquations.{stmt_try}
 use Rattle.rp_step.specs.Does as does
 use Rattle.rp_step.proofs.machine.Machine.stmt_form.Goals as goal
 
@@ -78,3 +81,24 @@ returns-in-Raise-clause-law c = rw (c.in-Raise.is, stmt_raise) c.raise.ensures.l
 
 pub returns-in-Unpack-clause-law : goal.returns-in-Unpack-clause-law
 returns-in-Unpack-clause-law c = rw (c.in-Unpack.is, stmt_unpack) c.assign_target.ensures.law
+
+pub returns-in-Try-clause-law : goal.returns-in-Try-clause-law
+returns-in-Try-clause-law c =
+    let m = c.args.self.now in
+    let w = c.args.world.now in
+    does_any m c.begin_try.new.self w w c.begin_try.result (does.stmt_form c.args.form.now)
+    (exception.try (does.block c.deref-in-Try.result.now) (does.handlers c.deref-in-Try-2.result.now) (does.block c.stmts_of-in-Try.result.now) (does.block c.stmts_of-in-Try-2.result.now))
+    (λ base. rw (
+      c.in-Try.is,
+      stmt_try c.in-Try.body c.in-Try.handlers c.in-Try.other c.in-Try.last,
+      sym c.deref-in-Try.ensures.value,
+      sym c.deref-in-Try-2.ensures.value,
+      sym c.stmts_of-in-Try.ensures,
+      sym c.stmts_of-in-Try-2.ensures,
+    ) refl) c.begin_try.ensures.law
+
+pub returns-in-Return-clause-law : goal.returns-in-Return-clause-law
+returns-in-Return-clause-law c = rw (c.in-Return.is, stmt_return) c.give_back.ensures.law
+
+pub returns-in-Def-clause-law : goal.returns-in-Def-clause-law
+returns-in-Def-clause-law c = rw (c.in-Def.is, stmt_def) c.definition.ensures.law

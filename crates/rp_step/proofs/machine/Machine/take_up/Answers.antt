@@ -1,14 +1,13 @@
 use Rattle.std.proofs.Common.{◌≡◌, sym, ap, ◌∙◌}
 use Rattle.rp_frame.specs.Top.{below, top}
 use Rattle.rp_meaning.specs.Frame.{Run}
-use Rattle.rp_meaning.specs.State.{State, broke, continued, next}
-use Rattle.rp_meaning.specs.Statements.{leave}
+use Rattle.rp_meaning.specs.State.{State, broke, continued, next, returned}
 use Rattle.rp_ops.specs.Outcome.{ends, gives}
 use Rattle.rp_proxy.specs.declared.world.World.{World}
 use Rattle.rp_step.proofs.Doings.{held_as}
 use Rattle.rp_step.proofs.Moves.{on_ok}
 use Rattle.rp_step.specs.Ends.{end_of}
-use Rattle.rp_step.specs.Law.{Takes, TakesUp, frame_in, rest_of}
+use Rattle.rp_step.specs.Law.{Takes, frame_in, rest_of}
 use Rattle.rp_access.specs.Moment.{state_of}
 use Rattle.rp_step.specs.Rest.{after, begun, did, gave, rest}
 use Rattle.rp_step.proofs.machine.Machine.take_up.Goals as goal
@@ -40,10 +39,10 @@ returns-in-Continued-clause-law c =
 pub returns-in-Broke-clause-law : goal.returns-in-Broke-clause-law
 returns-in-Broke-clause-law c =
     let m = c.args.self.now in
-    let n = c.with_break.new.self in
     let w = c.args.world.now in
-    on_ok c.with_break.result ((u : World) → TakesUp c.args.task (leave broke) m u n u) (Takes c.args.task m w n w)
-    (λ law base. law w base ∙ ap (λ z. rest m.tasks (after c.args.task (begun (frame_in base m) z m.values m.end (state_of w)))) (sym c.in-Broke.is)) c.with_break.ensures.law
+    held_as m c.with_break.new.self c.with_break.new.world c.with_break.result (λ base. after c.args.task (begun (frame_in base m) m.control m.values m.end (state_of w)))
+    (λ base. after c.args.task (did (frame_in base m) m.values (gives broke (state_of w))))
+    (λ base. ap (λ z. after c.args.task (begun (frame_in base m) z m.values m.end (state_of w))) c.in-Broke.is) c.with_break.ensures.law
 
 pub returns-in-NoValue-clause-law : goal.returns-in-NoValue-clause-law
 returns-in-NoValue-clause-law c =
@@ -56,10 +55,10 @@ returns-in-NoValue-clause-law c =
 pub returns-in-CutOff-clause-law : goal.returns-in-CutOff-clause-law
 returns-in-CutOff-clause-law c =
     let m = c.args.self.now in
-    let n = c.with_cut.new.self in
     let w = c.args.world.now in
-    on_ok c.with_cut.result ((base : Run) (s : State) → rest_of base n s ≡ rest m.tasks (after c.args.task (did (frame_in base m) m.values (ends (end_of m.end) s)))) (Takes c.args.task m w n w)
-    (λ law base. law base (state_of w) ∙ ap (λ z. rest m.tasks (after c.args.task (begun (frame_in base m) z m.values m.end (state_of w)))) (sym c.in-CutOff.is)) c.with_cut.ensures.law
+    held_as m c.with_cut.new.self c.with_cut.new.world c.with_cut.result (λ base. after c.args.task (begun (frame_in base m) m.control m.values m.end (state_of w)))
+    (λ base. after c.args.task (did (frame_in base m) m.values (ends (end_of m.end) (state_of w))))
+    (λ base. ap (λ z. after c.args.task (begun (frame_in base m) z m.values m.end (state_of w))) c.in-CutOff.is) c.with_cut.ensures.law
 
 pub returns-in_default-clause-law : goal.returns-in_default-clause-law
 returns-in_default-clause-law c =
@@ -67,3 +66,11 @@ returns-in_default-clause-law c =
     let n = c.put_back.new.self in
     let w = c.args.world.now in
     on_ok c.put_back.result ((u : World) → Takes c.args.task m u n u) (Takes c.args.task m w n w) (λ law. law w) c.put_back.ensures.law
+
+pub returns-in-Returned-clause-law : goal.returns-in-Returned-clause-law
+returns-in-Returned-clause-law c =
+    let m = c.args.self.now in
+    let w = c.args.world.now in
+    held_as m c.with_return.new.self c.with_return.new.world c.with_return.result (λ base. after c.args.task (begun (frame_in base m) m.control m.values m.end (state_of w)))
+    (λ base. after c.args.task (did (frame_in base m) (below m.values) (gives (returned (top m.values)) (state_of w))))
+    (λ base. ap (λ z. after c.args.task (begun (frame_in base m) z m.values m.end (state_of w))) c.in-Returned.is) c.with_return.ensures.law

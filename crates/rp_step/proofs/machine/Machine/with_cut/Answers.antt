@@ -1,23 +1,32 @@
-use Rattle.std.proofs.Common.{drop, sym, ap, ◌∙◌}
-use Rattle.rp_frame.specs.declared.control.Control.TheVariants as control
+use Rattle.std.proofs.Common.{ap}
 use Rattle.rp_ops.specs.Outcome.{ends}
-use Rattle.rp_step.proofs.Doings.{held_any}
-use Rattle.rp_step.proofs.Passing.{did_cut, forgot, ready_forgot}
+use Rattle.rp_step.proofs.Doings.{held_as, held_by}
 use Rattle.rp_step.specs.Ends.{end_of}
 use Rattle.rp_step.specs.Law.{frame_in}
-use Rattle.rp_step.specs.Rest.{after, did}
+use Rattle.rp_access.specs.Moment.{state_of}
+use Rattle.rp_step.specs.Rest.{after, after_flow, did}
 use Rattle.rp_step.proofs.machine.Machine.with_cut.Goals as goal
 
-pub returns-clause-law : goal.returns-clause-law
-returns-clause-law c =
+pub returns-in-Flow-clause-law : goal.returns-in-Flow-clause-law
+returns-in-Flow-clause-law c =
     let m = c.args.self.now in
-    let k = c.flow_with.result in
-    held_any m c.go.new.self c.go.result
-    (λ base s. after c.args.task (did (frame_in base m) m.values (ends (end_of m.end) s)))
-    (λ base s. did (frame_in base m) (drop k m.values) (ends (end_of m.end) s))
-    (λ base s. did_cut (frame_in base m) m.values c.args.task (end_of m.end) s
-    ∙ ap (λ k. did (frame_in base m) (drop k m.values) (ends (end_of m.end) s)) (sym c.flow_with.ensures))
-    (forgot m c.forget.new.self k c.forget.ensures c.go.new.self control.CutOff c.go.ensures.law)
+    let s = state_of c.args.world.now in
+    held_as m c.flow_cut.new.self c.flow_cut.new.world c.flow_cut.result (λ base. after c.args.task (did (frame_in base m) m.values (ends (end_of m.end) s)))
+    (λ base. after_flow c.in-Flow.task (frame_in base m) m.values (ends (end_of m.end) s))
+    (λ base. ap (λ t. after t (did (frame_in base m) m.values (ends (end_of m.end) s))) c.in-Flow.is) c.flow_cut.ensures.law
 
-pub returns-clause-ready : goal.returns-clause-ready
-returns-clause-ready c = λ w h. c.go.ensures.ready w (ready_forgot c.args.self.now c.forget.new.self c.flow_with.result c.forget.ensures w h)
+pub returns-in-Expr-clause-law : goal.returns-in-Expr-clause-law
+returns-in-Expr-clause-law c =
+    let m = c.args.self.now in
+    let w = c.args.world.now in
+    held_by m c.go.new.self w c.go.result (λ base. after c.args.task (did (frame_in base m) m.values (ends (end_of m.end) (state_of w))))
+    (λ base. did (frame_in base m) m.values (ends (end_of m.end) (state_of w)))
+    (λ base. ap (λ t. after t (did (frame_in base m) m.values (ends (end_of m.end) (state_of w)))) c.in-Expr.is) (λ base. c.go.ensures.law base (state_of w))
+
+pub returns-in-Stmt-clause-law : goal.returns-in-Stmt-clause-law
+returns-in-Stmt-clause-law c =
+    let m = c.args.self.now in
+    let w = c.args.world.now in
+    held_by m c.go-in-Stmt.new.self w c.go-in-Stmt.result (λ base. after c.args.task (did (frame_in base m) m.values (ends (end_of m.end) (state_of w))))
+    (λ base. did (frame_in base m) m.values (ends (end_of m.end) (state_of w)))
+    (λ base. ap (λ t. after t (did (frame_in base m) m.values (ends (end_of m.end) (state_of w)))) c.in-Stmt.is) (λ base. c.go-in-Stmt.ensures.law base (state_of w))

@@ -1,0 +1,2 @@
+pub mod CodeSteps
+pub mod Codes

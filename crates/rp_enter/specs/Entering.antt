@@ -1,0 +1,46 @@
+-- What is done before the code of a function runs, as the code has a function for it; it is a part of a call of rp_meaning.
+use Rattle.std.specs.Prelude.{ℕ, ◌-◌, ◌++◌, [], All, Bool, true, false, IfSome, List, Option, Some, length}
+use Rattle.rp_base.specs.declared.value.Oid.{Oid}
+use Rattle.rp_base.specs.declared.value.Side.{Side}
+use Rattle.rp_base.specs.declared.value.Value.{Value}
+use Rattle.rp_meaning.specs.Binding.{Arguments, bind}
+use Rattle.rp_meaning.specs.Expressions.{empty_slots}
+use Rattle.rp_meaning.specs.Running.{taken_all}
+use Rattle.rp_meaning.specs.State.{State, Outcome, heap_of, makes, plainly}
+use Rattle.rp_ops.specs.Operand.{lent}
+use Rattle.rp_ops.specs.Outcome.{on_value}
+use Rattle.rp_store.specs.Heap.{Owned}
+use Rattle.rp_store.specs.Kept.{IsFit}
+use Rattle.rp_store.specs.Object as object
+use Rattle.rp_tree.specs.Expressions as tree
+
+-- the slots of the parameters, and an empty one for each other of so many local names
+abbrev pub filled_to : ℕ → List (Option Value) → List (Option Value)
+filled_to locals bound = bound ++ empty_slots (locals - length bound)
+
+-- a scope of a code block of a side, with these slots first
+abbrev pub scope_made : Side → ℕ → Oid → ℕ → List (Option Value) → State → Outcome Oid
+scope_made side number within locals bound s = makes side (object.scope (Some number) (Some within) (filled_to locals bound)) s
+
+-- a new instance of a class, with no attribute
+abbrev pub instance_made : Side → Oid → State → Outcome Oid
+instance_made owner class s = makes owner (object.instance class []) s
+
+-- the arguments are bound, and the scope is made
+abbrev pub entered_with : Side → ℕ → Oid → ℕ → tree.Params → List Value → Arguments → State → Outcome Oid
+entered_with side number within locals ps defaults a s =
+    on_value (plainly (bind side s.names ps defaults a) s) (λ bound s. scope_made side number within locals bound s)
+
+-- the same, once the arguments are taken for the side
+abbrev pub entered : Side → ℕ → Oid → ℕ → tree.Params → List Value → Arguments → State → Outcome Oid
+entered side number within locals ps defaults a s =
+    entered_with side number within locals ps defaults (taken_all (heap_of s) side a) s
+
+-- slots as a scope of a side may hold them
+abbrev pub AreSlotsFit : List Owned → Side → List (Option Value) → Type 0
+AreSlotsFit heap side slots = All (λ slot. IfSome slot (IsFit heap side)) slots
+
+-- what was got by a call, through a proxy or not
+abbrev pub lent_by : Bool → Value → Value
+lent_by true v = lent v
+lent_by false v = v

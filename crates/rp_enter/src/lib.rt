@@ -1,0 +1,6 @@
+//! What is done before the code of a function runs.
+#![tactic(auto)]
+
+mod entering;
+
+pub use entering::{Entry, enter, enter_bound, given, new_instance};

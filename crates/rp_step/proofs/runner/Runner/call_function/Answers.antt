@@ -1,0 +1,46 @@
+use Rattle.std.proofs.Common.{◌≡◌, ◌-◌, ap, sym, codes, ◌∙◌, arith}
+use Rattle.std.specs.Prelude.{reverse, take}
+use Rattle.std.specs.Str.{chars}
+use Rattle.rp_base.specs.declared.kind.Kind.TheVariants.{RecursionError, TypeError}
+use Rattle.rp_step.proofs.Doings.{always}
+use Rattle.rp_step.proofs.Entries.{asked, calls_refused, code_refused, one_less, refused_ok}
+use Rattle.rp_step.specs.Callables.{before}
+use Rattle.rp_step.specs.Codes.{code_at}
+use Rattle.rp_step.proofs.runner.Runner.call_function.Goals as goal
+
+pub returns-then-self-eq0-clause-law : goal.returns-then-self-eq0-clause-law
+unfolding chars
+returns-then-self-eq0-clause-law c =
+    let r = c.args.self.now in
+    let m = r.machine in
+    let w = c.args.world.now in
+    let e = c.args.callable.entry in
+    let vs = before c.args.callable.receiver (reverse (take c.args.count m.values)) in
+    refused_ok m w r.callers.items c.args.count c.refuse.new.self c.refuse.result RecursionError (codes "calls")
+    (asked m w r.callers.items e c.args.lent c.args.made c.args.count vs)
+    (λ base. calls_refused m w r.callers.items e c.args.lent c.args.made c.args.count vs c.requires.function base c.if-self-eq0.true) c.refuse.ensures.law
+
+pub returns-then-self-eq0-clause-ready : goal.returns-then-self-eq0-clause-ready
+returns-then-self-eq0-clause-ready c = always c.refuse.result _ (c.refuse.ensures.ready c.args.world.now c.requires.ready)
+
+pub returns-in-None-clause-law : goal.returns-in-None-clause-law
+unfolding chars
+returns-in-None-clause-law c =
+    let r = c.args.self.now in
+    let m = r.machine in
+    let w = c.args.world.now in
+    let e = c.args.callable.entry in
+    let vs = before c.args.callable.receiver (reverse (take c.args.count m.values)) in
+    refused_ok m w r.callers.items c.args.count c.refuse-in-None.new.self c.refuse-in-None.result TypeError (codes "call")
+    (asked m w r.callers.items e c.args.lent c.args.made c.args.count vs)
+    (λ base. code_refused m w r.callers.items e c.args.lent c.args.made c.args.count vs c.requires.function (m.frame.calls - 1) (one_less m.frame.calls (omega arith))
+    (c.requires.ready.machine.indexed e.side) base (ap (λ p. code_at p e.block) (sym c.program.ensures) ∙ sym c.code.ensures ∙ c.in-None.is)) c.refuse-in-None.ensures.law
+
+pub returns-in-None-clause-ready : goal.returns-in-None-clause-ready
+returns-in-None-clause-ready c = always c.refuse-in-None.result _ (c.refuse-in-None.ensures.ready c.args.world.now c.requires.ready)
+
+pub begin-requires-clause-code : goal.begin-requires-clause-code
+begin-requires-clause-code c = ap (λ p. code_at p c.args.callable.entry.block) (sym c.program.ensures) ∙ sym c.code.ensures ∙ c.in-Some.is
+
+pub begin-requires-clause-calls : goal.begin-requires-clause-calls
+begin-requires-clause-calls c = omega arith

@@ -1,0 +1,83 @@
+-- What a run of code still has to do, where code waits for the ends of calls that it made.
+use Rattle.std.specs.Prelude.{◌≡◌, ℕ, suc, All, Bool, IfSome, List, [], ◌∷◌, Option, Some, drop, reverse, take}
+use Rattle.rp_base.specs.declared.value.Oid.{Oid}
+use Rattle.rp_base.specs.declared.value.Side.{Side}
+use Rattle.rp_base.specs.declared.value.Value.{Value}
+use Rattle.rp_base.specs.declared.value.Value.TheVariants as value
+use Rattle.rp_meaning.specs.Binding.{only}
+use Rattle.rp_meaning.specs.Calls.{made_instance}
+use Rattle.rp_meaning.specs.Frame.{Run}
+use Rattle.rp_meaning.specs.Running.{calls_within, value_of}
+use Rattle.rp_meaning.specs.State.{State, Outcome}
+use Rattle.rp_ops.specs.Outcome.{on_value}
+use Rattle.rp_proxy.specs.declared.world.World.{World}
+use Rattle.rp_store.specs.Kept.{IsSound}
+use Rattle.rp_step.specs.Callables.{given_by}
+use Rattle.rp_step.specs.DefinitionSteps.{called_by, got_by}
+use Rattle.rp_step.specs.Law.{frame_in, rest_of}
+use Rattle.rp_step.specs.Moment.{frame_of, run_of}
+use Rattle.rp_step.specs.Ready.{IsReady}
+use Rattle.rp_step.specs.Rest.{Held, begun, gave, did, rest}
+use Rattle.rp_frame.specs.declared.control.Control.TheVariants as control
+use Rattle.rp_step.specs.declared.callers.Caller.{Caller}
+use Rattle.rp_step.specs.declared.runner.Runner.{Runner}
+use Rattle.rp_access.specs.Moment.{state_of}
+
+-- what a caller gets of the end of the code that it called
+abbrev pub given : Run → Caller → Outcome Value → Held
+given base c o = gave (frame_of (run_of base c.units.now) c.frame) c.values (on_value o (λ v s. given_by c.lent c.made v (frame_of (run_of base c.units.now) c.frame) s))
+
+-- the same of a value, where it made no instance
+abbrev pub got : Run → Caller → Value → State → Held
+got base c v s = gave (frame_of (run_of base c.units.now) c.frame) c.values (got_by c.lent v (frame_of (run_of base c.units.now) c.frame) s)
+
+abbrev pub resumed : Run → Caller → Held → Held
+resumed base c (gave f vs o) = given base c o
+resumed base c (did f vs o) = gave (frame_of (run_of base c.units.now) c.frame) c.values
+    (on_value o (λ flow s. given_by c.lent c.made (value_of flow) (frame_of (run_of base c.units.now) c.frame) s))
+
+-- what the callers do once the code that was called last has come to an end; the first of them called first
+abbrev pub unwound : Run → List Caller → Held → Held
+unwound base [] h = h
+unwound base (c ∷ cs) h = rest c.tasks (resumed base c (unwound base cs h))
+
+-- the end that all comes to, and the state then
+abbrev pub whole_of : Run → Runner → State → Held
+whole_of base r s = unwound base r.callers.items (rest_of base r.machine s)
+
+-- what a step leaves to be done is what was to be done
+abbrev pub GoesOn : Runner → World → Runner → World → Type 0
+GoesOn r w q v = (base : Run) → whole_of base q (state_of v) ≡ whole_of base r (state_of w)
+
+-- when all code may run in a world
+pub record IsWaiting (w : World) (c : Caller) : Type 0 where
+  pub ready : IsReady c.units.now c.frame c.values w
+  pub made : IfSome c.made (λ at. IsSound w.store.heap (value.Ref at))
+
+pub record IsRunnable (r : Runner) (w : World) : Type 0 where
+  pub machine : IsReady r.machine.units.now r.machine.frame r.machine.values w
+  pub callers : All (IsWaiting w) r.callers.items
+
+-- what a call of what is at hand leaves to be done; what the control was does not matter
+abbrev pub Makes : ℕ → Runner → World → Runner → World → Type 0
+Makes n r w q v = (base : Run) → whole_of base q (state_of v)
+    ≡ unwound base r.callers.items (rest r.machine.tasks (begun (frame_in base r.machine) (control.Call n) r.machine.values r.machine.end (state_of w)))
+
+-- what a call of the function at a place leaves to be done, where so many arguments and what is called are at hand
+abbrev pub Enters : ℕ → Oid → List Value → Bool → Option Oid → Runner → World → Runner → World → Type 0
+Enters n at args lent made r w q v = (base : Run) → whole_of base q (state_of v)
+    ≡ unwound base r.callers.items (rest r.machine.tasks (gave (frame_in base r.machine) (drop (suc n) r.machine.values)
+    (on_value (calls_within (run_of base r.machine.units.now) r.machine.frame.calls at (only args) (state_of w)) (λ x s. given_by lent made x (frame_in base r.machine) s))))
+
+-- what a call of the object at a place leaves to be done, under what is at hand
+abbrev pub CallsAt : ℕ → Oid → Bool → Runner → World → Runner → World → Type 0
+CallsAt n at lent r w q v = (base : Run) → whole_of base q (state_of v)
+    ≡ unwound base r.callers.items (rest r.machine.tasks (gave (frame_in base r.machine) (drop (suc n) r.machine.values)
+    (called_by (Some (at, lent)) (only (reverse (take n r.machine.values))) (frame_in base r.machine) (state_of w))))
+
+-- the same of a class of an owner, with this function for `__init__`
+abbrev pub Instances : ℕ → Side → Oid → Option Oid → Bool → Runner → World → Runner → World → Type 0
+Instances n owner class init lent r w q v = (base : Run) → whole_of base q (state_of v)
+    ≡ unwound base r.callers.items (rest r.machine.tasks (gave (frame_in base r.machine) (drop (suc n) r.machine.values)
+    (on_value (made_instance owner class init (only (reverse (take n r.machine.values))) (frame_in base r.machine) (state_of w))
+    (λ x s. got_by lent x (frame_in base r.machine) s))))

@@ -1,0 +1,281 @@
+//! Runs of code: a machine, and the code that waits for the ends of calls that it made.
+#![tactic(auto, using(rp_store::proofs::Shapes::goes_on))]
+
+ghost use Rattle.std.specs.Prelude.{◌≡◌, ◌∷◌, ◌++◌, [], IfOk, MatchOption, Ok, OnOk, Some, codes};
+ghost use Rattle.rp_access.specs.Comes.{Comes};
+ghost use Rattle.rp_access.specs.Moment.{state_of};
+ghost use Rattle.rp_meaning.specs.Frame.{Run};
+ghost use Rattle.rp_meaning.specs.State.{State};
+ghost use Rattle.rp_ops.specs.Outcome.{ends, gives, raises};
+ghost use Rattle.rp_proxy.specs.declared.world.World.{World as TheWorld};
+ghost use Rattle.rp_store.specs.Kept.{IsSound};
+ghost use Rattle.rp_store.specs.Shape.{KeepsShape};
+ghost use Rattle.rp_step.specs.Does as does;
+ghost use Rattle.rp_step.specs.Ends.{end_of};
+ghost use Rattle.rp_step.specs.Law.{frame_in, rest_of};
+ghost use Rattle.rp_step.specs.Left.{flows};
+ghost use Rattle.rp_step.specs.Moment.{frame_of, run_of};
+ghost use Rattle.rp_step.specs.Rest.{gave, rest};
+ghost use Rattle.rp_step.specs.Callables.{is_nil};
+ghost use Rattle.rp_base.specs.declared.kind.Kind.TheVariants.{TypeError};
+ghost use Rattle.rp_step.specs.Running.{GoesOn, IsRunnable, IsWaiting, given, got, resumed, unwound, whole_of};
+
+use crate::callers::Caller;
+use crate::halt::Halt;
+use crate::machine::Machine;
+use crate::run::Progress;
+use crate::unwinding::Left;
+use rp_base::{Kind, Memory, Oid, OpEnd, Rock, Value};
+use rp_enter::given;
+use rp_frame::Control;
+use rp_ops::raised;
+use rp_proxy::World;
+use rp_tree::Stmt;
+
+/// A run of code: the machine that runs it, and the code that waits for the ends of calls that it made (Python Language
+/// Reference, Execution model).
+#[derive(Drop)]
+pub struct Runner<'u> {
+    pub machine: Machine<'u>,
+    /// The last of them made the last call.
+    pub callers: Vec<Caller<'u>>,
+}
+
+/// More steps than any run takes.
+const STEPS: u64 = u64::MAX;
+
+impl<'u> Runner<'u> {
+    /// A step of the machine, or the begin or the end of a call. What it leaves to be done is what was to be done.
+    ///
+    /// # Errors
+    /// As `Machine::step` and `enter`.
+    #[inline(always)]
+    pub fn step(&mut self, world: &mut World) -> Result<Progress, Halt>
+        requires ready { IsRunnable self.old world.old }
+        ensures law { OnOk result (GoesOn self.old world.old self.new world.new) }
+        ensures ready { OnOk result (IsRunnable self.new world.new) }
+        ensures shape { KeepsShape world.old.store.heap world.new.store.heap }
+        ensures ended { result ≡ Ok Progress.Ended → self.new.machine.tasks ≡ [] }
+        ensures none { result ≡ Ok Progress.Ended → self.new.callers.items ≡ [] }
+    {
+        match self.machine.step(world)? {
+            Progress::More => Ok(Progress::More),
+            Progress::Call => self.enter(world),
+            Progress::Ended => self.come_back(world),
+        }
+    }
+
+    /// The machine has come to the end of its code: the code that called it goes on, where there is any.
+    ///
+    /// # Errors
+    /// `Memory` where a growth was refused.
+    #[inline(always)]
+    fn come_back(&mut self, world: &World) -> Result<Progress, Halt>
+        requires ready { IsRunnable self.old world.now }
+        requires tasks { self.old.machine.tasks ≡ [] }
+        ensures law { OnOk result (GoesOn self.old world.now self.new world.now) }
+        ensures ready { OnOk result (IsRunnable self.new world.now) }
+        ensures ended { result ≡ Ok Progress.Ended → self.new.machine.tasks ≡ [] }
+        ensures none { result ≡ Ok Progress.Ended → self.new.callers.items ≡ [] }
+    {
+        match self.next_caller() {
+            None => Ok(Progress::Ended),
+            Some(caller) => {
+                self.resume(world, caller)?;
+                Ok(Progress::More)
+            }
+        }
+    }
+
+    /// Takes the last code that waits off, None where none waits.
+    fn next_caller(&mut self) -> Option<Caller<'u>>
+        ensures last { MatchOption result (self.old.callers.items ≡ [])
+            (λ caller. self.old.callers.items ≡ self.new.callers.items ++ caller ∷ []) }
+        ensures same { self.old.callers.items ≡ [] → self.new.callers.items ≡ [] }
+        ensures machine { self.new.machine ≡ self.old.machine }
+    {
+        self.callers.pop()
+    }
+
+    /// Code that waited gets what the end of the code that it called gives.
+    fn resume(&mut self, world: &World, caller: Caller<'u>) -> Result<(), Halt>
+        requires ready { IsRunnable self.old world.now }
+        requires caller { IsWaiting world.now caller }
+        requires tasks { self.old.machine.tasks ≡ [] }
+        ensures law { OnOk result ((base : Run) → whole_of base self.new (state_of world.now)
+            ≡ unwound base self.old.callers.items (rest caller.entry.tasks
+            (resumed base caller.entry (rest_of base self.old.machine (state_of world.now))))) }
+        ensures ready { OnOk result (IsRunnable self.new world.now) }
+    {
+        match self.machine.control {
+            Control::Returned => {
+                let value = self.machine.at_hand();
+                self.give(world, caller, value)
+            }
+            Control::Value => {
+                let value = self.machine.at_hand();
+                self.give(world, caller, value)
+            }
+            Control::Next => self.give(world, caller, Value::Rock(Rock::Nil)),
+            Control::Broke => self.give(world, caller, Value::Rock(Rock::Nil)),
+            Control::Continued => self.give(world, caller, Value::Rock(Rock::Nil)),
+            Control::NoValue => self.cut(caller),
+            Control::CutOff => self.cut(caller),
+            _ => self.wait(caller),
+        }
+    }
+
+    /// Code that waited gets a value, or the instance that it made.
+    fn give(&mut self, world: &World, caller: Caller<'u>, value: Value) -> Result<(), Halt>
+        requires ready { IsRunnable self.old world.now }
+        requires caller { IsWaiting world.now caller }
+        requires value { IsSound world.now.store.heap value }
+        ensures law { OnOk result ((base : Run) → whole_of base self.new (state_of world.now)
+            ≡ unwound base self.old.callers.items (rest caller.entry.tasks
+            (given base caller.entry (gives value (state_of world.now))))) }
+        ensures ready { OnOk result (IsRunnable self.new world.now) }
+    {
+        match caller.made {
+            None => self.give_value(world, caller, value),
+            Some(at) => self.give_made(world, caller, at, value),
+        }
+    }
+
+    /// Code that waited for `__init__` gets the instance that it made, where that gave None.
+    fn give_made(
+        &mut self,
+        world: &World,
+        caller: Caller<'u>,
+        at: Oid,
+        value: Value,
+    ) -> Result<(), Halt>
+        requires ready { IsRunnable self.old world.now }
+        requires caller { IsWaiting world.now caller }
+        requires made { caller.made ≡ Some at }
+        ensures law { OnOk result ((base : Run) → whole_of base self.new (state_of world.now)
+            ≡ unwound base self.old.callers.items (rest caller.entry.tasks
+            (given base caller.entry (gives value (state_of world.now))))) }
+        ensures ready { OnOk result (IsRunnable self.new world.now) }
+    {
+        if is_none(&value) {
+            return self.give_value(world, caller, Value::Ref(at));
+        }
+        self.refuse_init(caller)
+    }
+
+    /// Code that waited gets a value.
+    fn give_value(&mut self, world: &World, caller: Caller<'u>, value: Value) -> Result<(), Halt>
+        requires ready { IsRunnable self.old world.now }
+        requires caller { IsWaiting world.now caller }
+        requires value { IsSound world.now.store.heap value }
+        ensures law { OnOk result ((base : Run) → whole_of base self.new (state_of world.now)
+            ≡ unwound base self.old.callers.items (rest caller.entry.tasks
+            (got base caller.entry value (state_of world.now)))) }
+        ensures ready { OnOk result (IsRunnable self.new world.now) }
+    {
+        let value = given(world, caller.frame.side, caller.lent, value);
+        self.machine.take_over(caller);
+        self.machine.back(value)
+    }
+
+    /// Code that waited for `__init__` gets no value, since that gave one.
+    fn refuse_init(&mut self, caller: Caller<'u>) -> Result<(), Halt>
+        ensures law { OnOk result ((base : Run) (s : State) → whole_of base self.new s
+            ≡ unwound base self.old.callers.items (rest caller.entry.tasks
+            (gave (frame_of (run_of base caller.entry.units.now) caller.entry.frame) caller.entry.values
+            (raises TypeError (codes "init") s)))) }
+        ensures ready { (w : TheWorld) → IsRunnable self.old w → IsWaiting w caller.entry → IsRunnable self.new w }
+    {
+        self.machine.take_over(caller);
+        let end = raised(self.machine.alloc, Kind::TypeError, "init");
+        self.machine.no_value(end)
+    }
+
+    /// Code that waited gets no value.
+    fn cut(&mut self, caller: Caller<'u>) -> Result<(), Halt>
+        ensures law { OnOk result ((base : Run) (s : State) → whole_of base self.new s
+            ≡ unwound base self.old.callers.items (rest caller.entry.tasks
+            (given base caller.entry (ends (end_of self.old.machine.end) s)))) }
+        ensures ready { (w : TheWorld) → IsRunnable self.old w → IsWaiting w caller.entry → IsRunnable self.new w }
+    {
+        self.machine.take_over(caller);
+        self.machine.go(Control::NoValue)
+    }
+
+    /// Code waits on.
+    #[inline(never)]
+    fn wait(&mut self, caller: Caller<'u>) -> Result<(), Halt>
+        ensures law { OnOk result ((base : Run) (s : State) → whole_of base self.new s
+            ≡ unwound base self.old.callers.items (rest caller.entry.tasks
+            (resumed base caller.entry (rest_of base self.old.machine s)))) }
+        ensures ready { (w : TheWorld) → IsRunnable self.old w → IsWaiting w caller.entry
+            → OnOk result (IsRunnable self.new w) }
+    {
+        self.keep(caller)?;
+        Ok(())
+    }
+
+    /// Puts code that waits upon the others.
+    pub(crate) fn keep(&mut self, caller: Caller<'u>) -> Result<(), Memory>
+        ensures kept { OnOk result (self.new.callers.items ≡ self.old.callers.items ++ caller.entry ∷ []) }
+        ensures machine { self.new.machine ≡ self.old.machine }
+    {
+        self.callers.push(caller)?;
+        Ok(())
+    }
+
+    /// Steps until no task and no code waits.
+    ///
+    /// # Errors
+    /// As `step`, and `TooLong` where it makes more steps than are counted.
+    fn run(&mut self, world: &mut World) -> Result<(), Halt>
+        requires ready { IsRunnable self.old world.old }
+        ensures law { OnOk result (GoesOn self.old world.old self.new world.new) }
+        ensures ready { OnOk result (IsRunnable self.new world.new) }
+        ensures shape { KeepsShape world.old.store.heap world.new.store.heap }
+        ensures ended { OnOk result (self.new.machine.tasks ≡ []) }
+        ensures none { OnOk result (self.new.callers.items ≡ []) }
+    {
+        for _ in 0..STEPS {
+            match self.step(world)? {
+                Progress::Ended => return Ok(()),
+                _ => (),
+            }
+        }
+        Err(Halt::TooLong)
+    }
+
+    /// Runs a block to its end. It comes to what the block means: the same end, and the same world afterwards, with
+    /// the steps taken and the cells used. How it ended: how it was left, or `Raised` where an exception was raised
+    /// that nothing handles, `StopSteps` or `StopCells` where no step or no cell was left.
+    ///
+    /// # Errors
+    /// As `run`.
+    pub fn run_block(
+        &mut self,
+        world: &mut World,
+        block: &'u [Stmt],
+    ) -> Result<Result<Left, OpEnd>, Halt>
+        requires ready { IsRunnable self.old world.old }
+        requires tasks { self.old.machine.tasks ≡ [] }
+        requires callers { self.old.callers.items ≡ [] }
+        ensures law { IfOk result (λ end. (base : Run) → Comes (flows end) (state_of world.new)
+            (does.block block.now (frame_in base self.old.machine) (state_of world.old))) }
+        ensures ready { OnOk result (IsRunnable self.new world.new) }
+        ensures shape { KeepsShape world.old.store.heap world.new.store.heap }
+    {
+        self.machine.control = Control::Block(block);
+        self.run(world)?;
+        Ok(self.machine.left())
+    }
+}
+
+/// Whether it is None.
+fn is_none(value: &Value) -> bool
+    ensures { result ≡ is_nil value.now }
+{
+    match value {
+        Value::Rock(Rock::Nil) => true,
+        _ => false,
+    }
+}
