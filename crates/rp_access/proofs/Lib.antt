@@ -1,7 +1,10 @@
+mod Additions
 mod Asked
 mod Changed
+mod ClassesMade
 pub mod Coupled
 mod Decided
+mod DeclaredClasses
 mod Excepted
 mod Exposed
 mod FunctionLaws
@@ -14,11 +17,13 @@ mod Letters
 pub mod Lists
 mod Naming
 pub mod Namings
+mod NamedCalls
 mod NativeCalls
 mod ObjectCalls
 mod Operands
 mod Printing
 mod Sliced
+pub mod Spreadings
 mod Unpacked
 mod Walked
 pub mod Worlds

@@ -13,7 +13,7 @@ use Rattle.rp_base.specs.declared.value.Side.{Side}
 use Rattle.rp_base.specs.declared.value.Value.{Value}
 use Rattle.rp_base.specs.declared.value.Value.TheVariants as value
 use Rattle.rp_base.specs.declared.word.TheConstants.{CALL}
-use Rattle.rp_meaning.specs.Binding.{only}
+use Rattle.rp_meaning.specs.Binding.{Arguments, only}
 use Rattle.rp_meaning.specs.BuiltIn as built_in
 use Rattle.rp_meaning.specs.BuiltIn.{not_called}
 use Rattle.rp_meaning.specs.Calls as calls
@@ -41,7 +41,7 @@ use Rattle.rp_access.proofs.Known.{ComesIfAny-same}
 use Rattle.rp_access.proofs.NativeCalls.{function_is, kind_is, length_called, needs_then}
 
 module _ (code : Frame) where
-  abbrev frame : Frame
+  abbrev pub frame : Frame
   frame = decided_frame code
 
   -- a built-in method
@@ -52,44 +52,44 @@ module _ (code : Frame) where
       (fun_ext (λ s. needs_then code id vs s (plainly (method owner receiver id vs))))
 
   -- what is got through a value
-  abbrev got : Value → Value → State → Outcome Value
+  abbrev pub got : Value → Value → State → Outcome Value
   got f r s = gives (taken (heap_of s) code.side (through f r)) s
 
-  abbrev found : Oid → List Value → State → Outcome Value
-  found o vs s = calls.found_call o (slice_get (heap_of s) o.0) (only vs) frame s
+  abbrev pub found : Oid → Arguments → State → Outcome Value
+  found o a s = calls.found_call o (slice_get (heap_of s) o.0) a frame s
 
-  reference_is : (f : Value) (o : Oid) (vs : List Value) (s : State)
-      → calls.reference_call f o (only vs) frame s ≡ on_value (asking CALL f s) (λ _ s. on_value (found o vs s) (λ r s. got f r s))
-  reference_is f o vs s = asked_then code CALL f s (λ s. on_value (found o vs s) (λ r s. got f r s))
+  reference_is : (f : Value) (o : Oid) (a : Arguments) (s : State)
+      → calls.reference_call f o a frame s ≡ on_value (asking CALL f s) (λ _ s. on_value (found o a s) (λ r s. got f r s))
+  reference_is f o a s = asked_then code CALL f s (λ s. on_value (found o a s) (λ r s. got f r s))
 
-  call_is : (f : Value) (o : Oid) (vs : List Value) (s : State) → IsAt f o
-      → calls.call f (only vs) frame s ≡ on_value (asking CALL f s) (λ _ s. on_value (found o vs s) (λ r s. got f r s))
-  call_is (value.Rock r) o vs s named = absurd named
-  call_is (value.Ref other) o vs s named =
-      reference_is (value.Ref other) other vs s
-      ∙ ap (λ (o : Oid). on_value (asking CALL (value.Ref other) s) (λ _ s. on_value (found o vs s) (λ r s. got (value.Ref other) r s))) named
-  call_is (value.Prox other) o vs s named =
-      reference_is (value.Prox other) other vs s
-      ∙ ap (λ (o : Oid). on_value (asking CALL (value.Prox other) s) (λ _ s. on_value (found o vs s) (λ r s. got (value.Prox other) r s))) named
+  pub call_is : (f : Value) (o : Oid) (a : Arguments) (s : State) → IsAt f o
+      → calls.call f a frame s ≡ on_value (asking CALL f s) (λ _ s. on_value (found o a s) (λ r s. got f r s))
+  call_is (value.Rock r) o a s named = absurd named
+  call_is (value.Ref other) o a s named =
+      reference_is (value.Ref other) other a s
+      ∙ ap (λ (o : Oid). on_value (asking CALL (value.Ref other) s) (λ _ s. on_value (found o a s) (λ r s. got (value.Ref other) r s))) named
+  call_is (value.Prox other) o a s named =
+      reference_is (value.Prox other) other a s
+      ∙ ap (λ (o : Oid). on_value (asking CALL (value.Prox other) s) (λ _ s. on_value (found o a s) (λ r s. got (value.Prox other) r s))) named
 
   -- an object that may not be called
-  uncalled : (o : Oid) (x : Owned) (vs : List Value) (s : State) → IsUncalled (heap_of s) o x.content → calls.object_call o x.owner x.content (only vs) frame s ≡ not_called s
-  uncalled o x vs s h = by x.content h where
-    by : (c : Content) → IsUncalled (heap_of s) o c → calls.object_call o x.owner c (only vs) frame s ≡ not_called s
+  uncalled : (o : Oid) (x : Owned) (a : Arguments) (s : State) → IsUncalled (heap_of s) o x.content → calls.object_call o x.owner x.content a frame s ≡ not_called s
+  uncalled o x a s h = by x.content h where
+    by : (c : Content) → IsUncalled (heap_of s) o c → calls.object_call o x.owner c a frame s ≡ not_called s
     by (object.function name unit block within defaults) h = absurd h
     by (object.method receiver called) h = absurd h
     by (object.class name declared methods) h = absurd h
     by (object.instance of fields) h = rw h refl
     by c h = refl
 
-  found_uncalled : (o : Oid) (vs : List Value) (s : State) → Names (heap_of s) (IsUncalled (heap_of s) o) o → found o vs s ≡ not_called s
-  found_uncalled o vs s h = by (slice_get (heap_of s) o.0) h where
-    by : (x : Option Owned) → IsSomeAnd (option_map (λ o. o.content) x) (IsUncalled (heap_of s) o) → calls.found_call o x (only vs) frame s ≡ not_called s
+  pub found_uncalled : (o : Oid) (a : Arguments) (s : State) → Names (heap_of s) (IsUncalled (heap_of s) o) o → found o a s ≡ not_called s
+  found_uncalled o a s h = by (slice_get (heap_of s) o.0) h where
+    by : (x : Option Owned) → IsSomeAnd (option_map (λ o. o.content) x) (IsUncalled (heap_of s) o) → calls.found_call o x a frame s ≡ not_called s
     by None h = absurd h
-    by (Some x) h = uncalled o x vs s h
+    by (Some x) h = uncalled o x a s h
 
   found_method : (o : Oid) (owner : Side) (receiver : Value) (id : NativeId) (vs : List Value) (s : State)
-      → slice_get (heap_of s) o.0 ≡ Some (record { owner = owner; content = object.method receiver (callee.Native id) }) → found o vs s ≡ method_by owner receiver id vs s
+      → slice_get (heap_of s) o.0 ≡ Some (record { owner = owner; content = object.method receiver (callee.Native id) }) → found o (only vs) s ≡ method_by owner receiver id vs s
   found_method o owner receiver id vs s is =
       ap (λ (x : Option Owned). calls.found_call o x (only vs) frame s) is ∙ method_is owner receiver id vs s
 
@@ -97,21 +97,21 @@ module _ (side : Side) (f : Value) (o : Oid) (vs : List Value) (w t u : World) (
   -- it may not be decided so
   pub asked_ends : (e : OpEnd) → IsEnd e (state_of u) (asking CALL f (state_of w)) → CallComes side f vs (Err e) w u
   asked_ends e is code same =
-      IsEnd-same e (state_of u) _ _ (call_is code f o vs (state_of w) named)
-      (IsEnd-then e (state_of u) (asking CALL f (state_of w)) (λ _ s. on_value (found code o vs s) (λ r s. got code f r s)) is)
+      IsEnd-same e (state_of u) _ _ (call_is code f o (only vs) (state_of w) named)
+      (IsEnd-then e (state_of u) (asking CALL f (state_of w)) (λ _ s. on_value (found code o (only vs) s) (λ r s. got code f r s)) is)
 
   module _ (asked : asking CALL f (state_of w) ≡ gives (tt {0}) (state_of t)) where
-    behind : (code : Frame) (p : Outcome Value) → found code o vs (state_of t) ≡ p
+    behind : (code : Frame) (p : Outcome Value) → found code o (only vs) (state_of t) ≡ p
         → calls.call f (only vs) (frame code) (state_of w) ≡ on_value p (λ r s. got code f r s)
     behind code p is =
-        call_is code f o vs (state_of w) named
-        ∙ gives-then (tt {0}) (state_of t) (asking CALL f (state_of w)) (λ _ s. on_value (found code o vs s) (λ r s. got code f r s)) asked
+        call_is code f o (only vs) (state_of w) named
+        ∙ gives-then (tt {0}) (state_of t) (asking CALL f (state_of w)) (λ _ s. on_value (found code o (only vs) s) (λ r s. got code f r s)) asked
         ∙ ap (λ p. on_value p (λ r s. got code f r s)) is
 
     -- it may not be called
     pub nothing_comes : (e : OpEnd) → Names t.store.heap (IsUncalled t.store.heap o) o → IsEnd {A = Value} e (state_of t) (not_called (state_of t)) → CallComes side f vs (Err e) w t
     nothing_comes e none is code same =
-        IsEnd-same e (state_of t) _ _ (behind code (not_called (state_of t)) (found_uncalled code o vs (state_of t) none))
+        IsEnd-same e (state_of t) _ _ (behind code (not_called (state_of t)) (found_uncalled code o (only vs) (state_of t) none))
         (IsEnd-then e (state_of t) (not_called (state_of t)) (λ r s. got code f r s) is)
 
     -- a built-in method

@@ -1,7 +1,9 @@
+pub mod Adding
 pub mod CallSteps
 pub mod Callees
 pub mod Calling
 pub mod Changes
+pub mod ClassObjects
 pub mod Comes
 pub mod Comparisons
 pub mod Entries
@@ -12,4 +14,5 @@ pub mod Reading
 pub mod Rocks
 pub mod Slices
 pub mod Spots
+pub mod Spreading
 pub mod Unpacking

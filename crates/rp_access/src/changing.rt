@@ -177,9 +177,12 @@ fn drop_attribute(alloc: Global, world: &mut World, o: &Value, name: Name) -> Re
     rp_attributes::del_attribute(alloc, &mut world.store, &world.names, o, name)
 }
 
-/// The plain item is stored.
+/// Stores a plain item. Nothing is decided.
+///
+/// # Errors
+/// As `rp_items::set_item`; `Memory` where a growth was refused.
 #[inline(always)]
-fn put_item(
+pub fn put_item(
     alloc: Global,
     world: &mut World,
     o: &Value,

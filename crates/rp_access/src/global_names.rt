@@ -78,7 +78,8 @@ fn place_in(names: &Names, expose: &[Name], word: &str) -> Option<usize>
         .position(|name| is_word_of(names, *name, word))
 }
 
-fn is_word_of(names: &Names, name: Name, word: &str) -> bool
+/// Whether that is the word of a name.
+pub(crate) fn is_word_of(names: &Names, name: Name, word: &str) -> bool
     ensures { result ≡ same_text (chars word.now) (word_of names.now name) }
 {
     word == word_of(names, name)

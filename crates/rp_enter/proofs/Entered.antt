@@ -14,7 +14,7 @@ use Rattle.rp_calls.specs.Binding as calls
 use Rattle.rp_calls.specs.View.{slots_of}
 use Rattle.std.specs.declared.alloc.Global.{Global}
 use Rattle.std.specs.declared.vec.Vec.{Vec}
-use Rattle.rp_meaning.specs.Binding.{bind, only}
+use Rattle.rp_meaning.specs.Binding.{Arguments, bind, only}
 use Rattle.rp_meaning.specs.State.{State, Outcome, heap_of, lifted, makes, plainly}
 use Rattle.rp_meaning.proofs.BindingLaws.{bind_seen}
 use Rattle.rp_ops.specs.Outcome as plain
@@ -36,7 +36,7 @@ use Rattle.rp_tree.specs.Expressions.{Params as PureParams}
 use Rattle.rp_tree.specs.declared.expr.Params.{Params}
 use Rattle.rp_tree.specs.ExpressionViews.{view_params}
 use Rattle.rp_access.specs.Comes.{Comes, ComesIfAny, IsEnd}
-use Rattle.rp_enter.specs.Entering.{AreSlotsFit, entered, entered_with, filled_to, scope_made}
+use Rattle.rp_enter.specs.Entering.{AreNamedSound, AreSlotsFit, entered, entered_with, filled_to, scope_made}
 use Rattle.rp_access.specs.Moment.{state_of}
 use Rattle.std.proofs.lemmas.Bool.{eq-eqb, eqb-true}
 use Rattle.std.proofs.lemmas.List.{append_assoc, map-append, replicate_more, take_more}
@@ -47,12 +47,12 @@ abbrev Slots : Type 0
 Slots = List (Option Value)
 
 -- the binding of the code is that of the meaning
-pub bound_comes : (w : World) (store : Cells) (r : Result Slots OpEnd) (side : Side) (ps : Params) (defaults args : List Value)
-    → Meets r (plain.state_of store w.running.meter.left) (calls.bind side w.names ps defaults args [] (plain.state_of w.store w.running.meter.left))
-    → Comes r (state_of (with_store w store)) (plainly (bind side w.names (view_params ps) defaults (only args)) (state_of w))
-bound_comes w store r side ps defaults args is =
-    Comes-same r (state_of (with_store w store)) _ _ (ap (λ o. lifted o (state_of w)) (bind_seen side w.names ps defaults (only args) (plain.state_of w.store w.running.meter.left)))
-    (Comes-lifted r (state_of w) (plain.state_of store w.running.meter.left) (calls.bind side w.names ps defaults args [] (plain.state_of w.store w.running.meter.left)) is)
+pub bound_comes : (w : World) (store : Cells) (r : Result Slots OpEnd) (side : Side) (ps : Params) (defaults args : List Value) (named : List (List ℕ × Value))
+    → Meets r (plain.state_of store w.running.meter.left) (calls.bind side w.names ps defaults args named (plain.state_of w.store w.running.meter.left))
+    → Comes r (state_of (with_store w store)) (plainly (bind side w.names (view_params ps) defaults (record { plain = args; named = named })) (state_of w))
+bound_comes w store r side ps defaults args named is =
+    Comes-same r (state_of (with_store w store)) _ _ (ap (λ o. lifted o (state_of w)) (bind_seen side w.names ps defaults (record { plain = args; named = named }) (plain.state_of w.store w.running.meter.left)))
+    (Comes-lifted r (state_of w) (plain.state_of store w.running.meter.left) (calls.bind side w.names ps defaults args named (plain.state_of w.store w.running.meter.left)) is)
 
 -- no class is made
 module _ (names : List (List ℕ)) where
@@ -106,10 +106,11 @@ module _ (names : List (List ℕ)) where
     rest_named (Some rest) values es = values_named rest values es
     rest_named None values es = h
 
-  bind_named : (side : Side) (ws : List (List ℕ)) (ps : Params) (defaults args : List Value) (s : plain.State) → AreNamed names s.store.heap → Stays (calls.bind side ws ps defaults args [] s)
-  bind_named side ws ps defaults args s h =
-      rest_named side ps s h (calls.elements_for (calls.has_list ps) (length (calls.plain ps)) args) (calls.filled (calls.offered ws (calls.plain ps) args defaults) [])
-      (calls.entries_for (calls.has_dict ps) ws (calls.plain ps) [])
+  bind_named : (side : Side) (ws : List (List ℕ)) (ps : Params) (defaults args : List Value) (named : List (List ℕ × Value)) (s : plain.State) → AreNamed names s.store.heap
+      → Stays (calls.bind side ws ps defaults args named s)
+  bind_named side ws ps defaults args named s h =
+      rest_named side ps s h (calls.elements_for (calls.has_list ps) (length (calls.plain ps)) args) (calls.filled (calls.offered ws (calls.plain ps) args defaults) named)
+      (calls.entries_for (calls.has_dict ps) ws (calls.plain ps) named)
 
 meets_state : {A : Type 0} (r : Result A OpEnd) (t : plain.State) (o : plain.Outcome A) → r ≢ Err end.Memory → Meets r t o → o.state ≡ t
 meets_state (Ok a) t o other is = ap (λ (o : plain.Outcome _). o.state) is
@@ -125,13 +126,13 @@ no_memory (Err end.StopSteps) other = λ h. cc
 no_memory (Err end.StopCells) other = λ h. cc
 no_memory (Err end.Memory) other = λ h. other refl
 
-pub bound_faithful : (w : World) (store : Cells) (r : Result (Vec (Option Value) Global) OpEnd) (side : Side) (ps : Params) (defaults args : List Value)
-    → Meets (slots_of r) (plain.state_of store 0) (calls.bind side w.names ps defaults args [] (plain.state_of w.store 0)) → IsFaithful w
+pub bound_faithful : (w : World) (store : Cells) (r : Result (Vec (Option Value) Global) OpEnd) (side : Side) (ps : Params) (defaults args : List Value) (named : List (List ℕ × Value))
+    → Meets (slots_of r) (plain.state_of store 0) (calls.bind side w.names ps defaults args named (plain.state_of w.store 0)) → IsFaithful w
     → r ≢ Err end.Memory → IsFaithful (with_store w store)
-bound_faithful w store r side ps defaults args is h other =
+bound_faithful w store r side ps defaults args named is h other =
     IsFaithful-stored w store
     (subst (λ (t : plain.State). AreNamed w.names t.store.heap) (meets_state (slots_of r) (plain.state_of store 0) _ (no_memory r other) is)
-    (bind_named w.names side w.names ps defaults args (plain.state_of w.store 0) h.classes)) h
+    (bind_named w.names side w.names ps defaults args named (plain.state_of w.store 0) h.classes)) h
 
 -- one more empty slot
 pub filled_next : (xs ys zs : Slots) (i : ℕ) → ys ≡ xs ++ replicate i None → zs ≡ ys ++ None ∷ [] → zs ≡ xs ++ replicate (i + 1) None
@@ -230,22 +231,22 @@ taken_next heap side vs i v copy items more within is pushed got sound before =
     ∙ sym (map-append (taken heap side) (take i vs) (get_or vs i v ∷ [])) ∙ sym (ap (map (taken heap side)) (take_more vs i v within))
 
 -- the code is entered where the arguments are bound and the scope is made
-module _ (w u : World) (side : Side) (number : ℕ) (within : Oid) (locals : ℕ) (ps : PureParams) (defaults vs : List Value) where
+module _ (w u : World) (side : Side) (number : ℕ) (within : Oid) (locals : ℕ) (ps : PureParams) (defaults : List Value) (a : Arguments) where
   abbrev binding : Outcome Slots
-  binding = plainly (bind side w.names ps defaults (only vs)) (state_of w)
+  binding = plainly (bind side w.names ps defaults a) (state_of w)
 
   abbrev scoped : Slots → State → Outcome Oid
   scoped slots s = scope_made side number within locals slots s
 
-  pub entered_fails : (e : OpEnd) → IsEnd e (state_of u) binding → IsEnd e (state_of u) (entered_with side number within locals ps defaults (only vs) (state_of w))
+  pub entered_fails : (e : OpEnd) → IsEnd e (state_of u) binding → IsEnd e (state_of u) (entered_with side number within locals ps defaults a (state_of w))
   entered_fails e is = IsEnd-then e (state_of u) binding scoped is
 
   pub entered_made : (v : World) (slots : Slots) (at : Oid) → binding ≡ gives slots (state_of u) → scope_made side number within locals slots (state_of u) ≡ gives at (state_of v)
-      → entered_with side number within locals ps defaults (only vs) (state_of w) ≡ gives at (state_of v)
+      → entered_with side number within locals ps defaults a (state_of w) ≡ gives at (state_of v)
   entered_made v slots at bound is = gives-then slots (state_of u) binding scoped bound ∙ is
 
   pub entered_stops : (v : World) (slots : Slots) (e : OpEnd) → binding ≡ gives slots (state_of u) → IsEnd e (state_of v) (scope_made side number within locals slots (state_of u))
-      → IsEnd e (state_of v) (entered_with side number within locals ps defaults (only vs) (state_of w))
+      → IsEnd e (state_of v) (entered_with side number within locals ps defaults a (state_of w))
   entered_stops v slots e bound is = IsEnd-same e (state_of v) _ _ (gives-then slots (state_of u) binding scoped bound) is
 
 -- the owner of an object, by its number
@@ -261,12 +262,36 @@ other_safe heap side owner at is e h =
 
 -- the same arguments, and those that are taken
 module _ (r : Result (Option Oid) OpEnd) (t s : State) (side : Side) (number : ℕ) (within : Oid) (locals : ℕ) (ps : PureParams) (defaults : List Value) where
-  pub entered_same : (us vs : List Value) → us ≡ vs → ComesIfAny r t (entered side number within locals ps defaults (only us) s) → ComesIfAny r t (entered side number within locals ps defaults (only vs) s)
-  entered_same us vs same is = subst (λ (xs : List Value). ComesIfAny r t (entered side number within locals ps defaults (only xs) s)) same is
+  pub entered_same : (us vs : List Value) (ns : List (List ℕ × Value)) → us ≡ vs → ComesIfAny r t (entered side number within locals ps defaults (record { plain = us; named = ns }) s)
+      → ComesIfAny r t (entered side number within locals ps defaults (record { plain = vs; named = ns }) s)
+  entered_same us vs ns same is = subst (λ (xs : List Value). ComesIfAny r t (entered side number within locals ps defaults (record { plain = xs; named = ns }) s)) same is
 
-  pub entered_taken : (vs us : List Value) → us ≡ map (taken (heap_of s) side) vs → ComesIfAny r t (entered_with side number within locals ps defaults (only us) s)
-      → ComesIfAny r t (entered side number within locals ps defaults (only vs) s)
-  entered_taken vs us same is = subst (λ (xs : List Value). ComesIfAny r t (entered_with side number within locals ps defaults (only xs) s)) same is
+  pub entered_taken : (vs us : List Value) (ns ms : List (List ℕ × Value)) → us ≡ map (taken (heap_of s) side) vs → ms ≡ map (λ n. (n.0, taken (heap_of s) side n.1)) ns
+      → ComesIfAny r t (entered_with side number within locals ps defaults (record { plain = us; named = ms }) s)
+      → ComesIfAny r t (entered side number within locals ps defaults (record { plain = vs; named = ns }) s)
+  entered_taken vs us ns ms same names is =
+      subst (λ (xs : List Value). ComesIfAny r t (entered_with side number within locals ps defaults (record { plain = xs; named = map (λ n. (n.0, taken (heap_of s) side n.1)) ns }) s)) same
+      (subst (λ (xs : List (List ℕ × Value)). ComesIfAny r t (entered_with side number within locals ps defaults (record { plain = us; named = xs }) s)) names is)
+
+-- one more argument with a name is taken
+module _ (heap : List Owned) (side : Side) where
+  abbrev named_taken : List ℕ × Value → List ℕ × Value
+  named_taken n = (n.0, taken heap side n.1)
+
+  pub named_next : (ns : List (List ℕ × Value)) (i : ℕ) (n : List ℕ × Value) (word : List ℕ) (copy : Value) (items more : List (List ℕ × Value)) → i < length ns → n ≡ get_or ns i n
+      → more ≡ items ++ (word, copy) ∷ [] → word ≡ n.0 → copy ≡ taken heap side n.1 → items ≡ map named_taken (take i ns)
+      → more ≡ map named_taken (take (i + 1) ns)
+  named_next ns i n word copy items more within is pushed same got before =
+      pushed ∙ ap (λ (xs : List (List ℕ × Value)). xs ++ (word, copy) ∷ []) before
+      ∙ ap (λ (x : List ℕ × Value). map named_taken (take i ns) ++ x ∷ []) (ap (λ (w : List ℕ). (w, copy)) same ∙ ap (λ (v : Value). (n.0, v)) got ∙ ap named_taken is)
+      ∙ sym (map-append named_taken (take i ns) (get_or ns i n ∷ [])) ∙ sym (ap (map named_taken) (take_more ns i n within))
+
+pub named_sound : (heap : List Owned) (ns : List (List ℕ × Value)) (i : ℕ) (n : List ℕ × Value) → n ≡ get_or ns i n → i < length ns → AreNamedSound heap ns → IsSound heap n.1
+named_sound heap ns i n is within h =
+    subst (λ (n : List ℕ × Value). IsSound heap n.1) (sym is) (All-get_or (λ (n : List ℕ × Value). IsSound heap n.1) ns i n within h)
+
+pub named_pushed : (heap : List Owned) (items more : List (List ℕ × Value)) (n : List ℕ × Value) → more ≡ items ++ n ∷ [] → IsSound heap n.1 → AreNamedSound heap items → AreNamedSound heap more
+named_pushed heap items more n is sound are = subst (AreNamedSound heap) (sym is) (All-push (λ (n : List ℕ × Value). IsSound heap n.1) items n are sound)
 
 pub behind_sound : (heap : List Owned) (receiver : Value) (args all : List Value) → all ≡ receiver ∷ args → IsSound heap receiver → AreSound heap args → AreSound heap all
 behind_sound heap receiver args all is first others = subst (AreSound heap) (sym is) (All-cons (IsSound heap) receiver args first others)

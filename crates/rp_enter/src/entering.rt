@@ -19,10 +19,11 @@ ghost use Rattle.rp_store.specs.Shape.{KeepsShape};
 ghost use Rattle.rp_store.specs.Store.{made};
 ghost use Rattle.rp_tree.specs.ExpressionViews.{view_params};
 ghost use Rattle.rp_access.specs.Comes.{Comes, ComesIfAny};
-ghost use Rattle.rp_enter.specs.Entering.{AreSlotsFit, entered, entered_with, filled_to, instance_made, lent_by, scope_made};
+ghost use Rattle.rp_enter.specs.Entering.{AreNamedSound, AreSlotsFit, before_all, entered, entered_with, filled_to};
+ghost use Rattle.rp_enter.specs.Entering.{instance_made, lent_by, scope_made};
 ghost use Rattle.rp_access.specs.Moment.{state_of};
 
-use rp_base::{Memory, Oid, OpEnd, Side, Value};
+use rp_base::{Memory, Oid, OpEnd, Side, Text, Value};
 use rp_dict::Dict;
 use rp_proxy::{World, take};
 use rp_store::{Object, Store};
@@ -38,9 +39,10 @@ pub struct Entry {
     pub within: Oid,
 }
 
-/// Enters the code of a function, by a call from code of a side: takes the arguments for the function's side, binds them
-/// to the parameters, and makes its scope (Python Language Reference, Calls, Naming and binding; zope.security,
-/// proxies). Its code block has so many local names. None where a default is no value that code of the function's side may hold.
+/// Enters the code of a function, by a call from code of a side: takes the arguments for the function's side, binds
+/// them to the parameters, and makes its scope (Python Language Reference, Calls, Naming and binding; zope.security,
+/// proxies). Its code block has so many local names. None where a default is no value that code of the function's side
+/// may hold.
 ///
 /// # Errors
 /// As `rp_calls::bind`; `StopCells` where the cells of the scope are over the limit.
@@ -65,9 +67,9 @@ pub fn enter(
     ensures scope { IfOk result (λ at. IfSome at (IsScopeOf world.new.store.heap entry.side)) }
 {
     if from == entry.side {
-        return enter_with(alloc, world, entry, locals, params, args);
+        return enter_with(alloc, world, entry, locals, params, args, &[]);
     }
-    enter_taken(alloc, world, entry, locals, params, args)
+    enter_taken(alloc, world, entry, locals, params, args, &[])
 }
 
 /// The same, with a value before the arguments, from which side ever it is called.
@@ -95,8 +97,71 @@ pub fn enter_bound(
     ensures shape { KeepsShape world.old.store.heap world.new.store.heap }
     ensures scope { IfOk result (λ at. IfSome at (IsScopeOf world.new.store.heap entry.side)) }
 {
+    enter_behind(alloc, world, entry, locals, params, receiver, args, &[])
+}
+
+/// The same, with arguments with names, too, each of which is a text and a value; a value stands before all of them, or
+/// none.
+///
+/// # Errors
+/// As `enter_bound`.
+pub fn enter_named(
+    alloc: Global,
+    world: &mut World,
+    entry: Entry,
+    locals: usize,
+    params: &Params,
+    receiver: Option<Value>,
+    args: &[Value],
+    named: &[(Text, Value)],
+) -> Result<Option<Oid>, OpEnd>
+    requires faithful { IsFaithful world.old }
+    requires function { IsAt world.old.store.heap IsFunction entry.function }
+    requires within { IsScopeOf world.old.store.heap entry.side entry.within }
+    requires receiver { IfSome receiver (IsSound world.old.store.heap) }
+    requires args { AreSound world.old.store.heap args.now }
+    requires named { AreNamedSound world.old.store.heap named.now }
+    ensures law { ComesIfAny result (state_of world.new)
+        (entered entry.side entry.block entry.within locals (view_params params.now)
+        (defaults_at world.old.store.heap entry.function)
+        (before_all receiver (record { plain = args.now; named = named.now })) (state_of world.old)) }
+    ensures faithful { (result ≢ Err OpEnd.Memory) → IsFaithful world.new }
+    ensures shape { KeepsShape world.old.store.heap world.new.store.heap }
+    ensures scope { IfOk result (λ at. IfSome at (IsScopeOf world.new.store.heap entry.side)) }
+{
+    match receiver {
+        None => enter_taken(alloc, world, entry, locals, params, args, named),
+        Some(value) => enter_behind(alloc, world, entry, locals, params, value, args, named),
+    }
+}
+
+/// The same, behind a value.
+fn enter_behind(
+    alloc: Global,
+    world: &mut World,
+    entry: Entry,
+    locals: usize,
+    params: &Params,
+    receiver: Value,
+    args: &[Value],
+    named: &[(Text, Value)],
+) -> Result<Option<Oid>, OpEnd>
+    requires faithful { IsFaithful world.old }
+    requires function { IsAt world.old.store.heap IsFunction entry.function }
+    requires within { IsScopeOf world.old.store.heap entry.side entry.within }
+    requires receiver { IsSound world.old.store.heap receiver }
+    requires args { AreSound world.old.store.heap args.now }
+    requires named { AreNamedSound world.old.store.heap named.now }
+    ensures law { ComesIfAny result (state_of world.new)
+        (entered entry.side entry.block entry.within locals (view_params params.now)
+        (defaults_at world.old.store.heap entry.function)
+        (record { plain = receiver ∷ args.now; named = named.now }) (state_of world.old)) }
+    ensures faithful { (result ≢ Err OpEnd.Memory) → IsFaithful world.new }
+    ensures shape { KeepsShape world.old.store.heap world.new.store.heap }
+    ensures scope { IfOk result (λ at. IfSome at (IsScopeOf world.new.store.heap entry.side)) }
+{
     let all = behind(alloc, receiver, args)?;
-    enter_taken(alloc, world, entry, locals, params, all.as_slice())
+    enter_taken(alloc, world, entry, locals, params, all.as_slice(), named)
 }
 
 /// Takes the arguments for the function's side.
@@ -107,20 +172,51 @@ fn enter_taken(
     locals: usize,
     params: &Params,
     args: &[Value],
+    named: &[(Text, Value)],
 ) -> Result<Option<Oid>, OpEnd>
     requires faithful { IsFaithful world.old }
     requires function { IsAt world.old.store.heap IsFunction entry.function }
     requires within { IsScopeOf world.old.store.heap entry.side entry.within }
     requires args { AreSound world.old.store.heap args.now }
+    requires named { AreNamedSound world.old.store.heap named.now }
     ensures law { ComesIfAny result (state_of world.new)
         (entered entry.side entry.block entry.within locals (view_params params.now)
-        (defaults_at world.old.store.heap entry.function) (only args.now) (state_of world.old)) }
+        (defaults_at world.old.store.heap entry.function) (record { plain = args.now; named = named.now })
+        (state_of world.old)) }
     ensures faithful { (result ≢ Err OpEnd.Memory) → IsFaithful world.new }
     ensures shape { KeepsShape world.old.store.heap world.new.store.heap }
     ensures scope { IfOk result (λ at. IfSome at (IsScopeOf world.new.store.heap entry.side)) }
 {
     let args = taken_all(alloc, world, entry.side, args)?;
-    enter_with(alloc, world, entry, locals, params, args.as_slice())
+    let named = named_taken(alloc, world, entry.side, named)?;
+    enter_with(
+        alloc,
+        world,
+        entry,
+        locals,
+        params,
+        args.as_slice(),
+        named.as_slice(),
+    )
+}
+
+/// Arguments with names as code of a side takes them.
+fn named_taken(
+    alloc: Global,
+    world: &World,
+    side: Side,
+    named: &[(Text, Value)],
+) -> Result<Vec<(Text, Value)>, Memory>
+    requires { AreNamedSound world.now.store.heap named.now }
+    ensures values { IfOk result (λ all.
+        all.items ≡ map (λ n. (n.0, taken world.now.store.heap side n.1)) named.now) }
+    ensures sound { IfOk result (λ all. AreNamedSound world.now.store.heap all.items) }
+{
+    let mut all = Vec::with_capacity(alloc, named.len())?;
+    for argument in named {
+        all.push((argument.0.copy()?, taken_copy(world, side, &argument.1)?))?;
+    }
+    Ok(all)
 }
 
 /// Copies of arguments behind a value.
@@ -142,23 +238,26 @@ fn enter_with(
     locals: usize,
     params: &Params,
     args: &[Value],
+    named: &[(Text, Value)],
 ) -> Result<Option<Oid>, OpEnd>
     requires faithful { IsFaithful world.old }
     requires function { IsAt world.old.store.heap IsFunction entry.function }
     requires within { IsScopeOf world.old.store.heap entry.side entry.within }
     requires args { AreSound world.old.store.heap args.now }
+    requires named { AreNamedSound world.old.store.heap named.now }
     ensures law { ComesIfAny result (state_of world.new)
         (entered_with entry.side entry.block entry.within locals (view_params params.now)
-        (defaults_at world.old.store.heap entry.function) (only args.now) (state_of world.old)) }
+        (defaults_at world.old.store.heap entry.function) (record { plain = args.now; named = named.now })
+        (state_of world.old)) }
     ensures faithful { (result ≢ Err OpEnd.Memory) → IsFaithful world.new }
     ensures shape { KeepsShape world.old.store.heap world.new.store.heap }
     ensures scope { IfOk result (λ at. IfSome at (IsScopeOf world.new.store.heap entry.side)) }
 {
-    let slots = bound(alloc, world, entry, params, args)?;
+    let slots = bound(alloc, world, entry, params, args, named)?;
     if !are_fit(&world.store, entry.side, slots.as_slice()) {
         return Ok(None);
     }
-    let scope = new_scope(world, entry, locals, slots)?;
+    let scope = new_scope(world, entry.side, entry.block, entry.within, locals, slots)?;
     Ok(Some(scope))
 }
 
@@ -196,13 +295,16 @@ fn bound(
     entry: Entry,
     params: &Params,
     args: &[Value],
+    named: &[(Text, Value)],
 ) -> Result<Vec<Option<Value>>, OpEnd>
     requires faithful { IsFaithful world.old }
     requires function { IsAt world.old.store.heap IsFunction entry.function }
     requires args { AreSound world.old.store.heap args.now }
+    requires named { AreNamedSound world.old.store.heap named.now }
     ensures law { Comes (slots_of result) (state_of world.new)
         (plainly (bind entry.side world.old.names (view_params params.now)
-        (defaults_at world.old.store.heap entry.function) (only args.now)) (state_of world.old)) }
+        (defaults_at world.old.store.heap entry.function) (record { plain = args.now; named = named.now }))
+        (state_of world.old)) }
     ensures faithful { (result ≢ Err OpEnd.Memory) → IsFaithful world.new }
     ensures shape { KeepsShape world.old.store.heap world.new.store.heap }
     ensures sound { IfOk result (λ slots. AreSlotsSound world.new.store.heap slots.items) }
@@ -215,7 +317,7 @@ fn bound(
         params,
         entry.function,
         args,
-        &[],
+        named,
     )
 }
 
@@ -258,29 +360,35 @@ fn is_safe(store: &Store, side: Side, value: &Value) -> bool
     }
 }
 
-/// The scope of the function's code.
-fn new_scope(
+/// A scope of a side for a code block of so many local names, within another scope. The first names are bound to these
+/// values (Python Language Reference, Naming and binding).
+///
+/// # Errors
+/// `StopCells` where the cells of the scope are over the limit, `Memory` where a growth was refused.
+pub fn new_scope(
     world: &mut World,
-    entry: Entry,
+    side: Side,
+    block: usize,
+    within: Oid,
     locals: usize,
     slots: Vec<Option<Value>>,
 ) -> Result<Oid, OpEnd>
     requires faithful { IsFaithful world.old }
-    requires within { IsScopeOf world.old.store.heap entry.side entry.within }
-    requires slots { AreSlotsFit world.old.store.heap entry.side slots.items }
+    requires within { IsScopeOf world.old.store.heap side within }
+    requires slots { AreSlotsFit world.old.store.heap side slots.items }
     ensures law { Comes result (state_of world.new)
-        (scope_made entry.side entry.block entry.within locals slots.items (state_of world.old)) }
+        (scope_made side block within locals slots.items (state_of world.old)) }
     ensures faithful { IsFaithful world.new }
     ensures shape { KeepsShape world.old.store.heap world.new.store.heap }
-    ensures scope { IfOk result (IsScopeOf world.new.store.heap entry.side) }
+    ensures scope { IfOk result (IsScopeOf world.new.store.heap side) }
 {
     let slots = filled(slots, locals)?;
     let scope = Object::Scope {
-        block: Some(entry.block),
-        parent: Some(entry.within),
+        block: Some(block),
+        parent: Some(within),
         slots,
     };
-    make_scope(&mut world.store, entry.side, scope)
+    make_scope(&mut world.store, side, scope)
 }
 
 /// Slots for so many local names, the further ones empty.

@@ -3,4 +3,4 @@
 
 mod entering;
 
-pub use entering::{Entry, enter, enter_bound, given, new_instance};
+pub use entering::{Entry, enter, enter_bound, enter_named, given, new_instance, new_scope};

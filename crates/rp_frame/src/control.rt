@@ -23,6 +23,7 @@ pub enum Control<'u> {
     CutOff,
     /// Left by `return`, with the last value at hand.
     Returned,
-    /// Calls what is at hand under so many arguments.
-    Call(u32),
+    /// Calls what is at hand under so many arguments without a name and, upon them, so many with one, each a name and a
+    /// value.
+    Call(u32, u32),
 }

@@ -14,7 +14,7 @@ pub use activation::Activation;
 pub use control::Control;
 pub use display::Display;
 pub use leaving::Leaving;
-pub use spot::{Each, Spot};
+pub use spot::{Adds, Each, Inside, Made, Spot};
 pub use task::{ExprTask, FlowTask, StmtTask, Task};
 pub use tasks::Tasks;
 pub use values::Values;

@@ -2,9 +2,9 @@
 
 use crate::display::Display;
 use crate::leaving::Leaving;
-use crate::spot::{Each, Spot};
-use rp_base::{BinOp, Name, UnOp};
-use rp_tree::{Arg, Branch, Except, Expr, Named, Place, Stmt, Target, Test, Trailer};
+use crate::spot::{Adds, Each, Made, Spot};
+use rp_base::{BinOp, Name, Oid, UnOp};
+use rp_tree::{Arg, Branch, Clause, Except, Expr, Named, Place, Stmt, Target, Test, Trailer};
 
 /// What an expression does with the value of a part, or that of a statement.
 #[derive(Clone, Copy)]
@@ -49,6 +49,17 @@ pub enum ExprTask<'u> {
     /// With the value of a key of a dict display; so many keys and values before it are at hand, and these pairs are
     /// behind.
     DictValue(u32, &'u [(Expr, Expr)]),
+    /// With what the first clause of a comprehension of this code block goes over; the clauses behind it, and what it
+    /// makes.
+    Comprehension(usize, &'u Clause, &'u [Clause], Made<'u>),
+    /// With what is spread over arguments of a call; the callee and, upon it, so many arguments before it are at hand.
+    StarArgument(u32, &'u [Arg], &'u [Trailer]),
+    /// With an argument with a name; the callee and, upon it, so many arguments without a name and so many with one are
+    /// at hand, each of those a name and then a value.
+    NamedArgument(u32, u32, Name, &'u [Arg], &'u [Trailer]),
+    /// With what is spread over arguments with names; the callee and, upon it, so many arguments without a name and so
+    /// many with one are at hand.
+    StarsArgument(u32, u32, &'u [Arg], &'u [Trailer]),
     /// With a default of a function of this code block, with a name or, for a lambda, without; so many before it are at
     /// hand, and these parameters are behind.
     Default(Option<Name>, usize, u32, &'u [(Named, Option<Expr>)]),
@@ -102,10 +113,21 @@ pub enum StmtTask<'u> {
     Unpack(&'u Target),
     /// With the value in an `except` clause; the exception is at hand, and these clauses are behind.
     Handler(&'u Except, &'u [Except]),
+    /// With a test of a clause of a comprehension; these tests and clauses are behind.
+    Where(&'u [Expr], &'u [Clause], Adds<'u>),
+    /// With the element that a comprehension adds to the list at a place.
+    AddElement(Oid),
+    /// With the key that a comprehension adds to the dict at a place, whose value is behind.
+    AddKey(Oid, &'u Expr),
+    /// With the value of the key at hand.
+    AddEntry(Oid),
     /// With the value that `return` gives back.
     Return,
     /// With the function that a `def` binds to this name.
     Define(Name),
+    /// With the function of a `def` in the block of a class of this name, which is the last of so many of its
+    /// statements; so many functions of earlier ones are at hand.
+    Method(Name, &'u [Stmt], u32, u32),
 }
 
 /// What waits for the end of a statement or a block.
@@ -123,6 +145,12 @@ pub enum FlowTask<'u> {
     For(u64, Spot, Each<'u>),
     /// The targets behind one that an element was stored to; their elements are at hand, the first one upon the others.
     StoreEach(&'u [Target]),
+    /// The block of a class of this name, of which so many statements are done; so many functions of these are at hand.
+    Class(Name, &'u [Stmt], u32, u32),
+    /// The tests of a clause of a comprehension, and the clauses behind it.
+    Clause(&'u [Expr], &'u [Clause], Adds<'u>),
+    /// A comprehension, which makes the list or dict at a place; the code block and the scope around it.
+    Comprehension(usize, Oid, Oid),
     /// The `except` clauses of a `try` statement, and its block of `else`.
     Try(&'u [Except], &'u [Stmt]),
     /// A handler, whose exception is bound to the name; what was handled before, or None, is at hand.

@@ -18,6 +18,7 @@ impl<'u> Model for Tasks<'u> {
     ghost use Rattle.std.specs.Coded.{codes};
     ghost use Rattle.rp_frame.specs.declared.task.Task.{Task};
     ghost use Rattle.rp_tree.specs.contracts.expr.Arg as arg;
+    ghost use Rattle.rp_tree.specs.contracts.expr.Clause as clause;
     ghost use Rattle.rp_tree.specs.contracts.expr.Expr as expr;
     ghost use Rattle.rp_tree.specs.contracts.expr.Place as place;
     ghost use Rattle.rp_tree.specs.contracts.expr.Trailer as trailer;
@@ -31,6 +32,7 @@ impl<'u> Model for Tasks<'u> {
     ghost coded = { Prim.hlevel (
       codes,
       arg.the_row.coded,
+      clause.the_row.coded,
       expr.the_row.coded,
       place.the_row.coded,
       target.the_row.coded,

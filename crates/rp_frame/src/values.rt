@@ -45,6 +45,19 @@ impl Values {
         Ok(())
     }
 
+    /// Puts values upon the others, the last one last.
+    ///
+    /// # Errors
+    /// `Memory` where a growth was refused; then they are as before.
+    pub fn add(&mut self, values: Vec<Value>) -> Result<(), Memory>
+        ensures added { OnOk result (self.new ≡ reverse values.items ++ self.old) }
+        ensures same { OnErr result (self.new ≡ self.old) }
+    {
+        let mut values = values;
+        self.values.append(&mut values)?;
+        Ok(())
+    }
+
     /// Puts values upon the others, the first one last.
     ///
     /// # Errors

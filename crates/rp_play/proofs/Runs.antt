@@ -6,10 +6,10 @@ use Rattle.rp_base.specs.declared.value.Side.{Side}
 use Rattle.rp_decl.specs.Records.{Declarations}
 use Rattle.rp_meaning.specs.Frame.{Program, Run}
 use Rattle.rp_session.specs.Ready.{AreLaidOut, IsLaidOut}
-use Rattle.rp_step.specs.Moment as step
-use Rattle.rp_step.specs.Moment.{program_view}
-use Rattle.rp_step.specs.declared.units.Program.{Program as CodeProgram}
-use Rattle.rp_step.specs.declared.units.Units.{Units}
+use Rattle.rp_engine.specs.Moment as step
+use Rattle.rp_engine.specs.Moment.{program_view}
+use Rattle.rp_engine.specs.declared.units.Program.{Program as CodeProgram}
+use Rattle.rp_engine.specs.declared.units.Units.{Units}
 use Rattle.rp_tree.specs.Statements.{Stmts}
 use Rattle.rp_play.specs.Played.{module_in, program_in, program_on, run_of}
 use Rattle.rp_play.specs.Programs.{IsProgramOf}

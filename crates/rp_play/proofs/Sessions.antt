@@ -20,9 +20,9 @@ use Rattle.rp_scope.specs.Numbers.{IsNumbered}
 use Rattle.rp_session.specs.Ready.{AreNumberedFrom}
 use Rattle.rp_session.specs.View.{session_view}
 use Rattle.rp_session.specs.declared.session.Session.{Session}
-use Rattle.rp_step.specs.Moment as step
-use Rattle.rp_step.specs.declared.units.Program.{Program as CodeProgram}
-use Rattle.rp_step.specs.declared.units.Units.{Units}
+use Rattle.rp_engine.specs.Moment as step
+use Rattle.rp_engine.specs.declared.units.Program.{Program as CodeProgram}
+use Rattle.rp_engine.specs.declared.units.Units.{Units}
 use Rattle.rp_tree.specs.Maps.{named}
 use Rattle.rp_tree.specs.Statements.{Stmts, no_stmts}
 use Rattle.rp_tree.specs.StatementViews.{view_tree}

@@ -16,7 +16,7 @@ use Rattle.rp_policy.specs.Forbidden.{is_forbidden_attribute}
 use Rattle.rp_proxy.specs.Decide.{decide}
 use Rattle.rp_scope.specs.Numbers.{IsNumbered}
 use Rattle.rp_scope.specs.Scopes.{scopes}
-use Rattle.rp_step.specs.Moment.{layouts_view}
+use Rattle.rp_engine.specs.Moment.{layouts_view}
 use Rattle.rp_trail.specs.Entry.{Entry}
 use Rattle.rp_tree.specs.Maps.{named}
 use Rattle.rp_tree.specs.Statements.{Stmts, no_stmts}

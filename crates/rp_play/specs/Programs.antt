@@ -5,9 +5,9 @@ use Rattle.rp_decl.specs.View.{Placed}
 use Rattle.rp_machine.specs.Globals.{placed_names}
 use Rattle.rp_scope.specs.Numbers.{HasNumbers, IsNumbered, block_count}
 use Rattle.rp_session.specs.Ready.{IsLaidOut}
-use Rattle.rp_step.specs.Moment.{program_view}
-use Rattle.rp_step.specs.declared.units.Program.{Program}
-use Rattle.rp_step.specs.declared.units.Units.{Units}
+use Rattle.rp_engine.specs.Moment.{program_view}
+use Rattle.rp_engine.specs.declared.units.Program.{Program}
+use Rattle.rp_engine.specs.declared.units.Units.{Units}
 use Rattle.rp_tree.specs.Statements.{Stmts, no_stmts}
 use Rattle.rp_tree.specs.StatementViews.{view_tree}
 use Rattle.rp_play.specs.Played.{program_in}

@@ -5,8 +5,8 @@ ghost use Rattle.rp_play.specs.Causes.{IsAmong};
 ghost use Rattle.rp_session.specs.View.{IsHaltOf};
 
 use rp_base::Memory;
+use rp_engine::Halt;
 use rp_session::SessionHalt;
-use rp_step::Halt;
 
 /// Why a run has no outcome.
 #[derive(Clone, Copy, Debug, PartialEq, Eq)]

@@ -6,13 +6,13 @@ ghost use Rattle.rp_machine.specs.Globals.{placed_names};
 ghost use Rattle.rp_play.specs.Played.{program_in};
 ghost use Rattle.rp_play.specs.Programs.{AreNumbered, AreOf, HasFewBlocks, HasNumbersWhereFew, IsProgramOf};
 ghost use Rattle.rp_session.specs.Ready.{AreLaidOut, IsLaidOut};
-ghost use Rattle.rp_step.specs.Moment.{program_view};
+ghost use Rattle.rp_engine.specs.Moment.{program_view};
 ghost use Rattle.rp_tree.specs.StatementViews.{view_tree};
 
 use crate::trees::Trees;
 use rp_base::{Memory, Name};
 use rp_decl::{ClassDecl, Decl, ObjectDecl};
-use rp_step::{Program, Units};
+use rp_engine::{Program, Units};
 use rp_tree::Tree;
 use std::alloc::Global;
 

@@ -18,9 +18,9 @@ use Rattle.rp_proxy.specs.Faithful.{IsFaithful}
 use Rattle.rp_proxy.specs.Held.{IsNamed}
 use Rattle.rp_proxy.specs.declared.world.Running.{Running}
 use Rattle.rp_proxy.specs.declared.world.World.{World}
-use Rattle.rp_step.specs.Moment.{program_at, program_view, run_of}
-use Rattle.rp_step.specs.declared.units.Program.{Program}
-use Rattle.rp_step.specs.declared.units.Units.{Units}
+use Rattle.rp_engine.specs.Moment.{program_at, program_view, run_of}
+use Rattle.rp_engine.specs.declared.units.Program.{Program}
+use Rattle.rp_engine.specs.declared.units.Units.{Units}
 use Rattle.rp_store.specs.Heap.{Owned}
 use Rattle.rp_store.specs.Kept.{IsScopeOf}
 use Rattle.rp_store.specs.Object as object

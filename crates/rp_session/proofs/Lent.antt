@@ -9,10 +9,10 @@ use Rattle.rp_meaning.specs.State.{State, Outcome, Flow}
 use Rattle.rp_proxy.specs.Faithful.{IsFaithful}
 use Rattle.rp_proxy.specs.declared.world.Running.{Running}
 use Rattle.rp_proxy.specs.declared.world.World.{World}
-use Rattle.rp_step.specs.Does as does
+use Rattle.rp_engine.specs.Does as does
 use Rattle.rp_step.specs.Left.{flows}
-use Rattle.rp_step.specs.Moment.{run_of}
-use Rattle.rp_step.specs.declared.units.Units.{Units}
+use Rattle.rp_engine.specs.Moment.{run_of}
+use Rattle.rp_engine.specs.declared.units.Units.{Units}
 use Rattle.rp_step.specs.declared.unwinding.Left.{Left}
 use Rattle.rp_store.specs.Kept.{IsScopeOf}
 use Rattle.rp_store.specs.Shape.{KeepsShape}

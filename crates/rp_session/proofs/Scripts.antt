@@ -8,7 +8,7 @@ use Rattle.rp_meaning.specs.Sessions.{count, end_after, first_end, statement_at}
 use Rattle.rp_meaning.specs.State.{Outcome, Flow, next, broke, continued, returned, on_next}
 use Rattle.rp_meaning.specs.Statements as stmt_forms
 use Rattle.rp_proxy.specs.declared.world.World.{World}
-use Rattle.rp_step.specs.Does as does
+use Rattle.rp_engine.specs.Does as does
 use Rattle.rp_tree.specs.StatementViews.{view_stmt, view_stmts}
 use Rattle.rp_tree.specs.declared.stmt.Stmt.{Stmt}
 use Rattle.rp_session.specs.Turns.{comes_of, moment}

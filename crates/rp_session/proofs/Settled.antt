@@ -12,7 +12,7 @@ use Rattle.rp_session_laws.proofs.Programs.{functions-keep}
 use Rattle.rp_session_laws.proofs.Statements as statement
 use Rattle.rp_session_laws.proofs.Trees as tree
 use Rattle.rp_session_laws.specs.Setting.{Keeping, Stays, setting_of}
-use Rattle.rp_step.specs.Does as does
+use Rattle.rp_engine.specs.Does as does
 use Rattle.rp_tree.specs.Statements as stmt_tree
 use Rattle.rp_tree.specs.StatementViews.{view_stmt}
 use Rattle.rp_tree.specs.declared.stmt.Stmt.{Stmt}

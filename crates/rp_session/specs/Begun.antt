@@ -4,8 +4,8 @@ use Rattle.rp_meaning.specs.Expressions.{empty_slots}
 use Rattle.rp_meaning.specs.Load.{locals_of}
 use Rattle.rp_store.specs.Object as object
 use Rattle.rp_store.specs.Object.{Content}
-use Rattle.rp_step.specs.Moment.{program_view}
-use Rattle.rp_step.specs.declared.units.Program.{Program}
+use Rattle.rp_engine.specs.Moment.{program_view}
+use Rattle.rp_engine.specs.declared.units.Program.{Program}
 
 -- the global scope of a program, where none of its names is bound
 abbrev pub globals_of : Program → Content

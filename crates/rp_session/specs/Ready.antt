@@ -7,10 +7,10 @@ use Rattle.rp_interact.specs.Interacting.{Interacting}
 use Rattle.rp_proxy.specs.Faithful.{IsFaithful, MayGrowTo}
 use Rattle.rp_proxy.specs.declared.world.World.{World}
 use Rattle.rp_store.specs.Kept.{IsScopeOf}
-use Rattle.rp_step.specs.Codes.{IsIndexed}
-use Rattle.rp_step.specs.Moment.{program_at}
-use Rattle.rp_step.specs.declared.units.Program.{Program}
-use Rattle.rp_step.specs.declared.units.Units.{Units}
+use Rattle.rp_engine.specs.Codes.{IsIndexed}
+use Rattle.rp_engine.specs.Moment.{program_at}
+use Rattle.rp_engine.specs.declared.units.Program.{Program}
+use Rattle.rp_engine.specs.declared.units.Units.{Units}
 use Rattle.rp_session.specs.declared.session.Session.{Session}
 use Rattle.rp_session.specs.declared.sessions.Sessions.{Sessions}
 

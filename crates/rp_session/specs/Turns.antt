@@ -6,7 +6,7 @@ use Rattle.rp_meaning.specs.Sessions as meant
 use Rattle.rp_meaning.specs.Sessions.{unless_ended, with_session}
 use Rattle.rp_meaning.specs.State.{State, Outcome, Flow}
 use Rattle.rp_proxy.specs.declared.world.World.{World}
-use Rattle.rp_step.specs.Does as does
+use Rattle.rp_engine.specs.Does as does
 use Rattle.rp_tree.specs.declared.stmt.Stmt.{Stmt}
 use Rattle.rp_session.specs.View.{EndsSo, session_view, shared}
 use Rattle.rp_session.specs.declared.session.Session.{Session}

@@ -8,13 +8,13 @@ ghost use Rattle.rp_session.specs.Ready.{AreLaidOut, IsAtHome};
 ghost use Rattle.rp_session.specs.declared.session.Session.{Session as TheSession};
 ghost use Rattle.rp_session.specs.Turns.{Runs, TakesTurn};
 ghost use Rattle.rp_session.specs.View.{end_view, session_view};
-ghost use Rattle.rp_step.specs.Moment.{program_view, run_of};
+ghost use Rattle.rp_engine.specs.Moment.{program_view, run_of};
 
 use crate::session_end::SessionEnd;
 use crate::statement::run_statements;
 use rp_base::{Oid, Side};
+use rp_engine::{Halt, Program, Units};
 use rp_proxy::{Running, World};
-use rp_step::{Halt, Program, Units};
 use rp_tree::Stmt;
 use std::alloc::Global;
 use std::mem;

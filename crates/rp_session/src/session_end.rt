@@ -5,12 +5,13 @@ ghost use Rattle.rp_meaning.specs.Sessions.{first_end, well};
 ghost use Rattle.rp_meaning.specs.State.{State, Outcome, Flow};
 ghost use Rattle.rp_access.specs.Comes.{Comes};
 ghost use Rattle.rp_step.specs.Left.{flows};
-ghost use Rattle.rp_step.specs.Moment.{program_view};
+ghost use Rattle.rp_engine.specs.Moment.{program_view};
 ghost use Rattle.rp_tree.specs.StatementViews.{view_stmts};
 ghost use Rattle.rp_session.specs.View.{EndsSo, end_view};
 
 use rp_base::{OpEnd, Raised};
-use rp_step::{Halt, Left, Program};
+use rp_engine::{Halt, Program};
+use rp_step::Left;
 use rp_tree::Stmt;
 
 /// How a session ended.

@@ -1,6 +1,6 @@
 //! Why sessions do not go on.
 
-use rp_step::Halt;
+use rp_engine::Halt;
 
 /// Why sessions do not go on: the machine of one of them does not.
 #[derive(Clone, Copy, Debug, PartialEq, Eq)]

@@ -9,16 +9,16 @@ ghost use Rattle.rp_proxy.specs.Faithful.{IsFaithful};
 ghost use Rattle.rp_session.specs.Ready.{AnswersIn, AreLaidOut, AreReady};
 ghost use Rattle.rp_session.specs.View.{IsHaltOf, sessions_view};
 ghost use Rattle.rp_session.specs.Begun.{globals_of};
-ghost use Rattle.rp_step.specs.Moment.{run_of};
+ghost use Rattle.rp_engine.specs.Moment.{run_of};
 ghost use Rattle.rp_store.specs.Shape.{KeepsShape};
 ghost use Rattle.rp_store.specs.Store.{added};
 
 use crate::session::Session;
 use crate::session_halt::SessionHalt;
 use rp_base::{Memory, Meter, Oid, Printed, Side, Value};
+use rp_engine::{Halt, Program, Units};
 use rp_interact::Interaction;
 use rp_proxy::{Running, World};
-use rp_step::{Halt, Program, Units};
 use rp_store::Object;
 use std::alloc::Global;
 

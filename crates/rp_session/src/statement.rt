@@ -6,17 +6,18 @@ ghost use Rattle.rp_access.specs.Moment.{state_of};
 ghost use Rattle.rp_meaning.specs.Frame.{Run};
 ghost use Rattle.rp_meaning.specs.Running.{program_frame};
 ghost use Rattle.rp_proxy.specs.Faithful.{IsFaithful};
-ghost use Rattle.rp_step.specs.Codes.{AreIndexed};
-ghost use Rattle.rp_step.specs.Does as does;
+ghost use Rattle.rp_engine.specs.Codes.{AreIndexed};
+ghost use Rattle.rp_engine.specs.Does as does;
 ghost use Rattle.rp_step.specs.Left.{flows};
-ghost use Rattle.rp_step.specs.Moment.{program_at, run_of};
+ghost use Rattle.rp_engine.specs.Moment.{program_at, run_of};
 ghost use Rattle.rp_store.specs.Kept.{IsScopeOf};
 ghost use Rattle.rp_store.specs.Shape.{KeepsShape};
 
 use rp_base::{Oid, OpEnd, Side};
+use rp_engine::{Halt, Machine, Units};
 use rp_frame::{Activation, Control, Tasks, Values};
 use rp_proxy::World;
-use rp_step::{Halt, Left, Machine, Runner, Units};
+use rp_step::{Left, Runner};
 use rp_tree::Stmt;
 use std::alloc::Global;
 

@@ -14,7 +14,7 @@ use Rattle.rp_store.specs.Kept.{IsSound}
 use Rattle.rp_calls.specs.Binding.{defaults_at, defaults_in}
 use Rattle.rp_frame.specs.Top.{top}
 use Rattle.rp_frame.specs.declared.activation.Activation.{Activation}
-use Rattle.rp_meaning.specs.Binding.{Arguments, bind, only}
+use Rattle.rp_meaning.specs.Binding.{Arguments, bind}
 use Rattle.rp_meaning.specs.Blocks as blocks
 use Rattle.rp_meaning.specs.BuiltIn.{not_called}
 use Rattle.rp_meaning.specs.Frame.{Calls, Frame, Run}
@@ -35,21 +35,21 @@ use Rattle.rp_access.proofs.Going.{IsEnd-same, IsEnd-then, gives-then, raises_en
 use Rattle.rp_enter.specs.Entering.{entered, scope_made}
 use Rattle.rp_enter.specs.declared.entering.Entry.{Entry}
 use Rattle.rp_codes.specs.Codes.{code_view}
-use Rattle.rp_step.specs.Callables.{IsCallableAt, IsFunctionAt, before, before_all, given_by}
-use Rattle.rp_step.specs.Codes.{IsIndexed, code_at}
-use Rattle.rp_step.specs.DefinitionSteps.{called, called_by, callee_of, got_by}
+use Rattle.rp_step.specs.Callables.{IsCallableAt, IsFunctionAt, before_all, given_by}
+use Rattle.rp_engine.specs.Codes.{IsIndexed, code_at}
+use Rattle.rp_engine.specs.DefinitionSteps.{called, called_by, callee_of, got_by}
 use Rattle.rp_step.specs.declared.callables.Callable.{Callable}
-use Rattle.rp_step.specs.Law.{frame_in, rest_of}
-use Rattle.rp_step.specs.Moment.{frame_of, program_at, program_view, run_of}
-use Rattle.rp_step.specs.Rest.{gave, rest}
+use Rattle.rp_engine.specs.Law.{frame_in, rest_of}
+use Rattle.rp_engine.specs.Moment.{frame_of, program_at, program_view, run_of}
+use Rattle.rp_engine.specs.Rest.{gave, rest}
 use Rattle.rp_step.specs.Running.{unwound, whole_of}
 use Rattle.rp_step.specs.declared.callers.Caller.{Caller}
-use Rattle.rp_step.specs.declared.halt.Halt.{Halt}
-use Rattle.rp_step.specs.declared.machine.Machine.{Machine}
+use Rattle.rp_engine.specs.declared.halt.Halt.{Halt}
+use Rattle.rp_engine.specs.declared.machine.Machine.{Machine}
 use Rattle.rp_step.specs.declared.runner.Runner.{Runner}
 use Rattle.rp_codes.specs.declared.code.Code.{Code}
-use Rattle.rp_step.specs.declared.units.Program.{Program}
-use Rattle.rp_step.proofs.Moves.{on_ok}
+use Rattle.rp_engine.specs.declared.units.Program.{Program}
+use Rattle.rp_engine.proofs.Moves.{on_ok}
 use Rattle.rp_step.proofs.Runs.{Switches}
 
 -- what its code does, once it is entered
@@ -64,10 +64,10 @@ entered_call run calls side block within defaults code a s = sym (then_then (pla
 abbrev pub activation : Entry → Oid → ℕ → Activation
 activation e scope k = record { side = e.side; block = e.block; scope = scope; calls = k; handling = None }
 
-module _ (m : Machine) (w : World) (cs : List Caller) (e : Entry) (is_lent : Bool) (made : Option Oid) (n : ℕ) (vs : List Value) where
+module _ (m : Machine) (w : World) (cs : List Caller) (e : Entry) (is_lent : Bool) (made : Option Oid) (n : ℕ) (a : Arguments) where
   -- the call of a function, and what the one who calls gets of it
   abbrev pub asked : Run → Outcome Value
-  asked base = on_value (calls_within (run_of base m.units.now) m.frame.calls e.function (only vs) (state_of w)) (λ v s. given_by is_lent made v (frame_in base m) s)
+  asked base = on_value (calls_within (run_of base m.units.now) m.frame.calls e.function a (state_of w)) (λ v s. given_by is_lent made v (frame_in base m) s)
 
   -- it is done
   abbrev pub Asked : Machine → List Caller → World → Type 0
@@ -77,22 +77,22 @@ module _ (m : Machine) (w : World) (cs : List Caller) (e : Entry) (is_lent : Boo
     -- no more calls may be made
     pub calls_refused : (base : Run) → m.frame.calls ≡ 0 → asked base ≡ raises RecursionError (codes "calls") (state_of w)
     calls_refused base none =
-        ap (λ j. on_value (calls_within (run_of base m.units.now) j e.function (only vs) (state_of w)) (λ v s. given_by is_lent made v (frame_in base m) s)) none
+        ap (λ j. on_value (calls_within (run_of base m.units.now) j e.function a (state_of w)) (λ v s. given_by is_lent made v (frame_in base m) s)) none
 
     module _ (k : ℕ) (some : m.frame.calls ≡ suc k) (indexed : IsIndexed (program_at m.units.now e.side)) where
       -- the program has no such function
       pub code_refused : (base : Run) → code_at (program_at m.units.now e.side) e.block ≡ None → asked base ≡ not_called (state_of w)
       code_refused base none =
           ap (λ o. on_value o (λ v s. given_by is_lent made v (frame_in base m) s))
-          (ap (λ j. calls_within (run_of base m.units.now) j e.function (only vs) (state_of w)) some
-          ∙ ap (λ c. function_called (run_of base m.units.now) (λ at a s. calls_within (run_of base m.units.now) k at a s) c (only vs) (state_of w)) function.is
-          ∙ ap (λ c. code_called (run_of base m.units.now) (λ at a s. calls_within (run_of base m.units.now) k at a s) e.side e.block e.within function.defaults c (only vs) (state_of w))
+          (ap (λ j. calls_within (run_of base m.units.now) j e.function a (state_of w)) some
+          ∙ ap (λ c. function_called (run_of base m.units.now) (λ at a s. calls_within (run_of base m.units.now) k at a s) c a (state_of w)) function.is
+          ∙ ap (λ c. code_called (run_of base m.units.now) (λ at a s. calls_within (run_of base m.units.now) k at a s) e.side e.block e.within function.defaults c a (state_of w))
           (sym (indexed.code e.block) ∙ ap (option_map code_view) none))
 
       module _ (code : Code) (coded : code_at (program_at m.units.now e.side) e.block ≡ Some code) where
         -- what is done before its code runs
         abbrev pub first : Outcome Oid
-        first = entered e.side e.block e.within (length (locals_of (program_at m.units.now e.side).layouts e.block)) (params_of (code_view code)) (defaults_at w.store.heap e.function) (only vs) (state_of w)
+        first = entered e.side e.block e.within (length (locals_of (program_at m.units.now e.side).layouts e.block)) (params_of (code_view code)) (defaults_at w.store.heap e.function) a (state_of w)
 
         module _ (base : Run) where
           abbrev run : Run
@@ -110,13 +110,13 @@ module _ (m : Machine) (w : World) (cs : List Caller) (e : Entry) (is_lent : Boo
           defaults_are : function.defaults ≡ defaults_at w.store.heap e.function
           defaults_are = sym (ap (λ (c : Option Content). option_map_or defaults_in c []) function.is)
 
-          function_is : calls_within run m.frame.calls e.function (only vs) (state_of w) ≡ on_value first runs
+          function_is : calls_within run m.frame.calls e.function a (state_of w) ≡ on_value first runs
           function_is =
-              ap (λ j. calls_within run j e.function (only vs) (state_of w)) some
-              ∙ ap (λ c. function_called run inner c (only vs) (state_of w)) function.is
-              ∙ ap (λ c. code_called run inner e.side e.block e.within function.defaults c (only vs) (state_of w)) code_is
-              ∙ entered_call run inner e.side e.block e.within function.defaults (code_view code) (only vs) (state_of w)
-              ∙ ap (λ ds. on_value (entered e.side e.block e.within (length (locals_of (program_at m.units.now e.side).layouts e.block)) (params_of (code_view code)) ds (only vs) (state_of w)) runs) defaults_are
+              ap (λ j. calls_within run j e.function a (state_of w)) some
+              ∙ ap (λ c. function_called run inner c a (state_of w)) function.is
+              ∙ ap (λ c. code_called run inner e.side e.block e.within function.defaults c a (state_of w)) code_is
+              ∙ entered_call run inner e.side e.block e.within function.defaults (code_view code) a (state_of w)
+              ∙ ap (λ ds. on_value (entered e.side e.block e.within (length (locals_of (program_at m.units.now e.side).layouts e.block)) (params_of (code_view code)) ds a (state_of w)) runs) defaults_are
 
           call_is : asked base ≡ on_value (on_value first runs) (λ v s. given_by is_lent made v (frame_in base m) s)
           call_is = ap (λ o. on_value o (λ v s. given_by is_lent made v (frame_in base m) s)) function_is
@@ -137,9 +137,9 @@ module _ (m : Machine) (w : World) (cs : List Caller) (e : Entry) (is_lent : Boo
             (IsEnd-then end (state_of v) (on_value first (runs base)) (λ v s. given_by is_lent made v (frame_in base m) s) (IsEnd-then end (state_of v) first (runs base) is))))) law
 
 -- no reference is called
-pub rock_refused : (m : Machine) (w : World) (n : ℕ) (base : Run) → callee_of (top (drop n m.values)) ≡ None
-    → called (top (drop n m.values)) (only (reverse (take n m.values))) (frame_in base m) (state_of w) ≡ not_called (state_of w)
-rock_refused m w n base is = ap (λ c. called_by c (only (reverse (take n m.values))) (frame_in base m) (state_of w)) is
+pub rock_refused : (m : Machine) (w : World) (n : ℕ) (a : Arguments) (base : Run) → callee_of (top (drop n m.values)) ≡ None
+    → called (top (drop n m.values)) a (frame_in base m) (state_of w) ≡ not_called (state_of w)
+rock_refused m w n a base is = ap (λ c. called_by c a (frame_in base m) (state_of w)) is
 
 -- what was refused is what was to be done
 pub refused_ok : (m : Machine) (w : World) (cs : List Caller) (n : ℕ) (q : Runner) (r : Result (Unit {0}) Halt) (kind : Kind) (text : List ℕ) (found : Run → Outcome Value)
@@ -152,28 +152,23 @@ refused_ok m w cs n q r kind text found is law =
     (λ law base. law base (state_of w) ∙ ap (λ o. unwound base cs (rest m.tasks (gave (frame_in base m) (drop (suc n) m.values) o))) (sym (is base))) law
 
 -- a call of the object at a place was asked for
-pub asked_at : (m : Machine) (w v : World) (cs : List Caller) (n : ℕ) (q : Runner) (r : Result (Unit {0}) Halt) (c : Oid × Bool) → callee_of (top (drop n m.values)) ≡ Some c
-    → OnOk r ((base : Run) → whole_of base q (state_of v) ≡ unwound base cs (rest m.tasks (gave (frame_in base m) (drop (suc n) m.values) (called_by (Some c) (only (reverse (take n m.values))) (frame_in base m) (state_of w)))))
-    → OnOk r ((base : Run) → whole_of base q (state_of v) ≡ unwound base cs (rest m.tasks (gave (frame_in base m) (drop (suc n) m.values) (called (top (drop n m.values)) (only (reverse (take n m.values))) (frame_in base m) (state_of w)))))
-asked_at m w v cs n q r c is law =
-    on_ok r ((base : Run) → whole_of base q (state_of v) ≡ unwound base cs (rest m.tasks (gave (frame_in base m) (drop (suc n) m.values) (called_by (Some c) (only (reverse (take n m.values))) (frame_in base m) (state_of w)))))
-    ((base : Run) → whole_of base q (state_of v) ≡ unwound base cs (rest m.tasks (gave (frame_in base m) (drop (suc n) m.values) (called (top (drop n m.values)) (only (reverse (take n m.values))) (frame_in base m) (state_of w)))))
-    (λ law base. law base ∙ ap (λ x. unwound base cs (rest m.tasks (gave (frame_in base m) (drop (suc n) m.values) (called_by x (only (reverse (take n m.values))) (frame_in base m) (state_of w))))) (sym is)) law
-
-all_only : (o : Option Value) (vs : List Value) → before_all o (only vs) ≡ only (before o vs)
-all_only None vs = refl
-all_only (Some v) vs = refl
+pub asked_at : (m : Machine) (w v : World) (cs : List Caller) (n : ℕ) (a : Arguments) (q : Runner) (r : Result (Unit {0}) Halt) (c : Oid × Bool) → callee_of (top (drop n m.values)) ≡ Some c
+    → OnOk r ((base : Run) → whole_of base q (state_of v) ≡ unwound base cs (rest m.tasks (gave (frame_in base m) (drop (suc n) m.values) (called_by (Some c) a (frame_in base m) (state_of w)))))
+    → OnOk r ((base : Run) → whole_of base q (state_of v) ≡ unwound base cs (rest m.tasks (gave (frame_in base m) (drop (suc n) m.values) (called (top (drop n m.values)) a (frame_in base m) (state_of w)))))
+asked_at m w v cs n a q r c is law =
+    on_ok r ((base : Run) → whole_of base q (state_of v) ≡ unwound base cs (rest m.tasks (gave (frame_in base m) (drop (suc n) m.values) (called_by (Some c) a (frame_in base m) (state_of w)))))
+    ((base : Run) → whole_of base q (state_of v) ≡ unwound base cs (rest m.tasks (gave (frame_in base m) (drop (suc n) m.values) (called (top (drop n m.values)) a (frame_in base m) (state_of w)))))
+    (λ law base. law base ∙ ap (λ x. unwound base cs (rest m.tasks (gave (frame_in base m) (drop (suc n) m.values) (called_by x a (frame_in base m) (state_of w))))) (sym is)) law
 
 -- a call of an object is one of a function
-pub calls_it : (m : Machine) (w v : World) (cs : List Caller) (n : ℕ) (q : Runner) (r : Result (Unit {0}) Halt) (at : Oid) (is_lent : Bool) (c : Callable) → IsCallableAt w.store.heap at c
-    → OnOk r ((base : Run) → whole_of base q (state_of v) ≡ unwound base cs (rest m.tasks (gave (frame_in base m) (drop (suc n) m.values) (asked m w cs c.entry is_lent None n (before c.receiver (reverse (take n m.values))) base))))
-    → OnOk r ((base : Run) → whole_of base q (state_of v) ≡ unwound base cs (rest m.tasks (gave (frame_in base m) (drop (suc n) m.values) (called_by (Some (at, is_lent)) (only (reverse (take n m.values))) (frame_in base m) (state_of w)))))
-calls_it m w v cs n q r at is_lent c h law =
-    on_ok r ((base : Run) → whole_of base q (state_of v) ≡ unwound base cs (rest m.tasks (gave (frame_in base m) (drop (suc n) m.values) (asked m w cs c.entry is_lent None n (before c.receiver (reverse (take n m.values))) base))))
-    ((base : Run) → whole_of base q (state_of v) ≡ unwound base cs (rest m.tasks (gave (frame_in base m) (drop (suc n) m.values) (called_by (Some (at, is_lent)) (only (reverse (take n m.values))) (frame_in base m) (state_of w)))))
+pub calls_it : (m : Machine) (w v : World) (cs : List Caller) (n : ℕ) (a : Arguments) (q : Runner) (r : Result (Unit {0}) Halt) (at : Oid) (is_lent : Bool) (c : Callable) → IsCallableAt w.store.heap at c
+    → OnOk r ((base : Run) → whole_of base q (state_of v) ≡ unwound base cs (rest m.tasks (gave (frame_in base m) (drop (suc n) m.values) (asked m w cs c.entry is_lent None n (before_all c.receiver a) base))))
+    → OnOk r ((base : Run) → whole_of base q (state_of v) ≡ unwound base cs (rest m.tasks (gave (frame_in base m) (drop (suc n) m.values) (called_by (Some (at, is_lent)) a (frame_in base m) (state_of w)))))
+calls_it m w v cs n a q r at is_lent c h law =
+    on_ok r ((base : Run) → whole_of base q (state_of v) ≡ unwound base cs (rest m.tasks (gave (frame_in base m) (drop (suc n) m.values) (asked m w cs c.entry is_lent None n (before_all c.receiver a) base))))
+    ((base : Run) → whole_of base q (state_of v) ≡ unwound base cs (rest m.tasks (gave (frame_in base m) (drop (suc n) m.values) (called_by (Some (at, is_lent)) a (frame_in base m) (state_of w)))))
     (λ law base. law base ∙ ap (λ o. unwound base cs (rest m.tasks (gave (frame_in base m) (drop (suc n) m.values) (on_value o (λ v s. got_by is_lent v (frame_in base m) s)))))
-    (ap (λ a. calls_within (run_of base m.units.now) m.frame.calls c.entry.function a (state_of w)) (sym (all_only c.receiver (reverse (take n m.values))))
-    ∙ sym (h.called (only (reverse (take n m.values))) (frame_in base m) (state_of w) refl))) law
+    (sym (h.called a (frame_in base m) (state_of w) refl))) law
 
 pub one_less : (n : ℕ) → 0 < n → n ≡ suc (n - 1)
 one_less n some = omega arith
@@ -216,12 +211,12 @@ pub function_named : (heap : List Owned) (e : Entry) → IsFunctionAt heap e →
 function_named heap e h = subst (λ (c : Option Content). IsSomeAnd c IsFunction) (sym h.is) tt
 
 -- the scope of the code is that of the meaning
-pub enters_as : (e : Entry) (defaults : List Value) (s : State) (r : Result (Option Oid) OpEnd) (t : State) (ps qs : PureParams) (i j : ℕ) (us vs : List Value) → ps ≡ qs → i ≡ j → us ≡ vs
-    → ComesIfAny r t (entered e.side e.block e.within i ps defaults (only us) s) → ComesIfAny r t (entered e.side e.block e.within j qs defaults (only vs) s)
+pub enters_as : (e : Entry) (defaults : List Value) (s : State) (r : Result (Option Oid) OpEnd) (t : State) (ps qs : PureParams) (i j : ℕ) (us vs : Arguments) → ps ≡ qs → i ≡ j → us ≡ vs
+    → ComesIfAny r t (entered e.side e.block e.within i ps defaults us s) → ComesIfAny r t (entered e.side e.block e.within j qs defaults vs s)
 enters_as e defaults s r t ps qs i j us vs params counted all is =
-    subst (λ ps. ComesIfAny r t (entered e.side e.block e.within j ps defaults (only vs) s)) params
-    (subst (λ i. ComesIfAny r t (entered e.side e.block e.within i ps defaults (only vs) s)) counted
-    (subst (λ us. ComesIfAny r t (entered e.side e.block e.within i ps defaults (only us) s)) all is))
+    subst (λ ps. ComesIfAny r t (entered e.side e.block e.within j ps defaults vs s)) params
+    (subst (λ i. ComesIfAny r t (entered e.side e.block e.within i ps defaults vs s)) counted
+    (subst (λ us. ComesIfAny r t (entered e.side e.block e.within i ps defaults us s)) all is))
 
 -- what an answer tells
 module _ (r : Result (Option Oid) OpEnd) (s : State) (o : Outcome Oid) where

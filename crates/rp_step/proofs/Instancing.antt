@@ -11,7 +11,7 @@ use Rattle.rp_base.specs.declared.value.Side.{Side}
 use Rattle.rp_base.specs.declared.value.Value.{Value}
 use Rattle.rp_base.specs.declared.value.Value.TheVariants as value
 use Rattle.rp_base.specs.declared.word.TheConstants.{INIT}
-use Rattle.rp_meaning.specs.Binding.{Arguments, behind, only}
+use Rattle.rp_meaning.specs.Binding.{Arguments, behind, none}
 use Rattle.rp_meaning.specs.Calls.{found_call, made_instance, object_call}
 use Rattle.rp_meaning.specs.Frame.{Frame, Run}
 use Rattle.rp_meaning.specs.Running.{calls_within}
@@ -28,17 +28,19 @@ use Rattle.rp_meaning.proofs.Laws.{then_then}
 use Rattle.rp_access.proofs.Going.{IsEnd-same, IsEnd-then, gives-then}
 use Rattle.rp_enter.specs.Entering.{instance_made, lent_by}
 use Rattle.rp_proxy.specs.Taken.{taken}
-use Rattle.rp_step.specs.Callables.{IsCallWith, before, given_by, initialised}
-use Rattle.rp_step.specs.DefinitionSteps.{called_by, got_by}
-use Rattle.rp_step.specs.Law.{frame_in, rest_of}
-use Rattle.rp_step.specs.Moment.{run_of}
-use Rattle.rp_step.specs.Rest.{gave, rest}
+use Rattle.rp_step.specs.Callables.{IsCallWith, before_all, given_by, initialised}
+use Rattle.rp_engine.specs.DefinitionSteps.{called_by, got_by}
+use Rattle.rp_engine.specs.HandSteps.{held_by, size_of}
+use Rattle.rp_engine.specs.Law.{frame_in, rest_of}
+use Rattle.rp_engine.specs.Moment.{run_of}
+use Rattle.rp_engine.specs.Rest.{gave, rest}
 use Rattle.rp_step.specs.Running.{CallsAt, Enters, Instances, unwound, whole_of}
 use Rattle.rp_step.specs.declared.callables.Callable.{Callable}
-use Rattle.rp_step.specs.declared.halt.Halt.{Halt}
-use Rattle.rp_step.specs.declared.machine.Machine.{Machine}
+use Rattle.rp_engine.specs.declared.calling.Hand.{Hand}
+use Rattle.rp_engine.specs.declared.halt.Halt.{Halt}
+use Rattle.rp_engine.specs.declared.machine.Machine.{Machine}
 use Rattle.rp_step.specs.declared.runner.Runner.{Runner}
-use Rattle.rp_step.proofs.Moves.{on_ok}
+use Rattle.rp_engine.proofs.Moves.{on_ok}
 
 -- a class is called
 class_call : (at : Oid) (owner : Side) (c : Content) (a : Arguments) (f : Frame) (s : State) → IsClass c
@@ -62,18 +64,18 @@ found_class at (Some o) owner a f s is owned =
       owner_in None other = other
       owner_in (Some owner) other = owner
 
-pub calls_class : (r q : Runner) (w v : World) (n : ℕ) (at : Oid) (lent : Bool) (res : Result (Unit {0}) Halt) (owner : Side) → Names w.store.heap IsClass at → owner_at w.store.heap at ≡ Some owner
-    → OnOk res (Instances n owner at (method_at w.store.heap at INIT) lent r w q v) → OnOk res (CallsAt n at lent r w q v)
-calls_class r q w v n at lent res owner class owned law =
-    on_ok res (Instances n owner at (method_at w.store.heap at INIT) lent r w q v) (CallsAt n at lent r w q v)
-    (λ law base. law base ∙ ap (λ o. unwound base r.callers.items (rest r.machine.tasks (gave (frame_in base r.machine) (drop (suc n) r.machine.values)
+pub calls_class : (r q : Runner) (w v : World) (h : Hand) (at : Oid) (lent : Bool) (res : Result (Unit {0}) Halt) (owner : Side) → Names w.store.heap IsClass at → owner_at w.store.heap at ≡ Some owner
+    → OnOk res (Instances h owner at (method_at w.store.heap at INIT) lent r w q v) → OnOk res (CallsAt h at lent r w q v)
+calls_class r q w v h at lent res owner class owned law =
+    on_ok res (Instances h owner at (method_at w.store.heap at INIT) lent r w q v) (CallsAt h at lent r w q v)
+    (λ law base. law base ∙ ap (λ o. unwound base r.callers.items (rest r.machine.tasks (gave (frame_in base r.machine) (drop (suc (size_of h)) r.machine.values)
     (on_value o (λ x s. got_by lent x (frame_in base r.machine) s)))))
-    (sym (found_class at (slice_get w.store.heap at.0) owner (only (reverse (take n r.machine.values))) (frame_in base r.machine) (state_of w) class owned))) law
+    (sym (found_class at (slice_get w.store.heap at.0) owner (held_by h r.machine.values) (frame_in base r.machine) (state_of w) class owned))) law
 
 -- by what it has for `__init__`
-pub init_as : (r q : Runner) (w v : World) (n : ℕ) (owner : Side) (class : Oid) (lent : Bool) (res : Result (Unit {0}) Halt) (init found : Option Oid) → init ≡ found
-    → OnOk res (Instances n owner class found lent r w q v) → OnOk res (Instances n owner class init lent r w q v)
-init_as r q w v n owner class lent res init found is law = subst (λ x. OnOk res (Instances n owner class x lent r w q v)) (sym is) law
+pub init_as : (r q : Runner) (w v : World) (h : Hand) (owner : Side) (class : Oid) (lent : Bool) (res : Result (Unit {0}) Halt) (init found : Option Oid) → init ≡ found
+    → OnOk res (Instances h owner class found lent r w q v) → OnOk res (Instances h owner class init lent r w q v)
+init_as r q w v h owner class lent res init found is law = subst (λ x. OnOk res (Instances h owner class x lent r w q v)) (sym is) law
 
 -- what was answered when it was made
 module _ (r : Result Oid OpEnd) (s : State) (o : Outcome Oid) where
@@ -85,56 +87,52 @@ module _ (r : Result Oid OpEnd) (s : State) (o : Outcome Oid) where
 
 -- without `__init__` there are no arguments
 
-none_by : (xs : List Value) → (length xs == 0) ≡ true → xs ≡ []
-none_by xs empty = nil_from_length xs (grind (arith, nat_tests))
+bare_wrong : (owner : Side) (class : Oid) (ns : List (List ℕ × Value)) (vs : List Value) (f : Frame) (s : State) → (ns ≡ [] → vs ≢ [])
+    → made_instance owner class None (record { plain = vs; named = ns }) f s ≡ raises TypeError (codes "arguments") s
+bare_wrong owner class [] [] f s some = absurd (some refl refl)
+bare_wrong owner class [] (v ∷ vs) f s some = refl
+bare_wrong owner class (n ∷ ns) vs f s some = refl
 
-pub are_none : (xs ys : List Value) (b : Bool) → xs ≡ ys → b ≡ (length xs == 0) → b ≡ true → ys ≡ []
-are_none xs ys b same is empty = sym same ∙ none_by xs (sym is ∙ empty)
+pub bare_refused : (owner : Side) (class : Oid) (a : Arguments) (f : Frame) (s : State) → (a.named ≡ [] → a.plain ≢ [])
+    → made_instance owner class None a f s ≡ raises TypeError (codes "arguments") s
+bare_refused owner class a f s some = bare_wrong owner class a.named a.plain f s some
 
-pub are_some : (xs ys : List Value) (b : Bool) → xs ≡ ys → b ≡ (length xs == 0) → b ≡ false → ys ≢ []
-are_some [] ys b same is some = λ none. absurd (true≢false (sym is ∙ some))
-are_some (x ∷ xs) ys b same is some = λ none. let k : (x ∷ xs) ≡ [] = same ∙ none in absurd (cc)
+bare_made : (owner : Side) (class : Oid) (a : Arguments) (f : Frame) (s : State) → a ≡ none
+    → made_instance owner class None a f s ≡ on_value (instance_made owner class s) (λ at s. gives (value.Ref at) s)
+bare_made owner class a f s nothing = ap (λ a. made_instance owner class None a f s) nothing
 
-pub bare_refused : (owner : Side) (class : Oid) (vs : List Value) (f : Frame) (s : State) → vs ≢ [] → made_instance owner class None (only vs) f s ≡ raises TypeError (codes "arguments") s
-bare_refused owner class [] f s some = absurd (some refl)
-bare_refused owner class (v ∷ vs) f s some = refl
-
-bare_made : (owner : Side) (class : Oid) (vs : List Value) (f : Frame) (s : State) → vs ≡ []
-    → made_instance owner class None (only vs) f s ≡ on_value (instance_made owner class s) (λ at s. gives (value.Ref at) s)
-bare_made owner class vs f s none = ap (λ vs. made_instance owner class None (only vs) f s) none
-
-pub bare_asked_refused : (r : Runner) (w : World) (n : ℕ) (owner : Side) (class : Oid) (lent : Bool) (base : Run) → reverse (take n r.machine.values) ≢ []
-    → on_value (made_instance owner class None (only (reverse (take n r.machine.values))) (frame_in base r.machine) (state_of w)) (λ x s. got_by lent x (frame_in base r.machine) s)
+pub bare_asked_refused : (r : Runner) (w : World) (a : Arguments) (owner : Side) (class : Oid) (lent : Bool) (base : Run) → (a.named ≡ [] → a.plain ≢ [])
+    → on_value (made_instance owner class None a (frame_in base r.machine) (state_of w)) (λ x s. got_by lent x (frame_in base r.machine) s)
     ≡ raises TypeError (codes "arguments") (state_of w)
-bare_asked_refused r w n owner class lent base some =
-    ap (λ o. on_value o (λ x s. got_by lent x (frame_in base r.machine) s)) (bare_refused owner class (reverse (take n r.machine.values)) (frame_in base r.machine) (state_of w) some)
+bare_asked_refused r w a owner class lent base some =
+    ap (λ o. on_value o (λ x s. got_by lent x (frame_in base r.machine) s)) (bare_refused owner class a (frame_in base r.machine) (state_of w) some)
 
-module _ (r : Runner) (w u : World) (n : ℕ) (owner : Side) (class : Oid) (lent : Bool) (none : reverse (take n r.machine.values) ≡ []) where
-  bare_then : (base : Run) → on_value (made_instance owner class None (only (reverse (take n r.machine.values))) (frame_in base r.machine) (state_of w)) (λ x s. got_by lent x (frame_in base r.machine) s)
+module _ (r : Runner) (w u : World) (h : Hand) (owner : Side) (class : Oid) (lent : Bool) (nothing : held_by h r.machine.values ≡ none) where
+  bare_then : (base : Run) → on_value (made_instance owner class None (held_by h r.machine.values) (frame_in base r.machine) (state_of w)) (λ x s. got_by lent x (frame_in base r.machine) s)
       ≡ on_value (instance_made owner class (state_of w)) (λ at s. got_by lent (value.Ref at) (frame_in base r.machine) s)
   bare_then base =
-      ap (λ o. on_value o (λ x s. got_by lent x (frame_in base r.machine) s)) (bare_made owner class (reverse (take n r.machine.values)) (frame_in base r.machine) (state_of w) none)
+      ap (λ o. on_value o (λ x s. got_by lent x (frame_in base r.machine) s)) (bare_made owner class (held_by h r.machine.values) (frame_in base r.machine) (state_of w) nothing)
       ∙ then_then (instance_made owner class (state_of w)) (λ at s. gives (value.Ref at) s) (λ x s. got_by lent x (frame_in base r.machine) s)
 
   -- it is made
   pub bare_given : (q : Runner) (res : Result (Unit {0}) Halt) (at : Oid) → instance_made owner class (state_of w) ≡ gives at (state_of u)
-      → OnOk res ((base : Run) → whole_of base q (state_of u) ≡ unwound base r.callers.items (rest r.machine.tasks (gave (frame_in base r.machine) (drop (suc n) r.machine.values)
+      → OnOk res ((base : Run) → whole_of base q (state_of u) ≡ unwound base r.callers.items (rest r.machine.tasks (gave (frame_in base r.machine) (drop (suc (size_of h)) r.machine.values)
       (got_by lent (value.Ref at) (frame_in base r.machine) (state_of u)))))
-      → OnOk res (Instances n owner class None lent r w q u)
+      → OnOk res (Instances h owner class None lent r w q u)
   bare_given q res at made law =
-      on_ok res ((base : Run) → whole_of base q (state_of u) ≡ unwound base r.callers.items (rest r.machine.tasks (gave (frame_in base r.machine) (drop (suc n) r.machine.values)
+      on_ok res ((base : Run) → whole_of base q (state_of u) ≡ unwound base r.callers.items (rest r.machine.tasks (gave (frame_in base r.machine) (drop (suc (size_of h)) r.machine.values)
       (got_by lent (value.Ref at) (frame_in base r.machine) (state_of u)))))
-      (Instances n owner class None lent r w q u)
-      (λ law base. law base ∙ ap (λ o. unwound base r.callers.items (rest r.machine.tasks (gave (frame_in base r.machine) (drop (suc n) r.machine.values) o)))
+      (Instances h owner class None lent r w q u)
+      (λ law base. law base ∙ ap (λ o. unwound base r.callers.items (rest r.machine.tasks (gave (frame_in base r.machine) (drop (suc (size_of h)) r.machine.values) o)))
       (sym (bare_then base ∙ gives-then at (state_of u) (instance_made owner class (state_of w)) (λ at s. got_by lent (value.Ref at) (frame_in base r.machine) s) made))) law
 
   -- it is not
   pub bare_ended : (z : Machine) (res : Result (Unit {0}) Halt) (end : OpEnd) → IsEnd end (state_of u) (instance_made owner class (state_of w))
-      → OnOk res ((base : Run) (s : State) (o : Outcome Value) → IsEnd end s o → rest_of base z s ≡ rest r.machine.tasks (gave (frame_in base r.machine) (drop (suc n) r.machine.values) o))
-      → OnOk res (Instances n owner class None lent r w (record r { machine = z }) u)
+      → OnOk res ((base : Run) (s : State) (o : Outcome Value) → IsEnd end s o → rest_of base z s ≡ rest r.machine.tasks (gave (frame_in base r.machine) (drop (suc (size_of h)) r.machine.values) o))
+      → OnOk res (Instances h owner class None lent r w (record r { machine = z }) u)
   bare_ended z res end is law =
-      on_ok res ((base : Run) (s : State) (o : Outcome Value) → IsEnd end s o → rest_of base z s ≡ rest r.machine.tasks (gave (frame_in base r.machine) (drop (suc n) r.machine.values) o))
-      (Instances n owner class None lent r w (record r { machine = z }) u)
+      on_ok res ((base : Run) (s : State) (o : Outcome Value) → IsEnd end s o → rest_of base z s ≡ rest r.machine.tasks (gave (frame_in base r.machine) (drop (suc (size_of h)) r.machine.values) o))
+      (Instances h owner class None lent r w (record r { machine = z }) u)
       (λ law base. ap (unwound base r.callers.items) (law base (state_of u) _ (IsEnd-same end (state_of u) _ _ (bare_then base)
       (IsEnd-then end (state_of u) (instance_made owner class (state_of w)) (λ at s. got_by lent (value.Ref at) (frame_in base r.machine) s) is)))) law
 
@@ -179,32 +177,32 @@ init_ends : (owner : Side) (class function : Oid) (a : Arguments) (f : Frame) (s
     → IsEnd end t (made_instance owner class (Some function) a f s)
 init_ends owner class function a f s t end is = IsEnd-then end t (instance_made owner class s) _ is
 
-module _ (r : Runner) (w u : World) (n : ℕ) (owner : Side) (class function : Oid) (lent : Bool) where
+module _ (r : Runner) (w u : World) (h : Hand) (owner : Side) (class function : Oid) (lent : Bool) where
   pub init_given : (q : Runner) (v : World) (res : Result (Unit {0}) Halt) (at : Oid) → instance_made owner class (state_of w) ≡ gives at (state_of u)
-      → OnOk res (Enters n function (value.Ref at ∷ reverse (take n r.machine.values)) lent (Some at) r u q v)
-      → OnOk res (Instances n owner class (Some function) lent r w q v)
+      → OnOk res (Enters h function (behind (value.Ref at) (held_by h r.machine.values)) lent (Some at) r u q v)
+      → OnOk res (Instances h owner class (Some function) lent r w q v)
   init_given q v res at made law =
-      on_ok res (Enters n function (value.Ref at ∷ reverse (take n r.machine.values)) lent (Some at) r u q v) (Instances n owner class (Some function) lent r w q v)
+      on_ok res (Enters h function (behind (value.Ref at) (held_by h r.machine.values)) lent (Some at) r u q v) (Instances h owner class (Some function) lent r w q v)
       (λ law base.
-      let a = only (reverse (take n r.machine.values)) in
+      let a = held_by h r.machine.values in
       let o = calls_within (run_of base r.machine.units.now) r.machine.frame.calls function (behind (value.Ref at) a) (state_of u) in
-      law base ∙ ap (λ o. unwound base r.callers.items (rest r.machine.tasks (gave (frame_in base r.machine) (drop (suc n) r.machine.values) o)))
+      law base ∙ ap (λ o. unwound base r.callers.items (rest r.machine.tasks (gave (frame_in base r.machine) (drop (suc (size_of h)) r.machine.values) o)))
       (sym (ap (λ o. on_value o (λ x s. got_by lent x (frame_in base r.machine) s)) (init_is owner class function at a (frame_in base r.machine) (state_of w) (state_of u) made o refl)
       ∙ then_then o (λ x s. initialised at x s) (λ x s. got_by lent x (frame_in base r.machine) s)))) law
 
   pub init_ended : (z : Machine) (res : Result (Unit {0}) Halt) (end : OpEnd) → IsEnd end (state_of u) (instance_made owner class (state_of w))
-      → OnOk res ((base : Run) (s : State) (o : Outcome Value) → IsEnd end s o → rest_of base z s ≡ rest r.machine.tasks (gave (frame_in base r.machine) (drop (suc n) r.machine.values) o))
-      → OnOk res (Instances n owner class (Some function) lent r w (record r { machine = z }) u)
+      → OnOk res ((base : Run) (s : State) (o : Outcome Value) → IsEnd end s o → rest_of base z s ≡ rest r.machine.tasks (gave (frame_in base r.machine) (drop (suc (size_of h)) r.machine.values) o))
+      → OnOk res (Instances h owner class (Some function) lent r w (record r { machine = z }) u)
   init_ended z res end is law =
-      on_ok res ((base : Run) (s : State) (o : Outcome Value) → IsEnd end s o → rest_of base z s ≡ rest r.machine.tasks (gave (frame_in base r.machine) (drop (suc n) r.machine.values) o))
-      (Instances n owner class (Some function) lent r w (record r { machine = z }) u)
+      on_ok res ((base : Run) (s : State) (o : Outcome Value) → IsEnd end s o → rest_of base z s ≡ rest r.machine.tasks (gave (frame_in base r.machine) (drop (suc (size_of h)) r.machine.values) o))
+      (Instances h owner class (Some function) lent r w (record r { machine = z }) u)
       (λ law base. ap (unwound base r.callers.items) (law base (state_of u) _ (IsEnd-then end (state_of u) _ (λ x s. got_by lent x (frame_in base r.machine) s)
-      (init_ends owner class function (only (reverse (take n r.machine.values))) (frame_in base r.machine) (state_of w) (state_of u) end is)))) law
+      (init_ends owner class function (held_by h r.machine.values) (frame_in base r.machine) (state_of w) (state_of u) end is)))) law
 
   -- the function that is called stands at its place
   pub init_enters : (q : Runner) (v : World) (res : Result (Unit {0}) Halt) (at : Oid) (c : Callable) → IsCallWith u.store.heap function (Some (value.Ref at)) c
-      → OnOk res (Enters n c.entry.function (before c.receiver (reverse (take n r.machine.values))) lent (Some at) r u q v)
-      → OnOk res (Enters n function (value.Ref at ∷ reverse (take n r.machine.values)) lent (Some at) r u q v)
-  init_enters q v res at c h law =
-      subst (λ place. OnOk res (Enters n place (value.Ref at ∷ reverse (take n r.machine.values)) lent (Some at) r u q v)) h.place
-      (subst (λ o. OnOk res (Enters n c.entry.function (before o (reverse (take n r.machine.values))) lent (Some at) r u q v)) h.receiver law)
+      → OnOk res (Enters h c.entry.function (before_all c.receiver (held_by h r.machine.values)) lent (Some at) r u q v)
+      → OnOk res (Enters h function (behind (value.Ref at) (held_by h r.machine.values)) lent (Some at) r u q v)
+  init_enters q v res at c is law =
+      subst (λ place. OnOk res (Enters h place (behind (value.Ref at) (held_by h r.machine.values)) lent (Some at) r u q v)) is.place
+      (subst (λ o. OnOk res (Enters h c.entry.function (before_all o (held_by h r.machine.values)) lent (Some at) r u q v)) is.receiver law)

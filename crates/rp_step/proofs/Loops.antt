@@ -14,7 +14,7 @@ use Rattle.rp_ops.specs.Operand.{truth_of}
 use Rattle.rp_ops.specs.Outcome.{gives, on_value}
 use Rattle.rp_proxy.specs.Decide.{Decision}
 use Rattle.rp_access.specs.Parts.{step_end}
-use Rattle.rp_step.specs.Rest.{loop, tested_turn, turn}
+use Rattle.rp_engine.specs.Rest.{loop, tested_turn, turn}
 use Rattle.rp_access.proofs.Going.{on_same}
 
 -- the loop goes on from a part of a turn

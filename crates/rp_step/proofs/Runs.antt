@@ -31,14 +31,14 @@ use Rattle.rp_access.specs.Moment.{state_of}
 use Rattle.rp_access.proofs.Going.{raises_end}
 use Rattle.rp_codes.specs.Codes.{code_view}
 use Rattle.rp_step.specs.Callables.{given_by, initialised, is_nil}
-use Rattle.rp_step.specs.DefinitionSteps.{got_by}
-use Rattle.rp_step.specs.Law.{Leaves, frame_in, rest_of}
-use Rattle.rp_step.specs.Moment.{frame_of, program_at, run_of}
-use Rattle.rp_step.specs.Ready.{IsReady}
-use Rattle.rp_step.specs.Ends.{end_of}
-use Rattle.rp_step.specs.Does as does
-use Rattle.rp_step.specs.Rest.{Held, begun, did, gave, rest}
-use Rattle.rp_step.proofs.Equations.{stmts_are}
+use Rattle.rp_engine.specs.DefinitionSteps.{got_by}
+use Rattle.rp_engine.specs.Law.{Leaves, frame_in, rest_of}
+use Rattle.rp_engine.specs.Moment.{frame_of, program_at, run_of}
+use Rattle.rp_engine.specs.Ready.{IsReady}
+use Rattle.rp_engine.specs.Ends.{end_of}
+use Rattle.rp_engine.specs.Does as does
+use Rattle.rp_engine.specs.Rest.{Held, begun, did, gave, rest}
+use Rattle.rp_engine.proofs.Equations.{stmts_are}
 use Rattle.rp_tree.specs.ExpressionViews.{view_expr, view_params}
 use Rattle.rp_tree.specs.StatementViews.{view_stmts}
 use Rattle.rp_tree.specs.declared.expr.Expr.{Expr}
@@ -46,14 +46,14 @@ use Rattle.rp_tree.specs.declared.expr.Params.{Params}
 use Rattle.rp_tree.specs.declared.stmt.Stmt.{Stmt}
 use Rattle.rp_step.specs.Running.{GoesOn, IsRunnable, IsWaiting, given, got, resumed, unwound, whole_of}
 use Rattle.rp_step.specs.declared.callers.Caller.{Caller}
-use Rattle.rp_step.specs.declared.halt.Halt.{Halt}
-use Rattle.rp_step.specs.declared.machine.Machine.{Machine}
+use Rattle.rp_engine.specs.declared.halt.Halt.{Halt}
+use Rattle.rp_engine.specs.declared.machine.Machine.{Machine}
 use Rattle.rp_step.specs.declared.runner.Runner.{Runner}
 use Rattle.rp_codes.specs.declared.code.Code.{Code}
-use Rattle.rp_step.specs.declared.units.Units.{Units}
-use Rattle.rp_step.proofs.AtHand.{drop_ready}
-use Rattle.rp_step.proofs.Moves.{on_ok}
-use Rattle.rp_step.proofs.Worlds.{IsReady-goes}
+use Rattle.rp_engine.specs.declared.units.Units.{Units}
+use Rattle.rp_engine.proofs.AtHand.{drop_ready}
+use Rattle.rp_engine.proofs.Moves.{on_ok}
+use Rattle.rp_engine.proofs.Worlds.{IsReady-goes}
 
 -- the caller that was put last goes on first
 pub unwound_last : (base : Run) (cs : List Caller) (c : Caller) (h : Held) → unwound base (cs ++ c ∷ []) h ≡ unwound base cs (rest c.tasks (resumed base c h))

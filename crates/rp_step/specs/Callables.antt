@@ -1,13 +1,14 @@
 -- What a call of an object runs, and what the one who calls gets of it.
-use Rattle.std.specs.Prelude.{◌≡◌, Bool, true, false, IfSome, List, ◌∷◌, Option, Some, None, codes, slice_get}
+use Rattle.std.specs.Prelude.{◌≡◌, Bool, true, false, IfSome, List, Option, Some, None, codes, slice_get}
 use Rattle.rp_base.specs.declared.kind.Kind.TheVariants.{TypeError}
 use Rattle.rp_base.specs.declared.value.Name.{Name}
 use Rattle.rp_base.specs.declared.value.Oid.{Oid}
 use Rattle.rp_base.specs.declared.value.Rock.TheVariants as rock
 use Rattle.rp_base.specs.declared.value.Value.{Value}
 use Rattle.rp_base.specs.declared.value.Value.TheVariants as value
+pub use Rattle.rp_enter.specs.Entering.{before_all}
 use Rattle.rp_enter.specs.declared.entering.Entry.{Entry}
-use Rattle.rp_meaning.specs.Binding.{Arguments, behind}
+use Rattle.rp_meaning.specs.Binding.{Arguments}
 use Rattle.rp_meaning.specs.Calls.{found_call}
 use Rattle.rp_meaning.specs.Frame.{Frame, Meaning}
 use Rattle.rp_meaning.specs.State.{State, Outcome, heap_of}
@@ -15,7 +16,7 @@ use Rattle.rp_ops.specs.Outcome.{gives, on_value, raises}
 use Rattle.rp_store.specs.Heap.{Owned, content_at}
 use Rattle.rp_store.specs.Kept.{IsScopeOf, IsSound}
 use Rattle.rp_store.specs.Object as object
-use Rattle.rp_step.specs.DefinitionSteps.{got_by}
+use Rattle.rp_engine.specs.DefinitionSteps.{got_by}
 use Rattle.rp_step.specs.declared.callables.Callable.{Callable}
 
 -- what stands at a place is this function
@@ -24,16 +25,6 @@ pub record IsFunctionAt (heap : List Owned) (e : Entry) : Type 0 where
   pub defaults : List Value
   pub is : content_at heap e.function ≡ Some (object.function name e.side e.block e.within defaults)
   pub scope : IsScopeOf heap e.side e.within
-
--- a value before the arguments, where there is one
-
-abbrev pub before : Option Value → List Value → List Value
-before None vs = vs
-before (Some v) vs = v ∷ vs
-
-abbrev pub before_all : Option Value → Arguments → Arguments
-before_all None a = a
-before_all (Some v) a = behind v a
 
 -- the function at a place, behind this value
 pub record IsCallWith (heap : List Owned) (at : Oid) (first : Option Value) (c : Callable) : Type 0 where

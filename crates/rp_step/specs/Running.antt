@@ -1,10 +1,11 @@
 -- What a run of code still has to do, where code waits for the ends of calls that it made.
-use Rattle.std.specs.Prelude.{◌≡◌, ℕ, suc, All, Bool, IfSome, List, [], ◌∷◌, Option, Some, drop, reverse, take}
+use Rattle.std.specs.Prelude.{◌≡◌, ℕ, suc, All, Bool, IfSome, List, [], ◌∷◌, Option, Some, drop}
 use Rattle.rp_base.specs.declared.value.Oid.{Oid}
 use Rattle.rp_base.specs.declared.value.Side.{Side}
 use Rattle.rp_base.specs.declared.value.Value.{Value}
 use Rattle.rp_base.specs.declared.value.Value.TheVariants as value
-use Rattle.rp_meaning.specs.Binding.{only}
+use Rattle.rp_frame.specs.Top.{top}
+use Rattle.rp_meaning.specs.Binding.{Arguments}
 use Rattle.rp_meaning.specs.Calls.{made_instance}
 use Rattle.rp_meaning.specs.Frame.{Run}
 use Rattle.rp_meaning.specs.Running.{calls_within, value_of}
@@ -13,13 +14,14 @@ use Rattle.rp_ops.specs.Outcome.{on_value}
 use Rattle.rp_proxy.specs.declared.world.World.{World}
 use Rattle.rp_store.specs.Kept.{IsSound}
 use Rattle.rp_step.specs.Callables.{given_by}
-use Rattle.rp_step.specs.DefinitionSteps.{called_by, got_by}
-use Rattle.rp_step.specs.Law.{frame_in, rest_of}
-use Rattle.rp_step.specs.Moment.{frame_of, run_of}
-use Rattle.rp_step.specs.Ready.{IsReady}
-use Rattle.rp_step.specs.Rest.{Held, begun, gave, did, rest}
-use Rattle.rp_frame.specs.declared.control.Control.TheVariants as control
+use Rattle.rp_engine.specs.DefinitionSteps.{called, called_by, got_by}
+use Rattle.rp_engine.specs.HandSteps.{held_by, size_of}
+use Rattle.rp_engine.specs.Law.{frame_in, rest_of}
+use Rattle.rp_engine.specs.Moment.{frame_of, run_of}
+use Rattle.rp_engine.specs.Ready.{IsReady}
+use Rattle.rp_engine.specs.Rest.{Held, gave, did, rest}
 use Rattle.rp_step.specs.declared.callers.Caller.{Caller}
+use Rattle.rp_engine.specs.declared.calling.Hand.{Hand}
 use Rattle.rp_step.specs.declared.runner.Runner.{Runner}
 use Rattle.rp_access.specs.Moment.{state_of}
 
@@ -58,26 +60,25 @@ pub record IsRunnable (r : Runner) (w : World) : Type 0 where
   pub machine : IsReady r.machine.units.now r.machine.frame r.machine.values w
   pub callers : All (IsWaiting w) r.callers.items
 
--- what a call of what is at hand leaves to be done; what the control was does not matter
-abbrev pub Makes : ℕ → Runner → World → Runner → World → Type 0
-Makes n r w q v = (base : Run) → whole_of base q (state_of v)
-    ≡ unwound base r.callers.items (rest r.machine.tasks (begun (frame_in base r.machine) (control.Call n) r.machine.values r.machine.end (state_of w)))
+-- what a call leaves to be done that gives this, where so many values and what is called are at hand
+abbrev pub Gives : ℕ → (Run → State → Outcome Value) → Runner → World → Runner → World → Type 0
+Gives size found r w q v = (base : Run) → whole_of base q (state_of v)
+    ≡ unwound base r.callers.items (rest r.machine.tasks (gave (frame_in base r.machine) (drop (suc size) r.machine.values) (found base (state_of w))))
 
--- what a call of the function at a place leaves to be done, where so many arguments and what is called are at hand
-abbrev pub Enters : ℕ → Oid → List Value → Bool → Option Oid → Runner → World → Runner → World → Type 0
-Enters n at args lent made r w q v = (base : Run) → whole_of base q (state_of v)
-    ≡ unwound base r.callers.items (rest r.machine.tasks (gave (frame_in base r.machine) (drop (suc n) r.machine.values)
-    (on_value (calls_within (run_of base r.machine.units.now) r.machine.frame.calls at (only args) (state_of w)) (λ x s. given_by lent made x (frame_in base r.machine) s))))
+-- of what is at hand; what the control was does not matter
+abbrev pub Makes : Hand → Runner → World → Runner → World → Type 0
+Makes h r w q v = Gives (size_of h) (λ base s. called (top (drop (size_of h) r.machine.values)) (held_by h r.machine.values) (frame_in base r.machine) s) r w q v
 
--- what a call of the object at a place leaves to be done, under what is at hand
-abbrev pub CallsAt : ℕ → Oid → Bool → Runner → World → Runner → World → Type 0
-CallsAt n at lent r w q v = (base : Run) → whole_of base q (state_of v)
-    ≡ unwound base r.callers.items (rest r.machine.tasks (gave (frame_in base r.machine) (drop (suc n) r.machine.values)
-    (called_by (Some (at, lent)) (only (reverse (take n r.machine.values))) (frame_in base r.machine) (state_of w))))
+-- of the function at a place
+abbrev pub Enters : Hand → Oid → Arguments → Bool → Option Oid → Runner → World → Runner → World → Type 0
+Enters h at a lent made r w q v = Gives (size_of h) (λ base s.
+    on_value (calls_within (run_of base r.machine.units.now) r.machine.frame.calls at a s) (λ x s. given_by lent made x (frame_in base r.machine) s)) r w q v
 
--- the same of a class of an owner, with this function for `__init__`
-abbrev pub Instances : ℕ → Side → Oid → Option Oid → Bool → Runner → World → Runner → World → Type 0
-Instances n owner class init lent r w q v = (base : Run) → whole_of base q (state_of v)
-    ≡ unwound base r.callers.items (rest r.machine.tasks (gave (frame_in base r.machine) (drop (suc n) r.machine.values)
-    (on_value (made_instance owner class init (only (reverse (take n r.machine.values))) (frame_in base r.machine) (state_of w))
-    (λ x s. got_by lent x (frame_in base r.machine) s))))
+-- of the object at a place
+abbrev pub CallsAt : Hand → Oid → Bool → Runner → World → Runner → World → Type 0
+CallsAt h at lent r w q v = Gives (size_of h) (λ base s. called_by (Some (at, lent)) (held_by h r.machine.values) (frame_in base r.machine) s) r w q v
+
+-- of a class of an owner, with this function for `__init__`
+abbrev pub Instances : Hand → Side → Oid → Option Oid → Bool → Runner → World → Runner → World → Type 0
+Instances h owner class init lent r w q v = Gives (size_of h) (λ base s.
+    on_value (made_instance owner class init (held_by h r.machine.values) (frame_in base r.machine) s) (λ x s. got_by lent x (frame_in base r.machine) s)) r w q v

@@ -20,8 +20,8 @@ pub struct Callable {
 }
 
 /// What a call of the object at a place runs: itself where it is a function, the function of a bound one behind its
-/// receiver, and `__call__` of an instance's class behind the instance (Python Language Reference, Calls). None where it
-/// is none of these.
+/// receiver, and `__call__` of an instance's class behind the instance (Python Language Reference, Calls). None where
+/// it is none of these.
 ///
 /// # Errors
 /// `Memory` where the count of a text's owners is full.

@@ -2,9 +2,8 @@
 
 ghost use Rattle.std.specs.Prelude.{◌≡◌, []};
 
-use crate::machine::Machine;
-use crate::units::Units;
 use rp_base::Oid;
+use rp_engine::{Machine, Units};
 use rp_frame::{Activation, Tasks, Values};
 use std::mem::replace;
 
@@ -22,49 +21,52 @@ pub struct Caller<'u> {
     pub made: Option<Oid>,
 }
 
-impl<'u> Machine<'u> {
-    /// Leaves its code, which then waits for the end of a call, and goes on elsewhere, with no task and no value at
-    /// hand.
-    pub(crate) fn suspend(&mut self, lent: bool, made: Option<Oid>, frame: Activation) -> Caller<'u>
-        ensures caller { result ≡ record {
-          units = self.old.units;
-          frame = self.old.frame;
-          tasks = self.old.tasks;
-          values = self.old.values;
-          lent = lent;
-          made = made;
-        } }
-        ensures left { self.new ≡ record self.old { frame = frame; tasks = []; values = [] } }
-    {
-        Caller {
-            units: self.units,
-            frame: replace(&mut self.frame, frame),
-            tasks: replace(&mut self.tasks, Tasks::new(self.alloc)),
-            values: replace(&mut self.values, Values::new(self.alloc)),
-            lent,
-            made,
-        }
+/// Leaves its code, which then waits for the end of a call, and goes on elsewhere, with no task and no value at
+/// hand.
+pub(crate) fn suspend<'u>(
+    machine: &mut Machine<'u>,
+    lent: bool,
+    made: Option<Oid>,
+    frame: Activation,
+) -> Caller<'u>
+    ensures caller { result ≡ record {
+      units = machine.old.units;
+      frame = machine.old.frame;
+      tasks = machine.old.tasks;
+      values = machine.old.values;
+      lent = lent;
+      made = made;
+    } }
+    ensures left { machine.new ≡ record machine.old { frame = frame; tasks = []; values = [] } }
+{
+    Caller {
+        units: machine.units,
+        frame: replace(&mut machine.frame, frame),
+        tasks: replace(&mut machine.tasks, Tasks::new(machine.alloc)),
+        values: replace(&mut machine.values, Values::new(machine.alloc)),
+        lent,
+        made,
     }
+}
 
-    /// Goes on in code that waited.
-    pub(crate) fn take_over(&mut self, caller: Caller<'u>)
-        ensures { self.new ≡ record self.old {
-          units = caller.entry.units;
-          frame = caller.entry.frame;
-          tasks = caller.entry.tasks;
-          values = caller.entry.values;
-        } }
-    {
-        let Caller {
-            units,
-            frame,
-            tasks,
-            values,
-            ..
-        } = caller;
-        self.units = units;
-        let _frame = replace(&mut self.frame, frame);
-        let _tasks = replace(&mut self.tasks, tasks);
-        let _values = replace(&mut self.values, values);
-    }
+/// Goes on in code that waited.
+pub(crate) fn take_over<'u>(machine: &mut Machine<'u>, caller: Caller<'u>)
+    ensures { machine.new ≡ record machine.old {
+      units = caller.entry.units;
+      frame = caller.entry.frame;
+      tasks = caller.entry.tasks;
+      values = caller.entry.values;
+    } }
+{
+    let Caller {
+        units,
+        frame,
+        tasks,
+        values,
+        ..
+    } = caller;
+    machine.units = units;
+    let _frame = replace(&mut machine.frame, frame);
+    let _tasks = replace(&mut machine.tasks, tasks);
+    let _values = replace(&mut machine.values, values);
 }

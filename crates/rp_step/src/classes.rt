@@ -1,12 +1,14 @@
 //! Calls of classes.
 #![tactic(auto, using(rp_store::proofs::Shapes::goes_on))]
 
-ghost use Rattle.std.specs.Prelude.{◌≡◌, ◌∷◌, None, OnOk, Some, drop, reverse, suc, take};
+ghost use Rattle.std.specs.Prelude.{◌≡◌, None, OnOk, Some, drop, suc};
 ghost use Rattle.rp_access.specs.Moment.{state_of};
 ghost use Rattle.rp_meaning.specs.Frame.{Run};
-ghost use Rattle.rp_step.specs.DefinitionSteps.{got_by};
-ghost use Rattle.rp_step.specs.Law.{frame_in};
-ghost use Rattle.rp_step.specs.Rest.{gave, rest};
+ghost use Rattle.rp_meaning.specs.Binding.{behind};
+ghost use Rattle.rp_engine.specs.DefinitionSteps.{got_by};
+ghost use Rattle.rp_engine.specs.HandSteps.{held_by, size_of};
+ghost use Rattle.rp_engine.specs.Law.{frame_in};
+ghost use Rattle.rp_engine.specs.Rest.{gave, rest};
 ghost use Rattle.rp_store.specs.Heap.{Names, method_at};
 ghost use Rattle.rp_store.specs.Kept.{IsSound};
 ghost use Rattle.rp_store.specs.Parts.{IsClass, IsFunction};
@@ -14,11 +16,12 @@ ghost use Rattle.rp_store.specs.Shape.{KeepsShape};
 ghost use Rattle.rp_step.specs.Running.{CallsAt, Enters, Instances, IsRunnable, unwound, whole_of};
 
 use crate::callables::callable_with;
-use crate::halt::Halt;
 use crate::runner::Runner;
 use rp_base::word::INIT;
 use rp_base::{Kind, Oid, OpEnd, Side, Value};
+use rp_engine::{Halt, Hand};
 use rp_enter::{given, new_instance};
+use rp_expressions::without_hand;
 use rp_proxy::World;
 use rp_store::Object;
 
@@ -32,19 +35,19 @@ impl<'u> Runner<'u> {
     pub(crate) fn call_class(
         &mut self,
         world: &mut World,
-        count: u32,
+        hand: Hand,
         at: Oid,
         lent: bool,
     ) -> Result<(), Halt>
         requires ready { IsRunnable self.old world.old }
         requires sound { IsSound world.old.store.heap (Value.Ref at) }
-        ensures law { OnOk result (CallsAt count at lent self.old world.old self.new world.new) }
+        ensures law { OnOk result (CallsAt hand at lent self.old world.old self.new world.new) }
         ensures ready { OnOk result (IsRunnable self.new world.new) }
         ensures shape { KeepsShape world.old.store.heap world.new.store.heap }
     {
         let owner = world.store.owner(at);
         match world.store.object(at) {
-            Object::Class { .. } => self.instance_of(world, count, owner, at, lent),
+            Object::Class { .. } => self.instance_of(world, hand, owner, at, lent),
             _ => Err(Halt::NotBuilt),
         }
     }
@@ -54,63 +57,70 @@ impl<'u> Runner<'u> {
     fn instance_of(
         &mut self,
         world: &mut World,
-        count: u32,
+        hand: Hand,
         owner: Side,
         class: Oid,
         lent: bool,
     ) -> Result<(), Halt>
         requires ready { IsRunnable self.old world.old }
         requires class { Names world.old.store.heap IsClass class }
-        ensures law { OnOk result (Instances count owner class (method_at world.old.store.heap class INIT) lent
+        ensures law { OnOk result (Instances hand owner class (method_at world.old.store.heap class INIT) lent
             self.old world.old self.new world.new) }
         ensures ready { OnOk result (IsRunnable self.new world.new) }
         ensures shape { KeepsShape world.old.store.heap world.new.store.heap }
     {
         match world.store.method(class, INIT) {
-            Some(function) => self.initialise(world, count, owner, class, function, lent),
-            None => self.bare_instance(world, count, owner, class, lent),
+            Some(function) => self.initialise(world, hand, owner, class, function, lent),
+            None => self.bare_instance(world, hand, owner, class, lent),
         }
     }
 
     /// Makes an instance of a class without `__init__`, which takes no arguments.
+    ///
+    /// # Errors
+    /// `NotBuilt` where the arguments are not at hand, as no call comes to.
     #[inline(always)]
     fn bare_instance(
         &mut self,
         world: &mut World,
-        count: u32,
+        hand: Hand,
         owner: Side,
         class: Oid,
         lent: bool,
     ) -> Result<(), Halt>
         requires ready { IsRunnable self.old world.old }
         requires class { Names world.old.store.heap IsClass class }
-        ensures law { OnOk result (Instances count owner class None lent self.old world.old self.new world.new) }
+        ensures law { OnOk result (Instances hand owner class None lent self.old world.old self.new world.new) }
         ensures ready { OnOk result (IsRunnable self.new world.new) }
         ensures shape { KeepsShape world.old.store.heap world.new.store.heap }
     {
-        if !self.machine.values.last(count as usize).is_empty() {
-            return self.refuse(count, Kind::TypeError, "arguments");
+        let size = hand.size();
+        if self.machine.values.last(size).len() < size {
+            return Err(Halt::NotBuilt);
+        }
+        if size > 0 {
+            return self.refuse(hand, Kind::TypeError, "arguments");
         }
         match new_instance(self.machine.alloc, world, owner, class) {
-            Ok(at) => self.give_instance(world, count, at, lent),
+            Ok(at) => self.give_instance(world, hand, at, lent),
             Err(OpEnd::Memory) => Err(Halt::Memory),
-            Err(end) => self.machine.without_result(count, end),
+            Err(end) => without_hand(&mut self.machine, hand, end),
         }
     }
 
     /// The one who calls gets an instance that was made; the class and the arguments are dropped.
     #[inline(always)]
-    fn give_instance(&mut self, world: &World, count: u32, at: Oid, lent: bool) -> Result<(), Halt>
+    fn give_instance(&mut self, world: &World, hand: Hand, at: Oid, lent: bool) -> Result<(), Halt>
         requires ready { IsRunnable self.old world.now }
         requires sound { IsSound world.now.store.heap (Value.Ref at) }
         ensures law { OnOk result ((base : Run) → whole_of base self.new (state_of world.now)
             ≡ unwound base self.old.callers.items (rest self.old.machine.tasks
-            (gave (frame_in base self.old.machine) (drop (suc count) self.old.machine.values)
+            (gave (frame_in base self.old.machine) (drop (suc (size_of hand)) self.old.machine.values)
             (got_by lent (Value.Ref at) (frame_in base self.old.machine) (state_of world.now))))) }
         ensures ready { OnOk result (IsRunnable self.new world.now) }
     {
         let value = given(world, self.machine.frame.side, lent, Value::Ref(at));
-        self.machine.forget(count as usize + 1);
+        self.machine.forget(hand.size() + 1);
         self.machine.back(value)
     }
 
@@ -119,7 +129,7 @@ impl<'u> Runner<'u> {
     fn initialise(
         &mut self,
         world: &mut World,
-        count: u32,
+        hand: Hand,
         owner: Side,
         class: Oid,
         function: Oid,
@@ -128,15 +138,15 @@ impl<'u> Runner<'u> {
         requires ready { IsRunnable self.old world.old }
         requires class { Names world.old.store.heap IsClass class }
         requires function { Names world.old.store.heap IsFunction function }
-        ensures law { OnOk result (Instances count owner class (Some function) lent
+        ensures law { OnOk result (Instances hand owner class (Some function) lent
             self.old world.old self.new world.new) }
         ensures ready { OnOk result (IsRunnable self.new world.new) }
         ensures shape { KeepsShape world.old.store.heap world.new.store.heap }
     {
         match new_instance(self.machine.alloc, world, owner, class) {
-            Ok(at) => self.call_init(world, count, function, at, lent),
+            Ok(at) => self.call_init(world, hand, function, at, lent),
             Err(OpEnd::Memory) => Err(Halt::Memory),
-            Err(end) => self.machine.without_result(count, end),
+            Err(end) => without_hand(&mut self.machine, hand, end),
         }
     }
 
@@ -145,7 +155,7 @@ impl<'u> Runner<'u> {
     fn call_init(
         &mut self,
         world: &mut World,
-        count: u32,
+        hand: Hand,
         function: Oid,
         at: Oid,
         lent: bool,
@@ -153,14 +163,14 @@ impl<'u> Runner<'u> {
         requires ready { IsRunnable self.old world.old }
         requires function { Names world.old.store.heap IsFunction function }
         requires sound { IsSound world.old.store.heap (Value.Ref at) }
-        ensures law { OnOk result (Enters count function
-            (Value.Ref at ∷ reverse (take count self.old.machine.values)) lent (Some at)
+        ensures law { OnOk result (Enters hand function
+            (behind (Value.Ref at) (held_by hand self.old.machine.values)) lent (Some at)
             self.old world.old self.new world.new) }
         ensures ready { OnOk result (IsRunnable self.new world.new) }
         ensures shape { KeepsShape world.old.store.heap world.new.store.heap }
     {
         match callable_with(&world.store, function, Some(Value::Ref(at))) {
-            Some(callable) => self.call_function(world, count, callable, lent, Some(at)),
+            Some(callable) => self.call_function(world, hand, callable, lent, Some(at)),
             None => Err(Halt::NotBuilt),
         }
     }

@@ -1,7 +1,8 @@
 //! Calls of functions: their code is entered.
 #![tactic(auto, using(rp_store::proofs::Shapes::goes_on))]
 
-ghost use Rattle.std.specs.Prelude.{◌≡◌, ◌<◌, ◌≢◌, [], Err, IfOk, IfSome, Ok, Option, OnOk, Some, drop, length, reverse, suc, take};
+ghost use Rattle.std.specs.Prelude.{◌≡◌, ◌<◌, ◌≢◌, ◌∷◌, ◌++◌, [], Err, IfOk, IfSome, Ok, Option, OnOk, Some, ◌-◌, drop};
+ghost use Rattle.std.specs.Prelude.{◌^◌, length, reverse, suc, take};
 ghost use Rattle.std.specs.Str.{chars};
 ghost use Rattle.rp_access.specs.Moment.{state_of};
 ghost use Rattle.rp_meaning.specs.Frame.{Run};
@@ -20,26 +21,30 @@ ghost use Rattle.rp_proxy.specs.declared.world.World.{World as TheWorld};
 ghost use Rattle.rp_store.specs.Kept.{IsScopeOf, IsSound};
 ghost use Rattle.rp_store.specs.Shape.{KeepsShape};
 ghost use Rattle.rp_codes.specs.Codes.{code_view};
-ghost use Rattle.rp_step.specs.Codes.{code_at};
-ghost use Rattle.rp_step.specs.DefinitionSteps.{callee_of};
-ghost use Rattle.rp_step.specs.Law.{frame_in};
-ghost use Rattle.rp_step.specs.Moment.{frame_of, program_at, run_of};
-ghost use Rattle.rp_step.specs.Rest.{begun, gave, rest};
-ghost use Rattle.rp_step.specs.Callables.{IsFunctionAt, before, given_by};
+ghost use Rattle.rp_engine.specs.Codes.{code_at};
+ghost use Rattle.rp_engine.specs.DefinitionSteps.{callee_of};
+ghost use Rattle.rp_engine.specs.Law.{frame_in};
+ghost use Rattle.rp_engine.specs.Moment.{frame_of, program_at, run_of};
+ghost use Rattle.rp_engine.specs.Rest.{begun, gave, rest};
+ghost use Rattle.rp_engine.specs.ArgumentSteps.{named_in, word_at};
+ghost use Rattle.rp_step.specs.Callables.{IsFunctionAt, before_all, given_by};
+ghost use Rattle.rp_engine.specs.HandSteps.{held_by, size_of};
 ghost use Rattle.rp_step.specs.Running.{CallsAt, Enters, GoesOn, IsRunnable, Makes, given, resumed, unwound, whole_of};
 ghost use Rattle.rp_step.specs.declared.callers.Caller.{Caller as TheCaller};
 
 use crate::callables::{Callable, callable_at};
-use crate::halt::Halt;
+use crate::callers::suspend;
 use crate::run::Progress;
 use crate::runner::Runner;
-use crate::units::local_count;
-use rp_base::{Kind, Oid, OpEnd, Rock, Value};
+use rp_base::{Kind, Memory, Oid, OpEnd, Rock, Text, Value};
 use rp_codes::Code;
-use rp_enter::{Entry, enter, enter_bound};
+use rp_engine::{Halt, Hand, local_count};
+use rp_enter::{Entry, enter, enter_bound, enter_named};
+use rp_expressions::without_hand;
 use rp_frame::{Activation, Control};
 use rp_ops::raised;
 use rp_proxy::World;
+use std::alloc::Global;
 
 impl<'u> Runner<'u> {
     /// Makes the call for which the machine asks.
@@ -56,26 +61,26 @@ impl<'u> Runner<'u> {
         ensures more { result ≢ Ok Progress.Ended }
     {
         match self.machine.control {
-            Control::Call(count) => {
-                self.call(world, count)?;
+            Control::Call(plain, named) => {
+                self.call(world, Hand { plain, named })?;
                 Ok(Progress::More)
             }
             _ => Ok(Progress::More),
         }
     }
 
-    /// Calls what is at hand under so many arguments.
+    /// Calls what is at hand under these arguments.
     #[inline(never)]
-    fn call(&mut self, world: &mut World, count: u32) -> Result<(), Halt>
+    fn call(&mut self, world: &mut World, hand: Hand) -> Result<(), Halt>
         requires ready { IsRunnable self.old world.old }
-        ensures law { OnOk result (Makes count self.old world.old self.new world.new) }
+        ensures law { OnOk result (Makes hand self.old world.old self.new world.new) }
         ensures ready { OnOk result (IsRunnable self.new world.new) }
         ensures shape { KeepsShape world.old.store.heap world.new.store.heap }
     {
         let nil = Value::Rock(Rock::Nil);
-        match callee_of(self.machine.values.under(count as usize, &nil)) {
-            None => self.refuse(count, Kind::TypeError, "call"),
-            Some((at, lent)) => self.call_object(world, count, at, lent),
+        match callee_of(self.machine.values.under(hand.size(), &nil)) {
+            None => self.refuse(hand, Kind::TypeError, "call"),
+            Some((at, lent)) => self.call_object(world, hand, at, lent),
         }
     }
 
@@ -84,19 +89,19 @@ impl<'u> Runner<'u> {
     fn call_object(
         &mut self,
         world: &mut World,
-        count: u32,
+        hand: Hand,
         at: Oid,
         lent: bool,
     ) -> Result<(), Halt>
         requires ready { IsRunnable self.old world.old }
         requires sound { IsSound world.old.store.heap (Value.Ref at) }
-        ensures law { OnOk result (CallsAt count at lent self.old world.old self.new world.new) }
+        ensures law { OnOk result (CallsAt hand at lent self.old world.old self.new world.new) }
         ensures ready { OnOk result (IsRunnable self.new world.new) }
         ensures shape { KeepsShape world.old.store.heap world.new.store.heap }
     {
         match callable_at(&world.store, at)? {
-            Some(callable) => self.call_function(world, count, callable, lent, None),
-            None => self.call_class(world, count, at, lent),
+            Some(callable) => self.call_function(world, hand, callable, lent, None),
+            None => self.call_class(world, hand, at, lent),
         }
     }
 
@@ -105,7 +110,7 @@ impl<'u> Runner<'u> {
     pub(crate) fn call_function(
         &mut self,
         world: &mut World,
-        count: u32,
+        hand: Hand,
         callable: Callable,
         lent: bool,
         made: Option<Oid>,
@@ -114,19 +119,19 @@ impl<'u> Runner<'u> {
         requires function { IsFunctionAt world.old.store.heap callable.entry }
         requires receiver { IfSome callable.receiver (IsSound world.old.store.heap) }
         requires made { IfSome made (λ at. IsSound world.old.store.heap (Value.Ref at)) }
-        ensures law { OnOk result (Enters count callable.entry.function
-            (before callable.receiver (reverse (take count self.old.machine.values))) lent made
+        ensures law { OnOk result (Enters hand callable.entry.function
+            (before_all callable.receiver (held_by hand self.old.machine.values)) lent made
             self.old world.old self.new world.new) }
         ensures ready { OnOk result (IsRunnable self.new world.new) }
         ensures shape { KeepsShape world.old.store.heap world.new.store.heap }
     {
         if self.machine.frame.calls == 0 {
-            return self.refuse(count, Kind::RecursionError, "calls");
+            return self.refuse(hand, Kind::RecursionError, "calls");
         }
         let entry = callable.entry;
         match self.machine.units.program(entry.side).code(entry.block) {
-            None => self.refuse(count, Kind::TypeError, "call"),
-            Some(code) => self.begin(world, count, callable, lent, made, code),
+            None => self.refuse(hand, Kind::TypeError, "call"),
+            Some(code) => self.begin(world, hand, callable, lent, made, code),
         }
     }
 
@@ -135,7 +140,7 @@ impl<'u> Runner<'u> {
     fn begin(
         &mut self,
         world: &mut World,
-        count: u32,
+        hand: Hand,
         callable: Callable,
         lent: bool,
         made: Option<Oid>,
@@ -148,14 +153,14 @@ impl<'u> Runner<'u> {
         requires calls { 0 < self.old.machine.frame.calls }
         requires code { code_at (program_at self.old.machine.units.now callable.entry.side) callable.entry.block
             ≡ Some code }
-        ensures law { OnOk result (Enters count callable.entry.function
-            (before callable.receiver (reverse (take count self.old.machine.values))) lent made
+        ensures law { OnOk result (Enters hand callable.entry.function
+            (before_all callable.receiver (held_by hand self.old.machine.values)) lent made
             self.old world.old self.new world.new) }
         ensures ready { OnOk result (IsRunnable self.new world.new) }
         ensures shape { KeepsShape world.old.store.heap world.new.store.heap }
     {
         let Callable { entry, receiver } = callable;
-        let entered = self.scope_of(world, count, entry, receiver, code);
+        let entered = self.scope_of(world, hand, entry, receiver, code);
         match unless_memory(entered)? {
             Ok(Some(scope)) => {
                 let frame = Activation {
@@ -165,16 +170,44 @@ impl<'u> Runner<'u> {
                     calls: self.machine.frame.calls - 1,
                     handling: None,
                 };
-                self.switch(count, lent, made, frame, code)
+                self.switch(hand, lent, made, frame, code)
             }
             Ok(None) => Err(Halt::NotBuilt),
-            Err(end) => self.machine.without_result(count, end),
+            Err(end) => without_hand(&mut self.machine, hand, end),
         }
     }
 
     /// The scope of a function that is entered, with the arguments at hand behind a value or not.
     #[inline(always)]
     fn scope_of(
+        &self,
+        world: &mut World,
+        hand: Hand,
+        entry: Entry,
+        receiver: Option<Value>,
+        code: Code<'u>,
+    ) -> Result<Option<Oid>, OpEnd>
+        requires ready { IsRunnable self.now world.old }
+        requires function { IsFunctionAt world.old.store.heap entry }
+        requires receiver { IfSome receiver (IsSound world.old.store.heap) }
+        requires code { code_at (program_at self.now.machine.units.now entry.side) entry.block ≡ Some code }
+        ensures law { ComesIfAny result (state_of world.new) (entered entry.side entry.block entry.within
+            (length (locals_of (program_at self.now.machine.units.now entry.side).layouts entry.block))
+            (params_of (code_view code.entry)) (defaults_at world.old.store.heap entry.function)
+            (before_all receiver (held_by hand self.now.machine.values)) (state_of world.old)) }
+        ensures faithful { (result ≢ Err OpEnd.Memory) → IsFaithful world.new }
+        ensures shape { KeepsShape world.old.store.heap world.new.store.heap }
+        ensures scope { IfOk result (λ at. IfSome at (IsScopeOf world.new.store.heap entry.side)) }
+    {
+        if hand.named == 0 {
+            return self.plain_scope(world, hand.plain, entry, receiver, code);
+        }
+        self.named_scope(world, hand, entry, receiver, code)
+    }
+
+    /// The same, where no argument has a name.
+    #[inline(always)]
+    fn plain_scope(
         &self,
         world: &mut World,
         count: u32,
@@ -189,7 +222,7 @@ impl<'u> Runner<'u> {
         ensures law { ComesIfAny result (state_of world.new) (entered entry.side entry.block entry.within
             (length (locals_of (program_at self.now.machine.units.now entry.side).layouts entry.block))
             (params_of (code_view code.entry)) (defaults_at world.old.store.heap entry.function)
-            (only (before receiver (reverse (take count self.now.machine.values)))) (state_of world.old)) }
+            (before_all receiver (only (reverse (take count self.now.machine.values)))) (state_of world.old)) }
         ensures faithful { (result ≢ Err OpEnd.Memory) → IsFaithful world.new }
         ensures shape { KeepsShape world.old.store.heap world.new.store.heap }
         ensures scope { IfOk result (λ at. IfSome at (IsScopeOf world.new.store.heap entry.side)) }
@@ -212,10 +245,69 @@ impl<'u> Runner<'u> {
         }
     }
 
+    /// The same, where some have names.
+    #[inline(never)]
+    fn named_scope(
+        &self,
+        world: &mut World,
+        hand: Hand,
+        entry: Entry,
+        receiver: Option<Value>,
+        code: Code<'u>,
+    ) -> Result<Option<Oid>, OpEnd>
+        requires ready { IsRunnable self.now world.old }
+        requires function { IsFunctionAt world.old.store.heap entry }
+        requires receiver { IfSome receiver (IsSound world.old.store.heap) }
+        requires code { code_at (program_at self.now.machine.units.now entry.side) entry.block ≡ Some code }
+        ensures law { ComesIfAny result (state_of world.new) (entered entry.side entry.block entry.within
+            (length (locals_of (program_at self.now.machine.units.now entry.side).layouts entry.block))
+            (params_of (code_view code.entry)) (defaults_at world.old.store.heap entry.function)
+            (before_all receiver (held_by hand self.now.machine.values)) (state_of world.old)) }
+        ensures faithful { (result ≢ Err OpEnd.Memory) → IsFaithful world.new }
+        ensures shape { KeepsShape world.old.store.heap world.new.store.heap }
+        ensures scope { IfOk result (λ at. IfSome at (IsScopeOf world.new.store.heap entry.side)) }
+    {
+        let alloc = self.machine.alloc;
+        let locals = local_count(self.machine.units.program(entry.side), entry.block);
+        let params = code.params();
+        let args = self.plain_args(hand);
+        let named = self.named_args(hand)?;
+        enter_named(
+            alloc,
+            world,
+            entry,
+            locals,
+            params,
+            receiver,
+            args,
+            named.as_slice(),
+        )
+    }
+
+    /// The arguments at hand that have no name.
+    fn plain_args(&self, hand: Hand) -> &[Value]
+        ensures { result.now ≡ (held_by hand self.now.machine.values).plain }
+    {
+        let values = self.machine.values.last(hand.size());
+        let (args, _) = apart(values, 2 * hand.named as usize);
+        args
+    }
+
+    /// Copies of those that have one.
+    ///
+    /// # Errors
+    /// `Memory` where a growth was refused.
+    fn named_args(&self, hand: Hand) -> Result<Vec<(Text, Value)>, Memory>
+        ensures { IfOk result (λ all. all.items ≡ (held_by hand self.now.machine.values).named) }
+    {
+        let pairs = self.machine.values.last(2 * hand.named as usize);
+        all_named(self.machine.alloc, pairs)
+    }
+
     /// Goes on in the code of a function; the callee and the arguments are dropped.
     fn switch(
         &mut self,
-        count: u32,
+        hand: Hand,
         lent: bool,
         made: Option<Oid>,
         frame: Activation,
@@ -223,7 +315,7 @@ impl<'u> Runner<'u> {
     ) -> Result<(), Halt>
         ensures law { OnOk result ((base : Run) (s : State) → whole_of base self.new s
             ≡ unwound base self.old.callers.items (rest self.old.machine.tasks
-            (gave (frame_in base self.old.machine) (drop (suc count) self.old.machine.values)
+            (gave (frame_in base self.old.machine) (drop (suc (size_of hand)) self.old.machine.values)
             (on_value (value_of_code (code_view code.entry) (frame_of (run_of base self.old.machine.units.now) frame) s)
             (λ v s. given_by lent made v (frame_in base self.old.machine) s))))) }
         ensures ready { (w : TheWorld) → IsRunnable self.old w
@@ -231,23 +323,23 @@ impl<'u> Runner<'u> {
             → IsScopeOf w.store.heap frame.side frame.scope
             → IfSome made (λ at. IsSound w.store.heap (Value.Ref at)) → OnOk result (IsRunnable self.new w) }
     {
-        self.machine.forget(count as usize + 1);
-        let caller = self.machine.suspend(lent, made, frame);
+        self.machine.forget(hand.size() + 1);
+        let caller = suspend(&mut self.machine, lent, made, frame);
         self.keep(caller)?;
         self.machine.go(begin_of(code))
     }
 
     /// A call raises an exception; the callee and the arguments are dropped.
     #[inline(never)]
-    pub(crate) fn refuse(&mut self, count: u32, kind: Kind, text: &str) -> Result<(), Halt>
+    pub(crate) fn refuse(&mut self, hand: Hand, kind: Kind, text: &str) -> Result<(), Halt>
         ensures law { OnOk result ((base : Run) (s : State) → whole_of base self.new s
             ≡ unwound base self.old.callers.items (rest self.old.machine.tasks
-            (gave (frame_in base self.old.machine) (drop (suc count) self.old.machine.values)
+            (gave (frame_in base self.old.machine) (drop (suc (size_of hand)) self.old.machine.values)
             (raises kind (chars text.now) s)))) }
         ensures ready { (w : TheWorld) → IsRunnable self.old w → IsRunnable self.new w }
     {
         let end = raised(self.machine.alloc, kind, text);
-        self.machine.without_result(count, end)
+        without_hand(&mut self.machine, hand, end)
     }
 }
 
@@ -287,4 +379,75 @@ fn unless_memory(entered: Result<Option<Oid>, OpEnd>) -> Result<Result<Option<Oi
         Err(OpEnd::Memory) => Err(Halt::Memory),
         Err(end) => Ok(Err(end)),
     }
+}
+
+/// The values before the last ones, so many, and these; none before where there are no more.
+fn apart(values: &[Value], last: usize) -> (&[Value], &[Value])
+    ensures plain { result.0.now ≡ take (length values.now - last) values.now }
+    ensures named { result.1.now ≡ drop (length values.now - last) values.now }
+{
+    values.split_at(values.len().saturating_sub(last))
+}
+
+/// Copies of arguments with names, each of which stands behind its name.
+///
+/// # Errors
+/// `Memory` where a growth was refused, or the count of a text's owners is full.
+fn all_named(alloc: Global, pairs: &[Value]) -> Result<Vec<(Text, Value)>, Memory>
+    requires { length pairs.now < 2 ^ 34 }
+    ensures { IfOk result (λ all. all.items ≡ named_in (reverse pairs.now)) }
+{
+    let mut all = Vec::with_capacity(alloc, pairs.len() / 2)?;
+    let mut left = pairs;
+    'pairs: while let [rest @ .., word, value] = left {
+        push_named(alloc, &mut all, word, value)?;
+        left = rest;
+    }
+    all.reverse();
+    Ok(all)
+}
+
+/// Puts a copy of an argument with its name last.
+fn push_named(
+    alloc: Global,
+    all: &mut Vec<(Text, Value)>,
+    word: &Value,
+    value: &Value,
+) -> Result<(), Memory>
+    ensures { OnOk result (all.new.items ≡ all.old.items ++ (word_at word.now, value.now) ∷ []) }
+{
+    all.push((word_at(alloc, word)?, value.copy()?))?;
+    Ok(())
+}
+
+/// The name that stands at hand; the empty one, where no text does, which no call comes to.
+fn word_at(alloc: Global, value: &Value) -> Result<Text, Memory>
+    ensures { IfOk result (λ word. word ≡ word_at value.now) }
+{
+    match value {
+        Value::Rock(rock) => rock_word(alloc, rock),
+        Value::Ref(_) => no_word(alloc),
+        Value::Prox(_) => no_word(alloc),
+    }
+}
+
+/// The same, of a rock.
+fn rock_word(alloc: Global, rock: &Rock) -> Result<Text, Memory>
+    ensures { IfOk result (λ word. word ≡ word_at (Value.Rock rock.now)) }
+{
+    match rock {
+        Rock::Text(text) => text.copy(),
+        Rock::Nil => no_word(alloc),
+        Rock::Truth(_) => no_word(alloc),
+        Rock::Int(_) => no_word(alloc),
+        Rock::Exc(_, _) => no_word(alloc),
+        Rock::Kind(_) => no_word(alloc),
+        Rock::Native(_) => no_word(alloc),
+    }
+}
+
+fn no_word(alloc: Global) -> Result<Text, Memory>
+    ensures { IfOk result (λ word. word ≡ []) }
+{
+    Text::new(alloc, "")
 }

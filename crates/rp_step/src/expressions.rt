@@ -1,137 +1,158 @@
 //! Expressions: what begins them, and what goes on from the value of a part.
 #![tactic(auto, using(rp_store::proofs::Shapes::goes_on))]
 
-ghost use Rattle.std.specs.Prelude.{◌≡◌, OnOk, IfOk};
-ghost use Rattle.rp_base.specs.declared.value.Value.{Value as TheValue};
-ghost use Rattle.rp_meaning.specs.Frame.{Run};
-ghost use Rattle.rp_meaning.specs.State.{Outcome, State};
-ghost use Rattle.rp_proxy.specs.declared.world.World.{World as TheWorld};
+ghost use Rattle.std.specs.Prelude.{OnOk};
 ghost use Rattle.rp_store.specs.Kept.{IsFit};
 ghost use Rattle.rp_store.specs.Shape.{KeepsShape};
-ghost use Rattle.rp_access.specs.Comes.{Comes};
-ghost use Rattle.rp_step.specs.Does as does;
-ghost use Rattle.rp_step.specs.Law.{Evaluates, Resumes, frame_in, rest_of};
-ghost use Rattle.rp_step.specs.Ready.{IsReady};
-ghost use Rattle.rp_step.specs.Rest.{gave, rest};
+ghost use Rattle.rp_engine.specs.Does as does;
+ghost use Rattle.rp_engine.specs.Law.{Evaluates, Resumes};
+ghost use Rattle.rp_engine.specs.Ready.{IsReady};
+ghost use Rattle.rp_engine.specs.Rest.{gave, rest};
 
-use crate::halt::Halt;
-use crate::machine::Machine;
-use rp_base::{OpEnd, Value};
+use crate::forms::other_form;
+use rp_base::Value;
+use rp_engine::{Halt, Hand, Machine};
+use rp_expressions::{
+    after_argument, after_default, after_dict_key, after_dict_value, after_exponent, after_from,
+    after_item, after_key, after_named, after_operand, after_star, after_stars, after_stride,
+    after_test, after_to, chain, conditional, either, later, negation, not_of, operands, power,
+    tests, to_power, trailers, unary, unary_of,
+};
 use rp_frame::ExprTask;
 use rp_proxy::World;
+use rp_targets::{ComprehensionParts, comprehend};
 use rp_tree::{Expr, ExprForm};
 
-impl<'u> Machine<'u> {
-    /// Begins an expression. Names, literals, chains of operators, powers, unary operators, `not`, conditional
-    /// expressions, comparisons, `and`, `or`, reads of attributes, items and slices, displays, and calls of built-in
-    /// functions and methods run.
-    ///
-    /// # Errors
-    /// `Memory` where a growth was refused, `NotBuilt` where the form is none that runs, as all that follow.
-    #[inline(never)]
-    #[tactic(auto, using(rp_store::proofs::Shapes::goes_on, crate::proofs::Equations::expr_out))]
-    pub fn expression(&mut self, world: &mut World, x: &'u Expr) -> Result<(), Halt>
-        requires ready { IsReady self.old.units.now self.old.frame self.old.values world.old }
-        ensures law { OnOk result (Evaluates (does.expr x.now) self.old world.old self.new world.new) }
-        ensures ready { IsReady self.new.units.now self.new.frame self.new.values world.new }
-        ensures shape { KeepsShape world.old.store.heap world.new.store.heap }
-    {
-        self.form(world, &x.form)
-    }
+/// Begins an expression, of any form.
+///
+/// # Errors
+/// `Memory` where a growth was refused, `NotBuilt` where it comes to what does not run, as all that follow.
+#[inline(never)]
+#[tactic(auto, using(rp_store::proofs::Shapes::goes_on, rp_engine::proofs::Equations::expr_out))]
+pub(crate) fn expression<'u>(
+    machine: &mut Machine<'u>,
+    world: &mut World,
+    x: &'u Expr,
+) -> Result<(), Halt>
+    requires ready { IsReady machine.old.units.now machine.old.frame machine.old.values world.old }
+    ensures law { OnOk result (Evaluates (does.expr x.now) machine.old world.old machine.new world.new) }
+    ensures ready { IsReady machine.new.units.now machine.new.frame machine.new.values world.new }
+    ensures shape { KeepsShape world.old.store.heap world.new.store.heap }
+{
+    form(machine, world, &x.form)
+}
 
-    /// Begins a form.
-    #[inline(always)]
-    fn form(&mut self, world: &mut World, form: &'u ExprForm) -> Result<(), Halt>
-        requires ready { IsReady self.old.units.now self.old.frame self.old.values world.old }
-        ensures law { OnOk result (Evaluates (does.form form.now) self.old world.old self.new world.new) }
-        ensures ready { IsReady self.new.units.now self.new.frame self.new.values world.new }
-        ensures shape { KeepsShape world.old.store.heap world.new.store.heap }
-    {
-        match self.leaf_form(world, form) {
-            Ok(Some(value)) => self.back(value),
-            Ok(None) => self.inner_form(world, form),
-            Err(end) => self.no_value(end),
+/// Begins a form.
+#[inline(always)]
+fn form<'u>(machine: &mut Machine<'u>, world: &mut World, form: &'u ExprForm) -> Result<(), Halt>
+    requires ready { IsReady machine.old.units.now machine.old.frame machine.old.values world.old }
+    ensures law { OnOk result (Evaluates (does.form form.now) machine.old world.old machine.new world.new) }
+    ensures ready { IsReady machine.new.units.now machine.new.frame machine.new.values world.new }
+    ensures shape { KeepsShape world.old.store.heap world.new.store.heap }
+{
+    match machine.leaf_form(world, form) {
+        Ok(Some(value)) => machine.back(value),
+        Ok(None) => inner_form(machine, world, form),
+        Err(end) => machine.no_value(end),
+    }
+}
+
+/// A form that is no leaf.
+#[inline(always)]
+fn inner_form<'u>(
+    machine: &mut Machine<'u>,
+    world: &mut World,
+    form: &'u ExprForm,
+) -> Result<(), Halt>
+    requires ready { IsReady machine.old.units.now machine.old.frame machine.old.values world.old }
+    ensures law { OnOk result (Evaluates (does.form form.now) machine.old world.old machine.new world.new) }
+    ensures ready { IsReady machine.new.units.now machine.new.frame machine.new.values world.new }
+    ensures shape { KeepsShape world.old.store.heap world.new.store.heap }
+{
+    match form {
+        ExprForm::Chain(first, rest) => chain(machine, world, first, rest),
+        ExprForm::Cond { test, yes, no } => conditional(machine, world, test, yes, no),
+        ExprForm::Not(x) => negation(machine, world, x),
+        ExprForm::Unary(op, x) => unary(machine, world, *op, x),
+        ExprForm::Power(base, exponent) => power(machine, world, base, exponent),
+        _ => other_form(machine, world, form),
+    }
+}
+
+/// What a task does with the value that an expression gave.
+#[inline(always)]
+pub(crate) fn after_expr<'u>(
+    machine: &mut Machine<'u>,
+    world: &mut World,
+    task: ExprTask<'u>,
+    value: Value,
+) -> Result<(), Halt>
+    requires ready { IsReady machine.old.units.now machine.old.frame machine.old.values world.old }
+    requires value { IsFit world.old.store.heap machine.old.frame.side value }
+    ensures law { OnOk result (Resumes task.entry value machine.old world.old machine.new world.new) }
+    ensures ready { IsReady machine.new.units.now machine.new.frame machine.new.values world.new }
+    ensures shape { KeepsShape world.old.store.heap world.new.store.heap }
+{
+    match task {
+        ExprTask::Operands(rest) => operands(machine, world, value, rest),
+        ExprTask::Operand(op, rest) => after_operand(machine, world, op, value, rest),
+        ExprTask::Not => not_of(machine, world, value),
+        ExprTask::Cond(this, other) => either(machine, world, value, this, other),
+        ExprTask::Unary(op) => unary_of(machine, world, op, value),
+        ExprTask::Power(exponent) => to_power(machine, world, value, exponent),
+        ExprTask::Exponent => after_exponent(machine, world, value),
+        ExprTask::Tests(rest) => tests(machine, world, value, rest),
+        ExprTask::Test(test, rest) => after_test(machine, world, test, value, rest),
+        ExprTask::Joined(all, rest) => later(machine, world, all, value, rest),
+        ExprTask::Trailers(rest) => trailers(machine, world, value, rest),
+        ExprTask::Key(rest) => after_key(machine, world, value, rest),
+        ExprTask::Items(kind, count, rest) => {
+            after_item(machine, world, kind, count, value, rest)
         }
-    }
-
-    /// A form that is no leaf.
-    #[inline(always)]
-    fn inner_form(&mut self, world: &mut World, form: &'u ExprForm) -> Result<(), Halt>
-        requires ready { IsReady self.old.units.now self.old.frame self.old.values world.old }
-        ensures law { OnOk result (Evaluates (does.form form.now) self.old world.old self.new world.new) }
-        ensures ready { IsReady self.new.units.now self.new.frame self.new.values world.new }
-        ensures shape { KeepsShape world.old.store.heap world.new.store.heap }
-    {
-        match form {
-            ExprForm::Chain(first, rest) => self.chain(world, first, rest),
-            ExprForm::Cond { test, yes, no } => self.conditional(world, test, yes, no),
-            ExprForm::Not(x) => self.negation(world, x),
-            ExprForm::Unary(op, x) => self.unary(world, *op, x),
-            ExprForm::Power(base, exponent) => self.power(world, base, exponent),
-            _ => self.other_form(world, form),
+        ExprTask::Argument(count, args, rest) => {
+            after_argument(machine, world, count, value, args, rest)
         }
-    }
-
-    /// An expression gives what was answered.
-    #[inline(always)]
-    pub fn give(&mut self, answer: Result<Value, OpEnd>) -> Result<(), Halt>
-        ensures law { OnOk result ((base : Run) (s : State) (o : Outcome TheValue) → Comes answer s o
-            → rest_of base self.new s ≡ rest self.old.tasks (gave (frame_in base self.old) self.old.values o)) }
-        ensures ready { (w : TheWorld) → IsReady self.old.units.now self.old.frame self.old.values w
-            → IfOk answer (IsFit w.store.heap self.old.frame.side)
-            → IsReady self.new.units.now self.new.frame self.new.values w }
-    {
-        match answer {
-            Ok(value) => self.back(value),
-            Err(end) => self.no_value(end),
+        ExprTask::SliceFrom(to, stride, rest) => {
+            after_from(machine, world, value, to, stride, rest)
         }
-    }
-
-    /// What a task does with the value that an expression gave.
-    #[inline(always)]
-    pub fn after_expr(
-        &mut self,
-        world: &mut World,
-        task: ExprTask<'u>,
-        value: Value,
-    ) -> Result<(), Halt>
-        requires ready { IsReady self.old.units.now self.old.frame self.old.values world.old }
-        requires value { IsFit world.old.store.heap self.old.frame.side value }
-        ensures law { OnOk result (Resumes task.entry value self.old world.old self.new world.new) }
-        ensures ready { IsReady self.new.units.now self.new.frame self.new.values world.new }
-        ensures shape { KeepsShape world.old.store.heap world.new.store.heap }
-    {
-        match task {
-            ExprTask::Operands(rest) => self.operands(world, value, rest),
-            ExprTask::Operand(op, rest) => self.after_operand(world, op, value, rest),
-            ExprTask::Not => self.not_of(world, value),
-            ExprTask::Cond(this, other) => self.either(world, value, this, other),
-            ExprTask::Unary(op) => self.unary_of(world, op, value),
-            ExprTask::Power(exponent) => self.to_power(world, value, exponent),
-            ExprTask::Exponent => self.after_exponent(world, value),
-            ExprTask::Tests(rest) => self.tests(world, value, rest),
-            ExprTask::Test(test, rest) => self.after_test(world, test, value, rest),
-            ExprTask::Joined(all, rest) => self.later(world, all, value, rest),
-            ExprTask::Trailers(rest) => self.trailers(world, value, rest),
-            ExprTask::Key(rest) => self.after_key(world, value, rest),
-            ExprTask::Items(kind, count, rest) => {
-                self.after_item(world, kind, count, value, rest)
-            }
-            ExprTask::Argument(count, args, rest) => {
-                self.after_argument(world, count, value, args, rest)
-            }
-            ExprTask::SliceFrom(to, stride, rest) => {
-                self.after_from(world, value, to, stride, rest)
-            }
-            ExprTask::SliceTo(stride, rest) => self.after_to(world, value, stride, rest),
-            ExprTask::SliceStep(rest) => self.after_stride(world, value, rest),
-            ExprTask::DictKey(count, x, rest) => {
-                self.after_dict_key(world, count, value, x, rest)
-            }
-            ExprTask::DictValue(count, rest) => { self.after_dict_value(world, count, value, rest) }
-            ExprTask::Default(name, block, count, rest) => {
-                self.after_default(world, name, block, count, value, rest)
-            }
+        ExprTask::SliceTo(stride, rest) => after_to(machine, world, value, stride, rest),
+        ExprTask::SliceStep(rest) => after_stride(machine, world, value, rest),
+        ExprTask::DictKey(count, x, rest) => {
+            after_dict_key(machine, world, count, value, x, rest)
+        }
+        ExprTask::DictValue(count, rest) => { after_dict_value(machine, world, count, value, rest) }
+        ExprTask::Comprehension(block, first, behind, made) => {
+            comprehend(
+                machine,
+                world,
+                value,
+                ComprehensionParts {
+                    block,
+                    first,
+                    behind,
+                    made,
+                },
+            )
+        }
+        ExprTask::StarArgument(count, args, rest) => {
+            after_star(machine, world, count, value, args, rest)
+        }
+        ExprTask::NamedArgument(plain, named, name, args, rest) => {
+            after_named(
+                machine,
+                world,
+                Hand { plain, named },
+                name,
+                value,
+                args,
+                rest,
+            )
+        }
+        ExprTask::StarsArgument(plain, named, args, rest) => {
+            after_stars(machine, world, Hand { plain, named }, value, args, rest)
+        }
+        ExprTask::Default(name, block, count, rest) => {
+            after_default(machine, world, name, block, count, value, rest)
         }
     }
 }

@@ -1,51 +1,19 @@
-//! The machine that runs code, over an explicit stack.
+//! The machine that runs code, over an explicit stack: each step, what leaves a block, and calls.
 #![tactic(auto)]
 
-mod arguments;
-mod asserting;
-mod augmentation;
-mod augmented_places;
 mod callables;
 mod callers;
-mod chains;
 mod classes;
-mod comparisons;
-mod conditions;
 mod cutting;
-mod definitions;
-mod deleting;
-mod dict_displays;
-mod displays;
 mod entering;
-mod exceptions;
 mod expressions;
 mod forms;
-mod halt;
-mod hand;
-mod handling;
-mod joining;
-mod leaves;
-mod looping;
-mod machine;
-mod names;
-mod numbers;
-mod places;
-mod raising;
-mod returning;
 mod run;
 mod runner;
-mod slices;
 mod statements;
-mod storing;
-mod trailers;
-mod units;
-mod unpacking;
 mod unwinding;
 
 pub use callers::Caller;
-pub use halt::Halt;
-pub use machine::Machine;
 pub use run::Progress;
 pub use runner::Runner;
-pub use units::{Program, Units};
 pub use unwinding::Left;

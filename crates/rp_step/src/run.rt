@@ -4,12 +4,14 @@
 ghost use Rattle.std.specs.Prelude.{◌≡◌, [], OnOk, Ok};
 ghost use Rattle.rp_proxy.specs.declared.world.World.{World as TheWorld};
 ghost use Rattle.rp_store.specs.Shape.{KeepsShape};
-ghost use Rattle.rp_step.specs.Does as does;
-ghost use Rattle.rp_step.specs.Law.{Executes, Leaves};
-ghost use Rattle.rp_step.specs.Ready.{IsReady};
+ghost use Rattle.rp_engine.specs.Does as does;
+ghost use Rattle.rp_engine.specs.Law.{Executes, Leaves};
+ghost use Rattle.rp_engine.specs.Ready.{IsReady};
 
-use crate::halt::Halt;
-use crate::machine::Machine;
+use crate::expressions::expression;
+use crate::statements::statement;
+use crate::unwinding::take_up;
+use rp_engine::{Halt, Machine};
 use rp_frame::{Control, FlowTask, Task};
 use rp_proxy::World;
 use rp_tree::Stmt;
@@ -24,65 +26,63 @@ pub enum Progress {
     Call,
 }
 
-impl<'u> Machine<'u> {
-    /// Goes on with the statements of a block that are left.
-    #[inline(always)]
-    pub(crate) fn block(&mut self, block: &'u [Stmt]) -> Result<(), Halt>
-        ensures law { OnOk result ((w : TheWorld) → Executes (does.block block.now) self.old w self.new w) }
-        ensures ready { (w : TheWorld) → IsReady self.old.units.now self.old.frame self.old.values w
-            → IsReady self.new.units.now self.new.frame self.new.values w }
-    {
-        match block {
-            [] => self.go(Control::Next),
-            [x, rest @ ..] => self.wait(Task::Flow(FlowTask::Block(rest)), Control::Statement(x)),
-        }
+/// Goes on with the statements of a block that are left.
+#[inline(always)]
+pub(crate) fn block<'u>(machine: &mut Machine<'u>, block: &'u [Stmt]) -> Result<(), Halt>
+    ensures law { OnOk result ((w : TheWorld) → Executes (does.block block.now) machine.old w machine.new w) }
+    ensures ready { (w : TheWorld) → IsReady machine.old.units.now machine.old.frame machine.old.values w
+        → IsReady machine.new.units.now machine.new.frame machine.new.values w }
+{
+    match block {
+        [] => machine.go(Control::Next),
+        [x, rest @ ..] => machine.wait(Task::Flow(FlowTask::Block(rest)), Control::Statement(x)),
     }
+}
 
-    /// A step: begins a part, or goes on from the end of one. What it leaves to be done is what was to be done.
-    ///
-    /// # Errors
-    /// `Memory` where a growth was refused, `NotBuilt` where the code comes to what does not run yet.
-    #[inline(always)]
-    pub fn step(&mut self, world: &mut World) -> Result<Progress, Halt>
-        requires ready { IsReady self.old.units.now self.old.frame self.old.values world.old }
-        ensures law { OnOk result (Leaves self.old world.old self.new world.new) }
-        ensures ready { IsReady self.new.units.now self.new.frame self.new.values world.new }
-        ensures shape { KeepsShape world.old.store.heap world.new.store.heap }
-        ensures ended { result ≡ Ok Progress.Ended → self.new.tasks ≡ [] }
-    {
-        match self.control {
-            Control::Expression(x) => {
-                self.expression(world, x)?;
-                Ok(Progress::More)
-            }
-            Control::Statement(x) => {
-                self.statement(world, x)?;
-                Ok(Progress::More)
-            }
-            Control::Block(block) => {
-                self.block(block)?;
-                Ok(Progress::More)
-            }
-            Control::Call(_) => Ok(Progress::Call),
-            _ => self.end_part(world),
+/// A step: begins a part, or goes on from the end of one. What it leaves to be done is what was to be done.
+///
+/// # Errors
+/// `Memory` where a growth was refused, `NotBuilt` where the code comes to what does not run yet.
+#[inline(always)]
+pub(crate) fn step<'u>(machine: &mut Machine<'u>, world: &mut World) -> Result<Progress, Halt>
+    requires ready { IsReady machine.old.units.now machine.old.frame machine.old.values world.old }
+    ensures law { OnOk result (Leaves machine.old world.old machine.new world.new) }
+    ensures ready { IsReady machine.new.units.now machine.new.frame machine.new.values world.new }
+    ensures shape { KeepsShape world.old.store.heap world.new.store.heap }
+    ensures ended { result ≡ Ok Progress.Ended → machine.new.tasks ≡ [] }
+{
+    match machine.control {
+        Control::Expression(x) => {
+            expression(machine, world, x)?;
+            Ok(Progress::More)
         }
+        Control::Statement(x) => {
+            statement(machine, world, x)?;
+            Ok(Progress::More)
+        }
+        Control::Block(block) => {
+            crate::run::block(machine, block)?;
+            Ok(Progress::More)
+        }
+        Control::Call(_, _) => Ok(Progress::Call),
+        _ => end_part(machine, world),
     }
+}
 
-    /// Goes on from the end of a part.
-    #[inline(always)]
-    fn end_part(&mut self, world: &mut World) -> Result<Progress, Halt>
-        requires ready { IsReady self.old.units.now self.old.frame self.old.values world.old }
-        ensures law { OnOk result (Leaves self.old world.old self.new world.new) }
-        ensures ready { IsReady self.new.units.now self.new.frame self.new.values world.new }
-        ensures shape { KeepsShape world.old.store.heap world.new.store.heap }
-        ensures ended { result ≡ Ok Progress.Ended → self.new.tasks ≡ [] }
-    {
-        match self.tasks.pop() {
-            Some(task) => {
-                self.take_up(world, task)?;
-                Ok(Progress::More)
-            }
-            None => Ok(Progress::Ended),
+/// Goes on from the end of a part.
+#[inline(always)]
+fn end_part<'u>(machine: &mut Machine<'u>, world: &mut World) -> Result<Progress, Halt>
+    requires ready { IsReady machine.old.units.now machine.old.frame machine.old.values world.old }
+    ensures law { OnOk result (Leaves machine.old world.old machine.new world.new) }
+    ensures ready { IsReady machine.new.units.now machine.new.frame machine.new.values world.new }
+    ensures shape { KeepsShape world.old.store.heap world.new.store.heap }
+    ensures ended { result ≡ Ok Progress.Ended → machine.new.tasks ≡ [] }
+{
+    match machine.tasks.pop() {
+        Some(task) => {
+            take_up(machine, world, task)?;
+            Ok(Progress::More)
         }
+        None => Ok(Progress::Ended),
     }
 }

@@ -10,22 +10,21 @@ ghost use Rattle.rp_ops.specs.Outcome.{ends, gives, raises};
 ghost use Rattle.rp_proxy.specs.declared.world.World.{World as TheWorld};
 ghost use Rattle.rp_store.specs.Kept.{IsSound};
 ghost use Rattle.rp_store.specs.Shape.{KeepsShape};
-ghost use Rattle.rp_step.specs.Does as does;
-ghost use Rattle.rp_step.specs.Ends.{end_of};
-ghost use Rattle.rp_step.specs.Law.{frame_in, rest_of};
+ghost use Rattle.rp_engine.specs.Does as does;
+ghost use Rattle.rp_engine.specs.Ends.{end_of};
+ghost use Rattle.rp_engine.specs.Law.{frame_in, rest_of};
 ghost use Rattle.rp_step.specs.Left.{flows};
-ghost use Rattle.rp_step.specs.Moment.{frame_of, run_of};
-ghost use Rattle.rp_step.specs.Rest.{gave, rest};
+ghost use Rattle.rp_engine.specs.Moment.{frame_of, run_of};
+ghost use Rattle.rp_engine.specs.Rest.{gave, rest};
 ghost use Rattle.rp_step.specs.Callables.{is_nil};
 ghost use Rattle.rp_base.specs.declared.kind.Kind.TheVariants.{TypeError};
 ghost use Rattle.rp_step.specs.Running.{GoesOn, IsRunnable, IsWaiting, given, got, resumed, unwound, whole_of};
 
-use crate::callers::Caller;
-use crate::halt::Halt;
-use crate::machine::Machine;
-use crate::run::Progress;
-use crate::unwinding::Left;
+use crate::callers::{Caller, take_over};
+use crate::run::{Progress, step};
+use crate::unwinding::{Left, how_left};
 use rp_base::{Kind, Memory, Oid, OpEnd, Rock, Value};
+use rp_engine::{Halt, Machine};
 use rp_enter::given;
 use rp_frame::Control;
 use rp_ops::raised;
@@ -58,7 +57,7 @@ impl<'u> Runner<'u> {
         ensures ended { result ≡ Ok Progress.Ended → self.new.machine.tasks ≡ [] }
         ensures none { result ≡ Ok Progress.Ended → self.new.callers.items ≡ [] }
     {
-        match self.machine.step(world)? {
+        match step(&mut self.machine, world)? {
             Progress::More => Ok(Progress::More),
             Progress::Call => self.enter(world),
             Progress::Ended => self.come_back(world),
@@ -174,7 +173,7 @@ impl<'u> Runner<'u> {
         ensures ready { OnOk result (IsRunnable self.new world.now) }
     {
         let value = given(world, caller.frame.side, caller.lent, value);
-        self.machine.take_over(caller);
+        take_over(&mut self.machine, caller);
         self.machine.back(value)
     }
 
@@ -186,7 +185,7 @@ impl<'u> Runner<'u> {
             (raises TypeError (codes "init") s)))) }
         ensures ready { (w : TheWorld) → IsRunnable self.old w → IsWaiting w caller.entry → IsRunnable self.new w }
     {
-        self.machine.take_over(caller);
+        take_over(&mut self.machine, caller);
         let end = raised(self.machine.alloc, Kind::TypeError, "init");
         self.machine.no_value(end)
     }
@@ -198,7 +197,7 @@ impl<'u> Runner<'u> {
             (given base caller.entry (ends (end_of self.old.machine.end) s)))) }
         ensures ready { (w : TheWorld) → IsRunnable self.old w → IsWaiting w caller.entry → IsRunnable self.new w }
     {
-        self.machine.take_over(caller);
+        take_over(&mut self.machine, caller);
         self.machine.go(Control::NoValue)
     }
 
@@ -266,7 +265,7 @@ impl<'u> Runner<'u> {
     {
         self.machine.control = Control::Block(block);
         self.run(world)?;
-        Ok(self.machine.left())
+        Ok(how_left(&mut self.machine))
     }
 }
 

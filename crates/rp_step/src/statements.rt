@@ -6,298 +6,338 @@ ghost use Rattle.rp_meaning.specs.Statements as stmt_forms;
 ghost use Rattle.rp_proxy.specs.declared.world.World.{World as TheWorld};
 ghost use Rattle.rp_store.specs.Kept.{IsFit};
 ghost use Rattle.rp_store.specs.Shape.{KeepsShape};
-ghost use Rattle.rp_step.specs.Does as does;
-ghost use Rattle.rp_step.specs.Law.{Executes, ResumesStmt};
-ghost use Rattle.rp_step.specs.Ready.{IsReady};
-ghost use Rattle.rp_step.specs.Rest.{loop, tested_turn, turn};
+ghost use Rattle.rp_engine.specs.Does as does;
+ghost use Rattle.rp_engine.specs.Law.{Executes, ResumesStmt};
+ghost use Rattle.rp_engine.specs.Ready.{IsReady};
+ghost use Rattle.rp_engine.specs.Rest.{loop, tested_turn, turn};
 
-use crate::halt::Halt;
-use crate::machine::Machine;
 use rp_access::{take_step, truth};
 use rp_base::{OpEnd, Value};
-use rp_frame::{Control, Each, FlowTask, StmtTask, Task};
+use rp_engine::{Halt, Machine};
+use rp_expressions::definition;
+use rp_frame::{Control, Each, FlowTask, Inside, StmtTask, Task};
 use rp_proxy::World;
+use rp_statements::{
+    after_attribute, after_augment, after_augmented_item, after_augmented_key, after_handler,
+    after_method, asserted, augment_key, augment_read, augmented, begin_try, bind_next, class,
+    fail_with, give_back, raise, raised, returns,
+};
+use rp_targets::{
+    add_element, add_entry, after_added_key, after_container, after_deleted_key, after_object,
+    after_store_key, after_where, assign_target, del_attribute, delete_all, delete_key, for_each,
+    store_all, store_target, walk_over,
+};
 use rp_tree::{Branch, Expr, Place, Stmt, StmtForm, stmts_of};
 
-impl<'u> Machine<'u> {
-    /// Begins a statement, with its step. Expression statements, assignments, unpacking too, augmented assignments,
-    /// `if`, `while`, `for`, `break`, `continue`, `pass`, `global`, `del`, `raise`, `try`, `assert`, `return` and `def`
-    /// run.
-    ///
-    /// # Errors
-    /// `Memory` where a growth was refused, `NotBuilt` where the form is none that runs, as all that follow.
-    #[inline(never)]
-    #[tactic(auto, using(rp_store::proofs::Shapes::goes_on, crate::proofs::Worlds::shape_stored))]
-    pub fn statement(&mut self, world: &mut World, x: &'u Stmt) -> Result<(), Halt>
-        requires ready { IsReady self.old.units.now self.old.frame self.old.values world.old }
-        ensures law { OnOk result (Executes (does.stmt x.now) self.old world.old self.new world.new) }
-        ensures ready { IsReady self.new.units.now self.new.frame self.new.values world.new }
-        ensures shape { KeepsShape world.old.store.heap world.new.store.heap }
-    {
-        if let Err(end) = take_step(world) {
-            return self.cut_off(end);
-        }
-        self.stmt_form(world, &x.form)
+/// Begins a statement, with its step.
+///
+/// # Errors
+/// `Memory` where a growth was refused, `NotBuilt` where it comes to what does not run, as all that follow.
+#[inline(never)]
+#[tactic(auto, using(rp_store::proofs::Shapes::goes_on, rp_engine::proofs::Worlds::shape_stored))]
+pub(crate) fn statement<'u>(
+    machine: &mut Machine<'u>,
+    world: &mut World,
+    x: &'u Stmt,
+) -> Result<(), Halt>
+    requires ready { IsReady machine.old.units.now machine.old.frame machine.old.values world.old }
+    ensures law { OnOk result (Executes (does.stmt x.now) machine.old world.old machine.new world.new) }
+    ensures ready { IsReady machine.new.units.now machine.new.frame machine.new.values world.new }
+    ensures shape { KeepsShape world.old.store.heap world.new.store.heap }
+{
+    if let Err(end) = take_step(world) {
+        return machine.cut_off(end);
     }
+    stmt_form(machine, world, &x.form)
+}
 
-    #[inline(always)]
-    fn stmt_form(&mut self, world: &mut World, form: &'u StmtForm) -> Result<(), Halt>
-        requires ready { IsReady self.old.units.now self.old.frame self.old.values world.old }
-        ensures law { OnOk result (Executes (does.stmt_form form.now) self.old world.old self.new world.new) }
-        ensures ready { IsReady self.new.units.now self.new.frame self.new.values world.new }
-        ensures shape { KeepsShape world.old.store.heap world.new.store.heap }
-    {
-        match form {
-            StmtForm::Expr(value) => self.wait(
-                Task::Stmt(StmtTask::Evaluate),
-                Control::Expression(value),
-            ),
-            StmtForm::Assign(places, value) => self.assign(world, places, value),
-            StmtForm::Pass => self.go(Control::Next),
-            StmtForm::Global(_) => self.go(Control::Next),
-            StmtForm::Break => self.go(Control::Broke),
-            StmtForm::Continue => self.go(Control::Continued),
-            StmtForm::If(branches, other) => self.choose(branches, stmts_of(other)),
-            StmtForm::While(test, body) => self.begin_loop(world, test, body),
-            StmtForm::Del(places) => self.delete_all(world, places),
-            StmtForm::Assert(test, message) => {
-                self.wait(
-                    Task::Stmt(StmtTask::Assert(message)),
-                    Control::Expression(test),
-                )
-            }
-            StmtForm::Aug {
-                place,
-                op,
-                value,
-                ..
-            } => self.augmented(world, place, *op, value),
-            StmtForm::For(walk, body) => self.for_each(
-                world,
-                &walk.of,
-                Each {
-                    target: &walk.target,
-                    body,
-                },
-            ),
-            StmtForm::Raise(value) => self.raise(world, value),
-            StmtForm::Unpack(target, value, _) => self.assign_target(world, target, value),
-            StmtForm::Try {
-                body,
-                handlers,
-                other,
-                last,
-            } => self.begin_try(body, handlers, stmts_of(other), stmts_of(last)),
-            StmtForm::Return(value) => self.give_back(world, value),
-            StmtForm::Def(block, name, params, _) => {
-                self.definition(world, name.name, block.0, params)
-            }
-            _ => Err(Halt::NotBuilt),
+#[inline(always)]
+fn stmt_form<'u>(
+    machine: &mut Machine<'u>,
+    world: &mut World,
+    form: &'u StmtForm,
+) -> Result<(), Halt>
+    requires ready { IsReady machine.old.units.now machine.old.frame machine.old.values world.old }
+    ensures law { OnOk result (Executes (does.stmt_form form.now) machine.old world.old machine.new world.new) }
+    ensures ready { IsReady machine.new.units.now machine.new.frame machine.new.values world.new }
+    ensures shape { KeepsShape world.old.store.heap world.new.store.heap }
+{
+    match form {
+        StmtForm::Expr(value) => machine.wait(
+            Task::Stmt(StmtTask::Evaluate),
+            Control::Expression(value),
+        ),
+        StmtForm::Assign(places, value) => assign(machine, world, places, value),
+        StmtForm::Pass => machine.go(Control::Next),
+        StmtForm::Global(_) => machine.go(Control::Next),
+        StmtForm::Break => machine.go(Control::Broke),
+        StmtForm::Continue => machine.go(Control::Continued),
+        StmtForm::If(branches, other) => choose(machine, branches, stmts_of(other)),
+        StmtForm::While(test, body) => begin_loop(machine, world, test, body),
+        StmtForm::Del(places) => delete_all(machine, world, places),
+        StmtForm::Assert(test, message) => {
+            machine.wait(
+                Task::Stmt(StmtTask::Assert(message)),
+                Control::Expression(test),
+            )
         }
-    }
-
-    /// An assignment.
-    #[inline(never)]
-    fn assign(
-        &mut self,
-        world: &mut World,
-        places: &'u [Place],
-        value: &'u Expr,
-    ) -> Result<(), Halt>
-        requires ready { IsReady self.old.units.now self.old.frame self.old.values world.old }
-        ensures law { OnOk result
-            (Executes (stmt_forms.assign (does.expr value.now) (stmt_forms.store_all (does.places places.now)))
-            self.old world.old self.new world.new) }
-        ensures ready { IsReady self.new.units.now self.new.frame self.new.values world.new }
-        ensures shape { KeepsShape world.old.store.heap world.new.store.heap }
-    {
-        match self.leaf(world, value) {
-            Ok(Some(v)) => self.store_all(world, places, v),
-            Ok(None) => self.wait(
-                Task::Stmt(StmtTask::Assign(places)),
-                Control::Expression(value),
-            ),
-            Err(end) => self.cut_off(end),
+        StmtForm::Aug {
+            place,
+            op,
+            value,
+            ..
+        } => augmented(machine, world, place, *op, value),
+        StmtForm::For(walk, body) => for_each(
+            machine,
+            world,
+            &walk.of,
+            Each {
+                target: &walk.target,
+                inside: Inside::Block(body),
+            },
+        ),
+        StmtForm::Raise(value) => raise(machine, world, value),
+        StmtForm::Unpack(target, value, _) => assign_target(machine, world, target, value),
+        StmtForm::Try {
+            body,
+            handlers,
+            other,
+            last,
+        } => begin_try(machine, body, handlers, stmts_of(other), stmts_of(last)),
+        StmtForm::Class(name, body) => class(machine, world, name.name, body),
+        StmtForm::Return(value) => give_back(machine, world, value),
+        StmtForm::Def(block, name, params, _) => {
+            definition(machine, world, name.name, block.0, params)
         }
     }
+}
 
-    /// Goes on with the branches of a choice.
-    #[inline(always)]
-    fn choose(&mut self, branches: &'u [Branch], other: &'u [Stmt]) -> Result<(), Halt>
-        ensures law { OnOk result ((w : TheWorld)
-            → Executes (stmt_forms.choose (does.branches branches.now) (does.block other.now)) self.old w self.new w) }
-        ensures ready { (w : TheWorld) → IsReady self.old.units.now self.old.frame self.old.values w
-            → IsReady self.new.units.now self.new.frame self.new.values w }
-    {
-        match branches {
-            [] => self.go(Control::Block(other)),
-            [branch, rest @ ..] => self.wait(
-                Task::Stmt(StmtTask::Branch(&branch.body, rest, other)),
-                Control::Expression(&branch.test),
-            ),
+/// An assignment.
+#[inline(never)]
+fn assign<'u>(
+    machine: &mut Machine<'u>,
+    world: &mut World,
+    places: &'u [Place],
+    value: &'u Expr,
+) -> Result<(), Halt>
+    requires ready { IsReady machine.old.units.now machine.old.frame machine.old.values world.old }
+    ensures law { OnOk result
+        (Executes (stmt_forms.assign (does.expr value.now) (stmt_forms.store_all (does.places places.now)))
+        machine.old world.old machine.new world.new) }
+    ensures ready { IsReady machine.new.units.now machine.new.frame machine.new.values world.new }
+    ensures shape { KeepsShape world.old.store.heap world.new.store.heap }
+{
+    match machine.leaf(world, value) {
+        Ok(Some(v)) => store_all(machine, world, places, v),
+        Ok(None) => machine.wait(
+            Task::Stmt(StmtTask::Assign(places)),
+            Control::Expression(value),
+        ),
+        Err(end) => machine.cut_off(end),
+    }
+}
+
+/// Goes on with the branches of a choice.
+#[inline(always)]
+fn choose<'u>(
+    machine: &mut Machine<'u>,
+    branches: &'u [Branch],
+    other: &'u [Stmt],
+) -> Result<(), Halt>
+    ensures law { OnOk result ((w : TheWorld)
+        → Executes (stmt_forms.choose (does.branches branches.now) (does.block other.now))
+        machine.old w machine.new w) }
+    ensures ready { (w : TheWorld) → IsReady machine.old.units.now machine.old.frame machine.old.values w
+        → IsReady machine.new.units.now machine.new.frame machine.new.values w }
+{
+    match branches {
+        [] => machine.go(Control::Block(other)),
+        [branch, rest @ ..] => machine.wait(
+            Task::Stmt(StmtTask::Branch(&branch.body, rest, other)),
+            Control::Expression(&branch.test),
+        ),
+    }
+}
+
+/// Begins a loop, which makes no more turns than there are steps, and one.
+#[inline(never)]
+fn begin_loop<'u>(
+    machine: &mut Machine<'u>,
+    world: &mut World,
+    test: &'u Expr,
+    body: &'u [Stmt],
+) -> Result<(), Halt>
+    requires ready { IsReady machine.old.units.now machine.old.frame machine.old.values world.old }
+    ensures law { OnOk result (Executes (stmt_forms.while (does.expr test.now) (does.block body.now))
+        machine.old world.old machine.new world.new) }
+    ensures ready { IsReady machine.new.units.now machine.new.frame machine.new.values world.new }
+    ensures shape { KeepsShape world.old.store.heap world.new.store.heap }
+{
+    next_turn(machine, world, world.running.meter.left, test, body)
+}
+
+/// A turn of a loop that may still make so many.
+#[inline(always)]
+pub(crate) fn loop_turn<'u>(
+    machine: &mut Machine<'u>,
+    world: &mut World,
+    turns: u64,
+    test: &'u Expr,
+    body: &'u [Stmt],
+) -> Result<(), Halt>
+    requires ready { IsReady machine.old.units.now machine.old.frame machine.old.values world.old }
+    ensures law { OnOk result (Executes (loop turns (does.expr test.now) (does.block body.now))
+        machine.old world.old machine.new world.new) }
+    ensures ready { IsReady machine.new.units.now machine.new.frame machine.new.values world.new }
+    ensures shape { KeepsShape world.old.store.heap world.new.store.heap }
+{
+    if turns == 0 {
+        return machine.cut_off(OpEnd::StopSteps);
+    }
+    next_turn(machine, world, turns - 1, test, body)
+}
+
+/// A turn of a loop that may make so many behind it.
+#[inline(always)]
+fn next_turn<'u>(
+    machine: &mut Machine<'u>,
+    world: &mut World,
+    behind: u64,
+    test: &'u Expr,
+    body: &'u [Stmt],
+) -> Result<(), Halt>
+    requires ready { IsReady machine.old.units.now machine.old.frame machine.old.values world.old }
+    ensures law { OnOk result (Executes (loop (suc behind) (does.expr test.now) (does.block body.now))
+        machine.old world.old machine.new world.new) }
+    ensures ready { IsReady machine.new.units.now machine.new.frame machine.new.values world.new }
+    ensures shape { KeepsShape world.old.store.heap world.new.store.heap }
+{
+    machine
+        .tasks
+        .push(Task::Flow(FlowTask::While(behind, test, body)))?;
+    turn(machine, world, test, body)
+}
+
+/// A turn, with its step; a test that is false leaves the loop.
+#[inline(always)]
+#[tactic(auto, using(rp_store::proofs::Shapes::goes_on, rp_engine::proofs::Worlds::shape_stored))]
+fn turn<'u>(
+    machine: &mut Machine<'u>,
+    world: &mut World,
+    test: &'u Expr,
+    body: &'u [Stmt],
+) -> Result<(), Halt>
+    requires ready { IsReady machine.old.units.now machine.old.frame machine.old.values world.old }
+    ensures law { OnOk result (Executes (turn (does.expr test.now) (does.block body.now))
+        machine.old world.old machine.new world.new) }
+    ensures ready { IsReady machine.new.units.now machine.new.frame machine.new.values world.new }
+    ensures shape { KeepsShape world.old.store.heap world.new.store.heap }
+{
+    if let Err(end) = take_step(world) {
+        return machine.cut_off(end);
+    }
+    match machine.leaf(world, test) {
+        Ok(Some(value)) => tested(machine, world, value, body),
+        Ok(None) => machine.wait(Task::Stmt(StmtTask::Test(body)), Control::Expression(test)),
+        Err(end) => machine.cut_off(end),
+    }
+}
+
+/// Goes on by the test of a loop.
+#[inline(always)]
+fn tested<'u>(
+    machine: &mut Machine<'u>,
+    world: &mut World,
+    value: Value,
+    body: &'u [Stmt],
+) -> Result<(), Halt>
+    requires ready { IsReady machine.old.units.now machine.old.frame machine.old.values world.old }
+    requires value { IsFit world.old.store.heap machine.old.frame.side value }
+    ensures law { OnOk result (Executes (tested_turn value (does.block body.now))
+        machine.old world.old machine.new world.new) }
+    ensures ready { IsReady machine.new.units.now machine.new.frame machine.new.values world.new }
+    ensures shape { KeepsShape world.old.store.heap world.new.store.heap }
+{
+    match truth(machine.alloc, world, &value) {
+        Ok(true) => machine.go(Control::Block(body)),
+        Ok(false) => machine.go(Control::Broke),
+        Err(end) => machine.cut_off(end),
+    }
+}
+
+/// Goes on by the test of a branch.
+#[inline(always)]
+fn branched<'u>(
+    machine: &mut Machine<'u>,
+    world: &mut World,
+    value: Value,
+    body: &'u [Stmt],
+    branches: &'u [Branch],
+    other: &'u [Stmt],
+) -> Result<(), Halt>
+    requires ready { IsReady machine.old.units.now machine.old.frame machine.old.values world.old }
+    requires value { IsFit world.old.store.heap machine.old.frame.side value }
+    ensures law { OnOk result (ResumesStmt (StmtTask.Branch body.entry branches.entry other.entry) value
+        machine.old world.old machine.new world.new) }
+    ensures ready { IsReady machine.new.units.now machine.new.frame machine.new.values world.new }
+    ensures shape { KeepsShape world.old.store.heap world.new.store.heap }
+{
+    match truth(machine.alloc, world, &value) {
+        Ok(true) => machine.go(Control::Block(body)),
+        Ok(false) => choose(machine, branches, other),
+        Err(end) => machine.cut_off(end),
+    }
+}
+
+/// What a statement does with the value that it waited for.
+#[inline(always)]
+pub(crate) fn after_stmt<'u>(
+    machine: &mut Machine<'u>,
+    world: &mut World,
+    task: StmtTask<'u>,
+    value: Value,
+) -> Result<(), Halt>
+    requires ready { IsReady machine.old.units.now machine.old.frame machine.old.values world.old }
+    requires value { IsFit world.old.store.heap machine.old.frame.side value }
+    ensures law { OnOk result (ResumesStmt task.entry value machine.old world.old machine.new world.new) }
+    ensures ready { IsReady machine.new.units.now machine.new.frame machine.new.values world.new }
+    ensures shape { KeepsShape world.old.store.heap world.new.store.heap }
+{
+    match task {
+        StmtTask::Evaluate => machine.go(Control::Next),
+        StmtTask::Assign(places) => store_all(machine, world, places, value),
+        StmtTask::Branch(body, branches, other) => branched(
+            machine, world, value, body, branches, other,
+        ),
+        StmtTask::Test(body) => tested(machine, world, value, body),
+        StmtTask::Assert(message) => asserted(machine, world, value, message),
+        StmtTask::Fail => fail_with(machine, world, value),
+        StmtTask::StoreAttr(name) => after_object(machine, world, name, value),
+        StmtTask::StoreItem(key) => after_container(machine, world, key, value),
+        StmtTask::StoreKey => after_store_key(machine, world, value),
+        StmtTask::DeleteAttr(name) => del_attribute(machine, world, value, name),
+        StmtTask::DeleteItem(key) => delete_key(machine, world, value, key),
+        StmtTask::DeleteKey => after_deleted_key(machine, world, value),
+        StmtTask::AugmentName(name, op) => after_augment(machine, world, name, op, value),
+        StmtTask::For(each) => walk_over(machine, world, value, each),
+        StmtTask::Raise => raised(machine, value),
+        StmtTask::AugmentAttr(name, op, x) => augment_read(machine, world, value, name, op, x),
+        StmtTask::AugmentedAttr(name, op) => after_attribute(machine, world, name, op, value),
+        StmtTask::AugmentItem(key, op, x) => augment_key(machine, world, value, key, op, x),
+        StmtTask::AugmentKey(op, x) => after_augmented_key(machine, world, op, value, x),
+        StmtTask::AugmentedItem(op) => after_augmented_item(machine, world, op, value),
+        StmtTask::Unpack(target) => store_target(machine, world, target, value),
+        StmtTask::Handler(handler, behind) => after_handler(machine, world, handler, behind, value),
+        StmtTask::Return => returns(machine, value),
+        StmtTask::Define(name) => bind_next(machine, world, name, value),
+        StmtTask::Where(tests, clauses, adds) => {
+            after_where(machine, world, value, tests, clauses, adds)
         }
-    }
-
-    /// Begins a loop, which makes no more turns than there are steps, and one.
-    #[inline(never)]
-    fn begin_loop(
-        &mut self,
-        world: &mut World,
-        test: &'u Expr,
-        body: &'u [Stmt],
-    ) -> Result<(), Halt>
-        requires ready { IsReady self.old.units.now self.old.frame self.old.values world.old }
-        ensures law { OnOk result (Executes (stmt_forms.while (does.expr test.now) (does.block body.now))
-            self.old world.old self.new world.new) }
-        ensures ready { IsReady self.new.units.now self.new.frame self.new.values world.new }
-        ensures shape { KeepsShape world.old.store.heap world.new.store.heap }
-    {
-        self.next_turn(world, world.running.meter.left, test, body)
-    }
-
-    /// A turn of a loop that may still make so many.
-    #[inline(always)]
-    pub(crate) fn loop_turn(
-        &mut self,
-        world: &mut World,
-        turns: u64,
-        test: &'u Expr,
-        body: &'u [Stmt],
-    ) -> Result<(), Halt>
-        requires ready { IsReady self.old.units.now self.old.frame self.old.values world.old }
-        ensures law { OnOk result (Executes (loop turns (does.expr test.now) (does.block body.now))
-            self.old world.old self.new world.new) }
-        ensures ready { IsReady self.new.units.now self.new.frame self.new.values world.new }
-        ensures shape { KeepsShape world.old.store.heap world.new.store.heap }
-    {
-        if turns == 0 {
-            return self.cut_off(OpEnd::StopSteps);
-        }
-        self.next_turn(world, turns - 1, test, body)
-    }
-
-    /// A turn of a loop that may make so many behind it.
-    #[inline(always)]
-    fn next_turn(
-        &mut self,
-        world: &mut World,
-        behind: u64,
-        test: &'u Expr,
-        body: &'u [Stmt],
-    ) -> Result<(), Halt>
-        requires ready { IsReady self.old.units.now self.old.frame self.old.values world.old }
-        ensures law { OnOk result (Executes (loop (suc behind) (does.expr test.now) (does.block body.now))
-            self.old world.old self.new world.new) }
-        ensures ready { IsReady self.new.units.now self.new.frame self.new.values world.new }
-        ensures shape { KeepsShape world.old.store.heap world.new.store.heap }
-    {
-        self.tasks
-            .push(Task::Flow(FlowTask::While(behind, test, body)))?;
-        self.turn(world, test, body)
-    }
-
-    /// A turn, with its step; a test that is false leaves the loop.
-    #[inline(always)]
-    #[tactic(auto, using(rp_store::proofs::Shapes::goes_on, crate::proofs::Worlds::shape_stored))]
-    fn turn(&mut self, world: &mut World, test: &'u Expr, body: &'u [Stmt]) -> Result<(), Halt>
-        requires ready { IsReady self.old.units.now self.old.frame self.old.values world.old }
-        ensures law { OnOk result (Executes (turn (does.expr test.now) (does.block body.now))
-            self.old world.old self.new world.new) }
-        ensures ready { IsReady self.new.units.now self.new.frame self.new.values world.new }
-        ensures shape { KeepsShape world.old.store.heap world.new.store.heap }
-    {
-        if let Err(end) = take_step(world) {
-            return self.cut_off(end);
-        }
-        match self.leaf(world, test) {
-            Ok(Some(value)) => self.tested(world, value, body),
-            Ok(None) => self.wait(Task::Stmt(StmtTask::Test(body)), Control::Expression(test)),
-            Err(end) => self.cut_off(end),
-        }
-    }
-
-    /// Goes on by the test of a loop.
-    #[inline(always)]
-    fn tested(&mut self, world: &mut World, value: Value, body: &'u [Stmt]) -> Result<(), Halt>
-        requires ready { IsReady self.old.units.now self.old.frame self.old.values world.old }
-        requires value { IsFit world.old.store.heap self.old.frame.side value }
-        ensures law { OnOk result (Executes (tested_turn value (does.block body.now))
-            self.old world.old self.new world.new) }
-        ensures ready { IsReady self.new.units.now self.new.frame self.new.values world.new }
-        ensures shape { KeepsShape world.old.store.heap world.new.store.heap }
-    {
-        match truth(self.alloc, world, &value) {
-            Ok(true) => self.go(Control::Block(body)),
-            Ok(false) => self.go(Control::Broke),
-            Err(end) => self.cut_off(end),
-        }
-    }
-
-    /// Goes on by the test of a branch.
-    #[inline(always)]
-    fn branched(
-        &mut self,
-        world: &mut World,
-        value: Value,
-        body: &'u [Stmt],
-        branches: &'u [Branch],
-        other: &'u [Stmt],
-    ) -> Result<(), Halt>
-        requires ready { IsReady self.old.units.now self.old.frame self.old.values world.old }
-        requires value { IsFit world.old.store.heap self.old.frame.side value }
-        ensures law { OnOk result (ResumesStmt (StmtTask.Branch body.entry branches.entry other.entry) value
-            self.old world.old self.new world.new) }
-        ensures ready { IsReady self.new.units.now self.new.frame self.new.values world.new }
-        ensures shape { KeepsShape world.old.store.heap world.new.store.heap }
-    {
-        match truth(self.alloc, world, &value) {
-            Ok(true) => self.go(Control::Block(body)),
-            Ok(false) => self.choose(branches, other),
-            Err(end) => self.cut_off(end),
-        }
-    }
-
-    /// What a statement does with the value that it waited for.
-    #[inline(always)]
-    pub fn after_stmt(
-        &mut self,
-        world: &mut World,
-        task: StmtTask<'u>,
-        value: Value,
-    ) -> Result<(), Halt>
-        requires ready { IsReady self.old.units.now self.old.frame self.old.values world.old }
-        requires value { IsFit world.old.store.heap self.old.frame.side value }
-        ensures law { OnOk result (ResumesStmt task.entry value self.old world.old self.new world.new) }
-        ensures ready { IsReady self.new.units.now self.new.frame self.new.values world.new }
-        ensures shape { KeepsShape world.old.store.heap world.new.store.heap }
-    {
-        match task {
-            StmtTask::Evaluate => self.go(Control::Next),
-            StmtTask::Assign(places) => self.store_all(world, places, value),
-            StmtTask::Branch(body, branches, other) => self.branched(
-                world, value, body, branches, other,
-            ),
-            StmtTask::Test(body) => self.tested(world, value, body),
-            StmtTask::Assert(message) => self.asserted(world, value, message),
-            StmtTask::Fail => self.fail_with(world, value),
-            StmtTask::StoreAttr(name) => self.after_object(world, name, value),
-            StmtTask::StoreItem(key) => self.after_container(world, key, value),
-            StmtTask::StoreKey => self.after_store_key(world, value),
-            StmtTask::DeleteAttr(name) => self.del_attribute(world, value, name),
-            StmtTask::DeleteItem(key) => self.delete_key(world, value, key),
-            StmtTask::DeleteKey => self.after_deleted_key(world, value),
-            StmtTask::AugmentName(name, op) => self.after_augment(world, name, op, value),
-            StmtTask::For(each) => self.walk_over(world, value, each),
-            StmtTask::Raise => self.raised(value),
-            StmtTask::AugmentAttr(name, op, x) => self.augment_read(world, value, name, op, x),
-            StmtTask::AugmentedAttr(name, op) => self.after_attribute(world, name, op, value),
-            StmtTask::AugmentItem(key, op, x) => self.augment_key(world, value, key, op, x),
-            StmtTask::AugmentKey(op, x) => self.after_augmented_key(world, op, value, x),
-            StmtTask::AugmentedItem(op) => self.after_augmented_item(world, op, value),
-            StmtTask::Unpack(target) => self.store_target(world, target, value),
-            StmtTask::Handler(handler, behind) => self.after_handler(world, handler, behind, value),
-            StmtTask::Return => self.returns(value),
-            StmtTask::Define(name) => self.bind_next(world, name, value),
+        StmtTask::AddElement(at) => add_element(machine, world, at, value),
+        StmtTask::AddKey(at, x) => after_added_key(machine, value, at, x),
+        StmtTask::AddEntry(at) => add_entry(machine, world, at, value),
+        StmtTask::Method(name, body, done, count) => {
+            after_method(machine, world, name, body, done, count, value)
         }
     }
 }

@@ -1,5 +1,5 @@
 //! Tasks that take up how a part ended.
-#![tactic(auto, using(rp_store::proofs::Shapes::goes_on, crate::proofs::AtHand::at_hand))]
+#![tactic(auto, using(rp_store::proofs::Shapes::goes_on, rp_engine::proofs::AtHand::at_hand))]
 
 ghost use Rattle.std.specs.Prelude.{◌≡◌, List, [], None, drop, OnOk};
 ghost use Rattle.rp_meaning.specs.Frame.{Frame, Run};
@@ -11,18 +11,23 @@ ghost use Rattle.rp_frame.specs.Top.{top, below};
 ghost use Rattle.rp_proxy.specs.declared.world.World.{World as TheWorld};
 ghost use Rattle.rp_access.specs.Comes.{Comes, IsEnd};
 ghost use Rattle.rp_store.specs.Shape.{KeepsShape};
-ghost use Rattle.rp_step.specs.Ends.{end_of};
-ghost use Rattle.rp_step.specs.Law.{Takes, TakesUp, frame_in, rest_of};
-ghost use Rattle.rp_step.specs.Left.{at_hand, flows, stmt_with};
+ghost use Rattle.rp_engine.specs.Ends.{end_of};
+ghost use Rattle.rp_engine.specs.Law.{Takes, TakesUp, frame_in, rest_of};
+ghost use Rattle.rp_engine.specs.Left.{at_hand, stmt_with};
+ghost use Rattle.rp_step.specs.Left.{flows};
 ghost use Rattle.rp_access.specs.Moment.{state_of};
-ghost use Rattle.rp_step.specs.Ready.{IsReady};
-ghost use Rattle.rp_step.specs.Rest.{after, after_flow, begun, did, gave, rest};
+ghost use Rattle.rp_engine.specs.Ready.{IsReady};
+ghost use Rattle.rp_engine.specs.Rest.{after, after_flow, begun, did, gave, rest};
 
-use crate::halt::Halt;
-use crate::machine::Machine;
+use crate::cutting::flow_cut;
+use crate::expressions::after_expr;
+use crate::statements::{after_stmt, loop_turn};
 use rp_base::{OpEnd, Rock, Value};
+use rp_engine::{Halt, Machine};
 use rp_frame::{Control, ExprTask, FlowTask, Leaving, StmtTask, Task};
 use rp_proxy::World;
+use rp_statements::{behind_handler, class_part, finish, leave, with_return};
+use rp_targets::{comprehended, delete_all, store_each, store_more, walk_on, where_all};
 
 /// How a block was left (Python Language Reference, Simple statements).
 #[derive(Drop)]
@@ -37,276 +42,310 @@ pub enum Left {
     Returned(Value),
 }
 
-impl<'u> Machine<'u> {
-    /// A task takes up how the part ended for which it waited.
-    #[inline(always)]
-    pub(crate) fn take_up(&mut self, world: &mut World, task: Task<'u>) -> Result<(), Halt>
-        requires ready { IsReady self.old.units.now self.old.frame self.old.values world.old }
-        ensures law { OnOk result (Takes task.entry self.old world.old self.new world.new) }
-        ensures ready { IsReady self.new.units.now self.new.frame self.new.values world.new }
-        ensures shape { KeepsShape world.old.store.heap world.new.store.heap }
-    {
-        match self.control {
-            Control::Value => self.with_value(world, task),
-            Control::Next => self.with_next(world, task),
-            Control::Broke => self.with_break(world, task),
-            Control::Continued => self.with_continue(world, task),
-            Control::NoValue => self.without_value(task),
-            Control::CutOff => self.with_cut(world, task),
-            Control::Returned => self.with_return(world, task),
-            _ => self.put_back(task),
+/// A task takes up how the part ended for which it waited.
+#[inline(always)]
+pub(crate) fn take_up<'u>(
+    machine: &mut Machine<'u>,
+    world: &mut World,
+    task: Task<'u>,
+) -> Result<(), Halt>
+    requires ready { IsReady machine.old.units.now machine.old.frame machine.old.values world.old }
+    ensures law { OnOk result (Takes task.entry machine.old world.old machine.new world.new) }
+    ensures ready { IsReady machine.new.units.now machine.new.frame machine.new.values world.new }
+    ensures shape { KeepsShape world.old.store.heap world.new.store.heap }
+{
+    match machine.control {
+        Control::Value => with_value(machine, world, task),
+        Control::Next => with_next(machine, world, task),
+        Control::Broke => with_break(machine, world, task),
+        Control::Continued => with_continue(machine, world, task),
+        Control::NoValue => without_value(machine, task),
+        Control::CutOff => with_cut(machine, world, task),
+        Control::Returned => with_return(machine, world, task),
+        _ => put_back(machine, task),
+    }
+}
+
+/// A task waits on.
+#[inline(never)]
+fn put_back<'u>(machine: &mut Machine<'u>, task: Task<'u>) -> Result<(), Halt>
+    ensures law { OnOk result ((w : TheWorld) → Takes task.entry machine.old w machine.new w) }
+    ensures ready { (w : TheWorld) → IsReady machine.old.units.now machine.old.frame machine.old.values w
+        → IsReady machine.new.units.now machine.new.frame machine.new.values w }
+{
+    machine.tasks.push(task)?;
+    Ok(())
+}
+
+/// A task gets the value for which it waited.
+#[inline(always)]
+fn with_value<'u>(machine: &mut Machine<'u>, world: &mut World, task: Task<'u>) -> Result<(), Halt>
+    requires ready { IsReady machine.old.units.now machine.old.frame machine.old.values world.old }
+    ensures law { OnOk result ((base : Run) → rest_of base machine.new (state_of world.new) ≡ rest machine.old.tasks
+        (after task.entry (gave (frame_in base machine.old) (below machine.old.values)
+        (gives (top machine.old.values) (state_of world.old))))) }
+    ensures ready { IsReady machine.new.units.now machine.new.frame machine.new.values world.new }
+    ensures shape { KeepsShape world.old.store.heap world.new.store.heap }
+{
+    match task {
+        Task::Expr(task) => {
+            let value = machine.values.pop();
+            after_expr(machine, world, task, value)
         }
-    }
-
-    /// A task waits on.
-    #[inline(never)]
-    fn put_back(&mut self, task: Task<'u>) -> Result<(), Halt>
-        ensures law { OnOk result ((w : TheWorld) → Takes task.entry self.old w self.new w) }
-        ensures ready { (w : TheWorld) → IsReady self.old.units.now self.old.frame self.old.values w
-            → IsReady self.new.units.now self.new.frame self.new.values w }
-    {
-        self.tasks.push(task)?;
-        Ok(())
-    }
-
-    /// A task gets the value for which it waited.
-    #[inline(always)]
-    fn with_value(&mut self, world: &mut World, task: Task<'u>) -> Result<(), Halt>
-        requires ready { IsReady self.old.units.now self.old.frame self.old.values world.old }
-        ensures law { OnOk result ((base : Run) → rest_of base self.new (state_of world.new) ≡ rest self.old.tasks
-            (after task.entry (gave (frame_in base self.old) (below self.old.values)
-            (gives (top self.old.values) (state_of world.old))))) }
-        ensures ready { IsReady self.new.units.now self.new.frame self.new.values world.new }
-        ensures shape { KeepsShape world.old.store.heap world.new.store.heap }
-    {
-        match task {
-            Task::Expr(task) => {
-                let value = self.values.pop();
-                self.after_expr(world, task, value)
-            }
-            Task::Stmt(task) => {
-                let value = self.values.pop();
-                self.after_stmt(world, task, value)
-            }
-            Task::Flow(_) => self.go(Control::Value),
+        Task::Stmt(task) => {
+            let value = machine.values.pop();
+            after_stmt(machine, world, task, value)
         }
+        Task::Flow(_) => machine.go(Control::Value),
     }
+}
 
-    /// A task gets no value: it drops those that it waited with.
-    #[inline(never)]
-    fn without_value(&mut self, task: Task<'u>) -> Result<(), Halt>
-        ensures law { OnOk result ((base : Run) (s : State) → rest_of base self.new s ≡ rest self.old.tasks
-            (after task.entry (gave (frame_in base self.old) self.old.values (ends (end_of self.old.end) s)))) }
-        ensures ready { (w : TheWorld) → IsReady self.old.units.now self.old.frame self.old.values w
-            → IsReady self.new.units.now self.new.frame self.new.values w }
-    {
-        match task {
-            Task::Expr(task) => {
-                self.forget(held_with(task));
-                self.go(Control::NoValue)
-            }
-            Task::Stmt(task) => {
-                self.forget(stmt_with(task));
-                self.go(Control::CutOff)
-            }
-            Task::Flow(_) => self.go(Control::NoValue),
+/// A task gets no value: it drops those that it waited with.
+#[inline(never)]
+fn without_value<'u>(machine: &mut Machine<'u>, task: Task<'u>) -> Result<(), Halt>
+    ensures law { OnOk result ((base : Run) (s : State) → rest_of base machine.new s ≡ rest machine.old.tasks
+        (after task.entry (gave (frame_in base machine.old) machine.old.values (ends (end_of machine.old.end) s)))) }
+    ensures ready { (w : TheWorld) → IsReady machine.old.units.now machine.old.frame machine.old.values w
+        → IsReady machine.new.units.now machine.new.frame machine.new.values w }
+{
+    match task {
+        Task::Expr(task) => {
+            machine.forget(held_with(task));
+            machine.go(Control::NoValue)
         }
-    }
-
-    /// Drops so many of the values at hand.
-    pub(crate) fn forget(&mut self, count: usize)
-        ensures { self.new ≡ record self.old { values = drop count self.old.values } }
-    {
-        for _ in 0..count {
-            let _value = self.values.pop();
+        Task::Stmt(task) => {
+            machine.forget(stmt_with(task));
+            machine.go(Control::CutOff)
         }
+        Task::Flow(_) => machine.go(Control::NoValue),
     }
+}
 
-    /// A task goes on from a statement that was done.
-    #[inline(always)]
-    fn with_next(&mut self, world: &mut World, task: Task<'u>) -> Result<(), Halt>
-        requires ready { IsReady self.old.units.now self.old.frame self.old.values world.old }
-        ensures law { OnOk result (TakesUp task.entry (leave next) self.old world.old self.new world.new) }
-        ensures ready { IsReady self.new.units.now self.new.frame self.new.values world.new }
-        ensures shape { KeepsShape world.old.store.heap world.new.store.heap }
-    {
-        match task {
-            Task::Flow(task) => self.flow_next(world, task),
-            Task::Expr(_) => self.go(Control::Next),
-            Task::Stmt(_) => self.go(Control::Next),
+/// A task goes on from a statement that was done.
+#[inline(always)]
+fn with_next<'u>(machine: &mut Machine<'u>, world: &mut World, task: Task<'u>) -> Result<(), Halt>
+    requires ready { IsReady machine.old.units.now machine.old.frame machine.old.values world.old }
+    ensures law { OnOk result (TakesUp task.entry (leave next) machine.old world.old machine.new world.new) }
+    ensures ready { IsReady machine.new.units.now machine.new.frame machine.new.values world.new }
+    ensures shape { KeepsShape world.old.store.heap world.new.store.heap }
+{
+    match task {
+        Task::Flow(task) => flow_next(machine, world, task),
+        Task::Expr(_) => machine.go(Control::Next),
+        Task::Stmt(_) => machine.go(Control::Next),
+    }
+}
+
+/// The statements, turns or places that are left.
+#[inline(always)]
+fn flow_next<'u>(
+    machine: &mut Machine<'u>,
+    world: &mut World,
+    task: FlowTask<'u>,
+) -> Result<(), Halt>
+    requires ready { IsReady machine.old.units.now machine.old.frame machine.old.values world.old }
+    ensures law { OnOk result ((base : Run) → rest_of base machine.new (state_of world.new) ≡ rest machine.old.tasks
+        (after_flow task.entry (frame_in base machine.old) machine.old.values (gives next (state_of world.old)))) }
+    ensures ready { IsReady machine.new.units.now machine.new.frame machine.new.values world.new }
+    ensures shape { KeepsShape world.old.store.heap world.new.store.heap }
+{
+    match task {
+        FlowTask::Block(rest) => crate::run::block(machine, rest),
+        FlowTask::While(turns, test, body) => loop_turn(machine, world, turns, test, body),
+        FlowTask::Store(places) => store_more(machine, world, places),
+        FlowTask::Delete(places) => delete_all(machine, world, places),
+        FlowTask::For(turns, spot, each) => walk_on(machine, world, turns, spot, each),
+        FlowTask::StoreEach(targets) => store_each(machine, world, targets),
+        FlowTask::Class(name, body, done, count) => {
+            class_part(machine, world, name, body, done, count)
         }
-    }
-
-    /// The statements, turns or places that are left.
-    #[inline(always)]
-    fn flow_next(&mut self, world: &mut World, task: FlowTask<'u>) -> Result<(), Halt>
-        requires ready { IsReady self.old.units.now self.old.frame self.old.values world.old }
-        ensures law { OnOk result ((base : Run) → rest_of base self.new (state_of world.new) ≡ rest self.old.tasks
-            (after_flow task.entry (frame_in base self.old) self.old.values (gives next (state_of world.old)))) }
-        ensures ready { IsReady self.new.units.now self.new.frame self.new.values world.new }
-        ensures shape { KeepsShape world.old.store.heap world.new.store.heap }
-    {
-        match task {
-            FlowTask::Block(rest) => self.block(rest),
-            FlowTask::While(turns, test, body) => self.loop_turn(world, turns, test, body),
-            FlowTask::Store(places) => self.store_more(world, places),
-            FlowTask::Delete(places) => self.delete_all(world, places),
-            FlowTask::For(turns, spot, each) => self.walk_on(world, turns, spot, each),
-            FlowTask::StoreEach(targets) => self.store_each(world, targets),
-            FlowTask::Try(_, other) => self.go(Control::Block(other)),
-            FlowTask::Handled(name) => self.behind_handler(world, name, Control::Next),
-            FlowTask::Finally(last) => self.finish(Value::Rock(Rock::Nil), Leaving::Next, last),
-            FlowTask::Leave(leaving) => self.leave(leaving),
+        FlowTask::Clause(tests, clauses, adds) => where_all(machine, world, tests, clauses, adds),
+        FlowTask::Comprehension(block, scope, at) => {
+            comprehended(machine, world, block, scope, at)
         }
+        FlowTask::Try(_, other) => machine.go(Control::Block(other)),
+        FlowTask::Handled(name) => behind_handler(machine, world, name, Control::Next),
+        FlowTask::Finally(last) => finish(machine, Value::Rock(Rock::Nil), Leaving::Next, last),
+        FlowTask::Leave(leaving) => leave(machine, leaving),
     }
+}
 
-    /// A task takes up `continue`.
-    #[inline(never)]
-    fn with_continue(&mut self, world: &mut World, task: Task<'u>) -> Result<(), Halt>
-        requires ready { IsReady self.old.units.now self.old.frame self.old.values world.old }
-        ensures law { OnOk result (TakesUp task.entry (leave continued) self.old world.old self.new world.new) }
-        ensures ready { IsReady self.new.units.now self.new.frame self.new.values world.new }
-        ensures shape { KeepsShape world.old.store.heap world.new.store.heap }
-    {
-        match task {
-            Task::Flow(task) => self.flow_continue(world, task),
-            Task::Expr(_) => self.go(Control::Continued),
-            Task::Stmt(_) => self.go(Control::Continued),
+/// A task takes up `continue`.
+#[inline(never)]
+fn with_continue<'u>(
+    machine: &mut Machine<'u>,
+    world: &mut World,
+    task: Task<'u>,
+) -> Result<(), Halt>
+    requires ready { IsReady machine.old.units.now machine.old.frame machine.old.values world.old }
+    ensures law { OnOk result (TakesUp task.entry (leave continued) machine.old world.old machine.new world.new) }
+    ensures ready { IsReady machine.new.units.now machine.new.frame machine.new.values world.new }
+    ensures shape { KeepsShape world.old.store.heap world.new.store.heap }
+{
+    match task {
+        Task::Flow(task) => flow_continue(machine, world, task),
+        Task::Expr(_) => machine.go(Control::Continued),
+        Task::Stmt(_) => machine.go(Control::Continued),
+    }
+}
+
+/// A loop makes its next turn; all else is left.
+#[inline(always)]
+fn flow_continue<'u>(
+    machine: &mut Machine<'u>,
+    world: &mut World,
+    task: FlowTask<'u>,
+) -> Result<(), Halt>
+    requires ready { IsReady machine.old.units.now machine.old.frame machine.old.values world.old }
+    ensures law { OnOk result ((base : Run) → rest_of base machine.new (state_of world.new) ≡ rest machine.old.tasks
+        (after_flow task.entry (frame_in base machine.old) machine.old.values (gives continued (state_of world.old)))) }
+    ensures ready { IsReady machine.new.units.now machine.new.frame machine.new.values world.new }
+    ensures shape { KeepsShape world.old.store.heap world.new.store.heap }
+{
+    match task {
+        FlowTask::While(turns, test, body) => loop_turn(machine, world, turns, test, body),
+        FlowTask::Store(_) => go_without(machine, Control::Continued),
+        FlowTask::Block(_) => machine.go(Control::Continued),
+        FlowTask::Delete(_) => machine.go(Control::Continued),
+        FlowTask::For(turns, spot, each) => walk_on(machine, world, turns, spot, each),
+        FlowTask::StoreEach(targets) => go_less(machine, targets.len(), Control::Continued),
+        FlowTask::Class(name, body, done, count) => {
+            class_part(machine, world, name, body, done, count)
         }
-    }
-
-    /// A loop makes its next turn; all else is left.
-    #[inline(always)]
-    fn flow_continue(&mut self, world: &mut World, task: FlowTask<'u>) -> Result<(), Halt>
-        requires ready { IsReady self.old.units.now self.old.frame self.old.values world.old }
-        ensures law { OnOk result ((base : Run) → rest_of base self.new (state_of world.new) ≡ rest self.old.tasks
-            (after_flow task.entry (frame_in base self.old) self.old.values (gives continued (state_of world.old)))) }
-        ensures ready { IsReady self.new.units.now self.new.frame self.new.values world.new }
-        ensures shape { KeepsShape world.old.store.heap world.new.store.heap }
-    {
-        match task {
-            FlowTask::While(turns, test, body) => self.loop_turn(world, turns, test, body),
-            FlowTask::Store(_) => self.go_without(Control::Continued),
-            FlowTask::Block(_) => self.go(Control::Continued),
-            FlowTask::Delete(_) => self.go(Control::Continued),
-            FlowTask::For(turns, spot, each) => self.walk_on(world, turns, spot, each),
-            FlowTask::StoreEach(targets) => self.go_less(targets.len(), Control::Continued),
-            FlowTask::Try(_, _) => self.go(Control::Continued),
-            FlowTask::Handled(name) => self.behind_handler(world, name, Control::Continued),
-            FlowTask::Finally(last) => {
-                self.finish(Value::Rock(Rock::Nil), Leaving::Continued, last)
-            }
-            FlowTask::Leave(_) => self.go_without(Control::Continued),
+        FlowTask::Clause(_, _, _) => machine.go(Control::Continued),
+        FlowTask::Comprehension(block, scope, at) => {
+            comprehended(machine, world, block, scope, at)
         }
-    }
-
-    /// A task takes up `break`.
-    #[inline(never)]
-    fn with_break(&mut self, world: &mut World, task: Task<'u>) -> Result<(), Halt>
-        requires ready { IsReady self.old.units.now self.old.frame self.old.values world.old }
-        ensures law { OnOk result (TakesUp task.entry (leave broke) self.old world.old self.new world.new) }
-        ensures ready { IsReady self.new.units.now self.new.frame self.new.values world.new }
-        ensures shape { KeepsShape world.old.store.heap world.new.store.heap }
-    {
-        match task {
-            Task::Flow(task) => self.flow_break(world, task),
-            Task::Expr(_) => self.go(Control::Broke),
-            Task::Stmt(_) => self.go(Control::Broke),
+        FlowTask::Try(_, _) => machine.go(Control::Continued),
+        FlowTask::Handled(name) => behind_handler(machine, world, name, Control::Continued),
+        FlowTask::Finally(last) => {
+            finish(machine, Value::Rock(Rock::Nil), Leaving::Continued, last)
         }
+        FlowTask::Leave(_) => go_without(machine, Control::Continued),
     }
+}
 
-    /// A loop is done; all else is left.
-    #[inline(always)]
-    fn flow_break(&mut self, world: &mut World, task: FlowTask<'u>) -> Result<(), Halt>
-        requires ready { IsReady self.old.units.now self.old.frame self.old.values world.old }
-        ensures law { OnOk result ((base : Run) → rest_of base self.new (state_of world.new) ≡ rest self.old.tasks
-            (after_flow task.entry (frame_in base self.old) self.old.values (gives broke (state_of world.old)))) }
-        ensures ready { IsReady self.new.units.now self.new.frame self.new.values world.new }
-        ensures shape { KeepsShape world.old.store.heap world.new.store.heap }
-    {
-        match task {
-            FlowTask::While(_, _, _) => self.go(Control::Next),
-            FlowTask::Store(_) => self.go_without(Control::Broke),
-            FlowTask::Block(_) => self.go(Control::Broke),
-            FlowTask::Delete(_) => self.go(Control::Broke),
-            FlowTask::For(_, _, _) => self.go_without(Control::Next),
-            FlowTask::StoreEach(targets) => self.go_less(targets.len(), Control::Broke),
-            FlowTask::Try(_, _) => self.go(Control::Broke),
-            FlowTask::Handled(name) => self.behind_handler(world, name, Control::Broke),
-            FlowTask::Finally(last) => { self.finish(Value::Rock(Rock::Nil), Leaving::Broke, last) }
-            FlowTask::Leave(_) => self.go_without(Control::Broke),
+/// A task takes up `break`.
+#[inline(never)]
+fn with_break<'u>(machine: &mut Machine<'u>, world: &mut World, task: Task<'u>) -> Result<(), Halt>
+    requires ready { IsReady machine.old.units.now machine.old.frame machine.old.values world.old }
+    ensures law { OnOk result (TakesUp task.entry (leave broke) machine.old world.old machine.new world.new) }
+    ensures ready { IsReady machine.new.units.now machine.new.frame machine.new.values world.new }
+    ensures shape { KeepsShape world.old.store.heap world.new.store.heap }
+{
+    match task {
+        Task::Flow(task) => flow_break(machine, world, task),
+        Task::Expr(_) => machine.go(Control::Broke),
+        Task::Stmt(_) => machine.go(Control::Broke),
+    }
+}
+
+/// A loop is done; all else is left.
+#[inline(always)]
+fn flow_break<'u>(
+    machine: &mut Machine<'u>,
+    world: &mut World,
+    task: FlowTask<'u>,
+) -> Result<(), Halt>
+    requires ready { IsReady machine.old.units.now machine.old.frame machine.old.values world.old }
+    ensures law { OnOk result ((base : Run) → rest_of base machine.new (state_of world.new) ≡ rest machine.old.tasks
+        (after_flow task.entry (frame_in base machine.old) machine.old.values (gives broke (state_of world.old)))) }
+    ensures ready { IsReady machine.new.units.now machine.new.frame machine.new.values world.new }
+    ensures shape { KeepsShape world.old.store.heap world.new.store.heap }
+{
+    match task {
+        FlowTask::While(_, _, _) => machine.go(Control::Next),
+        FlowTask::Store(_) => go_without(machine, Control::Broke),
+        FlowTask::Block(_) => machine.go(Control::Broke),
+        FlowTask::Delete(_) => machine.go(Control::Broke),
+        FlowTask::For(_, _, _) => go_without(machine, Control::Next),
+        FlowTask::StoreEach(targets) => go_less(machine, targets.len(), Control::Broke),
+        FlowTask::Class(name, body, done, count) => {
+            class_part(machine, world, name, body, done, count)
         }
-    }
-
-    /// Goes on with the last value at hand dropped.
-    pub(crate) fn go_without(&mut self, control: Control<'u>) -> Result<(), Halt>
-        ensures law { (base : Run) (s : State) → rest_of base self.new s ≡ rest self.old.tasks
-            (begun (frame_in base self.old) control.entry (below self.old.values) self.old.end s) }
-        ensures ready { (w : TheWorld) → IsReady self.old.units.now self.old.frame self.old.values w
-            → IsReady self.new.units.now self.new.frame self.new.values w }
-    {
-        let _value = self.values.pop();
-        self.go(control)
-    }
-
-    /// Goes on with so many of the values at hand dropped.
-    pub(crate) fn go_less(&mut self, count: usize, control: Control<'u>) -> Result<(), Halt>
-        ensures law { (base : Run) (s : State) → rest_of base self.new s ≡ rest self.old.tasks
-            (begun (frame_in base self.old) control.entry (drop count self.old.values) self.old.end s) }
-        ensures ready { (w : TheWorld) → IsReady self.old.units.now self.old.frame self.old.values w
-            → IsReady self.new.units.now self.new.frame self.new.values w }
-    {
-        self.forget(count);
-        self.go(control)
-    }
-
-    /// A task takes up that a statement was cut off.
-    #[inline(never)]
-    fn with_cut(&mut self, world: &mut World, task: Task<'u>) -> Result<(), Halt>
-        requires ready { IsReady self.old.units.now self.old.frame self.old.values world.old }
-        ensures law { OnOk result ((base : Run) → rest_of base self.new (state_of world.new) ≡ rest self.old.tasks
-            (after task.entry (did (frame_in base self.old) self.old.values
-            (ends (end_of self.old.end) (state_of world.old))))) }
-        ensures ready { IsReady self.new.units.now self.new.frame self.new.values world.new }
-        ensures shape { KeepsShape world.old.store.heap world.new.store.heap }
-    {
-        match task {
-            Task::Flow(task) => self.flow_cut(world, task),
-            Task::Expr(_) => self.go(Control::CutOff),
-            Task::Stmt(_) => self.go(Control::CutOff),
+        FlowTask::Clause(_, _, _) => machine.go(Control::Broke),
+        FlowTask::Comprehension(block, scope, at) => {
+            comprehended(machine, world, block, scope, at)
         }
+        FlowTask::Try(_, _) => machine.go(Control::Broke),
+        FlowTask::Handled(name) => behind_handler(machine, world, name, Control::Broke),
+        FlowTask::Finally(last) => { finish(machine, Value::Rock(Rock::Nil), Leaving::Broke, last) }
+        FlowTask::Leave(_) => go_without(machine, Control::Broke),
     }
+}
 
-    /// How a block was left, where no task waits for that.
-    ///
-    /// # Errors
-    /// Why it was cut off.
-    pub(crate) fn left(&mut self) -> Result<Left, OpEnd>
-        ensures law { (base : Run) (s : State) (f : Frame) (vs : List TheValue) (o : Outcome Flow)
-            → self.old.tasks ≡ []
-            → rest_of base self.old s ≡ did f vs o → Comes (flows result) s o }
-        ensures ready { (w : TheWorld) → IsReady self.old.units.now self.old.frame self.old.values w
-            → IsReady self.new.units.now self.new.frame self.new.values w }
-    {
-        match self.control {
-            Control::Next => Ok(Left::Next),
-            Control::Broke => Ok(Left::Broke),
-            Control::Continued => Ok(Left::Continued),
-            Control::CutOff => Err(self.why()),
-            Control::Returned => Ok(Left::Returned(self.values.pop())),
-            _ => Err(OpEnd::Memory),
-        }
+/// Goes on with the last value at hand dropped.
+pub(crate) fn go_without<'u>(machine: &mut Machine<'u>, control: Control<'u>) -> Result<(), Halt>
+    ensures law { (base : Run) (s : State) → rest_of base machine.new s ≡ rest machine.old.tasks
+        (begun (frame_in base machine.old) control.entry (below machine.old.values) machine.old.end s) }
+    ensures ready { (w : TheWorld) → IsReady machine.old.units.now machine.old.frame machine.old.values w
+        → IsReady machine.new.units.now machine.new.frame machine.new.values w }
+{
+    let _value = machine.values.pop();
+    machine.go(control)
+}
+
+/// Goes on with so many of the values at hand dropped.
+pub(crate) fn go_less<'u>(
+    machine: &mut Machine<'u>,
+    count: usize,
+    control: Control<'u>,
+) -> Result<(), Halt>
+    ensures law { (base : Run) (s : State) → rest_of base machine.new s ≡ rest machine.old.tasks
+        (begun (frame_in base machine.old) control.entry (drop count machine.old.values) machine.old.end s) }
+    ensures ready { (w : TheWorld) → IsReady machine.old.units.now machine.old.frame machine.old.values w
+        → IsReady machine.new.units.now machine.new.frame machine.new.values w }
+{
+    machine.forget(count);
+    machine.go(control)
+}
+
+/// A task takes up that a statement was cut off.
+#[inline(never)]
+fn with_cut<'u>(machine: &mut Machine<'u>, world: &mut World, task: Task<'u>) -> Result<(), Halt>
+    requires ready { IsReady machine.old.units.now machine.old.frame machine.old.values world.old }
+    ensures law { OnOk result ((base : Run) → rest_of base machine.new (state_of world.new) ≡ rest machine.old.tasks
+        (after task.entry (did (frame_in base machine.old) machine.old.values
+        (ends (end_of machine.old.end) (state_of world.old))))) }
+    ensures ready { IsReady machine.new.units.now machine.new.frame machine.new.values world.new }
+    ensures shape { KeepsShape world.old.store.heap world.new.store.heap }
+{
+    match task {
+        Task::Flow(task) => flow_cut(machine, world, task),
+        Task::Expr(_) => machine.go(Control::CutOff),
+        Task::Stmt(_) => machine.go(Control::CutOff),
     }
+}
 
-    /// Why a statement was cut off.
-    fn why(&mut self) -> OpEnd
-        ensures end { (s : State) (o : Outcome Flow) → o ≡ ends (end_of self.old.end) s → IsEnd result s o }
-        ensures same { self.new ≡ record self.old { end = None } }
-    {
-        match self.end.take() {
-            Some(end) => end,
-            None => OpEnd::StopCells,
-        }
+/// How a block was left, where no task waits for that.
+///
+/// # Errors
+/// Why it was cut off.
+pub(crate) fn how_left<'u>(machine: &mut Machine<'u>) -> Result<Left, OpEnd>
+    ensures law { (base : Run) (s : State) (f : Frame) (vs : List TheValue) (o : Outcome Flow)
+        → machine.old.tasks ≡ []
+        → rest_of base machine.old s ≡ did f vs o → Comes (flows result) s o }
+    ensures ready { (w : TheWorld) → IsReady machine.old.units.now machine.old.frame machine.old.values w
+        → IsReady machine.new.units.now machine.new.frame machine.new.values w }
+{
+    match machine.control {
+        Control::Next => Ok(Left::Next),
+        Control::Broke => Ok(Left::Broke),
+        Control::Continued => Ok(Left::Continued),
+        Control::CutOff => Err(why(machine)),
+        Control::Returned => Ok(Left::Returned(machine.values.pop())),
+        _ => Err(OpEnd::Memory),
+    }
+}
+
+/// Why a statement was cut off.
+fn why<'u>(machine: &mut Machine<'u>) -> OpEnd
+    ensures end { (s : State) (o : Outcome Flow) → o ≡ ends (end_of machine.old.end) s → IsEnd result s o }
+    ensures same { machine.new ≡ record machine.old { end = None } }
+{
+    match machine.end.take() {
+        Some(end) => end,
+        None => OpEnd::StopCells,
     }
 }
 
@@ -326,6 +365,9 @@ fn held_with(task: ExprTask) -> usize
         ExprTask::SliceStep(_) => 3,
         ExprTask::DictKey(count, _, _) => count as usize,
         ExprTask::DictValue(count, _) => count as usize,
+        ExprTask::StarArgument(count, _, _) => count as usize + 1,
+        ExprTask::NamedArgument(count, named, _, _, _) => 2 * named as usize + count as usize + 1,
+        ExprTask::StarsArgument(count, named, _, _) => 2 * named as usize + count as usize + 1,
         ExprTask::Default(_, _, count, _) => count as usize,
         _ => 0,
     }
@@ -345,6 +387,8 @@ fn stmt_with(task: StmtTask) -> usize
         StmtTask::AugmentKey(_, _) => 1,
         StmtTask::AugmentedItem(_) => 3,
         StmtTask::Handler(_, _) => 1,
+        StmtTask::AddEntry(_) => 1,
+        StmtTask::Method(_, _, _, count) => count as usize,
         _ => 0,
     }
 }

@@ -2,6 +2,8 @@
 #![tactic(auto)]
 
 #[cfg(test)]
+mod class_tests;
+#[cfg(test)]
 mod exit_tests;
 #[cfg(test)]
 mod flow_tests;

@@ -63,6 +63,20 @@ bob => del site.info['n'] \
 bob => tags = site.tags~tags += ['x'] \
     => ForbiddenAttribute: __iadd__~1 1 bob allow get Page.tags demo.View~2 1 bob forbid get list.__iadd__~"#;
 
+const SPREADS: &str = r#"bob => print([t for t in site.tags]) \
+    => ['a', 'b']~well~1 1 bob allow get Page.tags demo.View~2 1 bob allow get list.__iter__ zope.Public~
+bob => print([x for row in site.rows for x in row if x > 1]) \
+    => [2, 3]~well~1 1 bob allow get Page.rows demo.View~2 1 bob allow get list.__iter__ zope.Public~\
+    3 1 bob allow get list.__iter__ zope.Public~4 1 bob allow get list.__iter__ zope.Public~
+eve => [x for x in site] => ForbiddenAttribute: __iter__~1 1 eve forbid get Page.__iter__~
+bob => print(*site.tags) \
+    => a b~well~1 1 bob allow get Page.tags demo.View~2 1 bob allow get list.__iter__ zope.Public~
+bob => def f(**d):~    return d~print(f(**site.info)) => {'n': 1, 'on': True}~well~\
+    1 1 bob allow get Page.info demo.View~2 1 bob allow get dict.items zope.Public~
+eve => print(*site) => ForbiddenAttribute: __iter__~1 1 eve forbid get Page.__iter__~
+eve => def f(**d):~    return d~f(**site) => ForbiddenAttribute: items~1 1 eve forbid get Page.items~
+eve => site(x=1) => ForbiddenAttribute: __call__~1 1 eve forbid get Page.__call__~"#;
+
 /// The same of code that no policy judges.
 const UPDATES: &str =
     r#"eve => site.size += 4~print(site.size) => 7~well~1 1 eve allow get Page.size zope.Public~\
@@ -169,6 +183,11 @@ fn walks_are_decided_once(rt: HostRuntime) -> Result<(), Fail> {
 #[test]
 fn changes_are_decided(rt: HostRuntime) -> Result<(), Fail> {
     all_answer(rt.alloc(), &RanFor, CHANGES)
+}
+
+#[test]
+fn what_is_spread_is_decided(rt: HostRuntime) -> Result<(), Fail> {
+    all_answer(rt.alloc(), &RanFor, SPREADS)
 }
 
 #[test]

@@ -3,8 +3,8 @@
 ghost use Rattle.std.specs.Prelude.{◌≡◌, IfOk, IfSome};
 ghost use Rattle.rp_tests_stage.specs.Staged.{IsStaged};
 
+use rp_engine::Halt;
 use rp_session::{Session, SessionEnd, SessionHalt, Sessions};
-use rp_step::Halt;
 use rp_tests_cases::{Question, number, part};
 use rp_tests_stage::{Code, Reading, Setting, Stage, Words, read, set};
 use std::alloc::Global;

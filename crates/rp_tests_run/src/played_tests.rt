@@ -71,17 +71,30 @@ def f():~    return f()~f() => session 1 bob~end RecursionError: calls~1
 def f():~    try:~        while True:~            pass~    except:~        print('no')~    finally:~        print('no')\
     ~f() => session 1 bob~end stopped steps~5"#;
 
+/// Classes, comprehensions, and arguments by name and star.
+const CLASSES: &str =
+    r#"class A:~    def __init__(self, n, k=2):~        self.n = n * k~    def get(self):~        return self.n\
+    ~print(A(3).get(), A(3, k=5).n) => session 1 bob~6 15~end ok~0
+print([i * 2 for i in (1, 2) if i > 1], {i: [i] for i in (1, 2)}, 2 in {i for i in (1, 2, 1)}) \
+    => session 1 bob~[4] {1: [1], 2: [2]} True~end ok~0
+def f(x, *xs, **d):~    return (x, xs, d)~print(f(1, *[2, 3], k=4), f(**{'x': 5})) \
+    => session 1 bob~(1, (2, 3), {'k': 4}) (5, (), {})~end ok~0
+def f(x):~    return x~f(y=1) => session 1 bob~end TypeError: arguments~1
+print([len(title) for title in [root.title]]) => session 1 bob~[4]~end ok~0
+print([name for name in root.secret]) => session 1 bob~end ForbiddenAttribute: secret~1"#;
+
+/// Comprehensions and arguments over what is lent.
+const LENT: &str =
+    r#"print([len(a) for a in catalogue.articles], {a: saw.price for a in catalogue.articles if a == 'saw'}) \
+    => session 1 bob~[3, 4] {'saw': 1290}~end ok~0
+print(*catalogue.articles, *saw.sizes) => session 1 bob~saw nail small~end ok~0
+def f(**d):~    return d~print(f(**saw.sizes)) => session 1 bob~{'small': 3}~end ok~0
+print([x for x in saw.sold]) => session 1 bob~end ForbiddenAttribute: sold~1"#;
+
 /// Forms that do not run yet, and one that a script does not come to.
-const NOT_YET: &str = r#"print(1)~class A: pass => script 1: not yet~4
-x = [i for i in (1, 2)] => script 1: not yet~4
-x = {i: 1 for i in (1, 2)} => script 1: not yet~4
-print(1 in {i for i in (1, 2)}) => script 1: not yet~4
-def f(x):~    return x~f(x=1) => script 1: not yet~4
-def f(x):~    return x~f(*[1]) => script 1: not yet~4
-def f(x):~    return x~f(**{'x': 1}) => script 1: not yet~4
-print(getattr('', 'join')) => script 1: not yet~4
+const NOT_YET: &str = r#"print(1)~print(getattr('', 'join')) => script 1: not yet~4
 setattr(root, 'title', 1) => script 1: not yet~4
-if 1 > 2:~    x = [i for i in (1, 2)]~print('on') => session 1 bob~on~end ok~0"#;
+if 1 > 2:~    x = getattr('', 'join')~print('on') => session 1 bob~on~end ok~0"#;
 
 #[test]
 fn runs_plain_scripts_as_python_does(rt: HostRuntime) -> Result<(), Fail> {
@@ -101,6 +114,16 @@ fn runs_scripts_over_lists_and_dicts(rt: HostRuntime) -> Result<(), Fail> {
 #[test]
 fn runs_functions_and_handlers(rt: HostRuntime) -> Result<(), Fail> {
     all_answer(rt.alloc(), &Said::Of, FUNCTIONS)
+}
+
+#[test]
+fn runs_classes_comprehensions_and_named_arguments(rt: HostRuntime) -> Result<(), Fail> {
+    all_answer(rt.alloc(), &Said::Of, CLASSES)
+}
+
+#[test]
+fn runs_comprehensions_over_what_is_lent(rt: HostRuntime) -> Result<(), Fail> {
+    all_answer(rt.alloc(), &Said::Shop, LENT)
 }
 
 #[test]

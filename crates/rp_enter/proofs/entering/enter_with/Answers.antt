@@ -9,7 +9,7 @@ returns-in_err-slots-clause-law c =
     let w = c.args.world.now in
     let e : c.from_residual.result ≡ Err c.in_err-slots.field-0.0 = search rules in
     rw e (entered_fails w c.bound.new.world c.args.entry.side c.args.entry.block c.args.entry.within c.args.locals (view_params c.args.params.now)
-    (defaults_at w.store.heap c.args.entry.function) c.args.args.now c.in_err-slots.field-0.0 c.in_err-slots.ensures.law)
+    (defaults_at w.store.heap c.args.entry.function) (record { plain = c.args.args.now; named = c.args.named.now }) c.in_err-slots.field-0.0 c.in_err-slots.ensures.law)
 
 pub returns-in_err-slots-clause-faithful : goal.returns-in_err-slots-clause-faithful
 returns-in_err-slots-clause-faithful c =
@@ -27,12 +27,12 @@ returns-in_err-scope-clause-law c =
     let w = c.args.world.now in
     let e : c.from_residual-in_err-scope.result ≡ Err c.in_err-scope.field-0.0 = search rules in
     rw e (entered_stops w c.bound.new.world c.args.entry.side c.args.entry.block c.args.entry.within c.args.locals (view_params c.args.params.now)
-    (defaults_at w.store.heap c.args.entry.function) c.args.args.now c.new_scope.new.world c.in_ok-slots.slots.items c.in_err-scope.field-0.0
+    (defaults_at w.store.heap c.args.entry.function) (record { plain = c.args.args.now; named = c.args.named.now }) c.new_scope.new.world c.in_ok-slots.slots.items c.in_err-scope.field-0.0
     c.in_ok-slots.ensures.law c.in_err-scope.ensures.law)
 
 pub returns-clause-law : goal.returns-clause-law
 returns-clause-law c =
     let w = c.args.world.now in
     entered_made w c.bound.new.world c.args.entry.side c.args.entry.block c.args.entry.within c.args.locals (view_params c.args.params.now)
-    (defaults_at w.store.heap c.args.entry.function) c.args.args.now c.new_scope.new.world c.in_ok-slots.slots.items c.in_ok-scope.scope
+    (defaults_at w.store.heap c.args.entry.function) (record { plain = c.args.args.now; named = c.args.named.now }) c.new_scope.new.world c.in_ok-slots.slots.items c.in_ok-scope.scope
     c.in_ok-slots.ensures.law c.in_ok-scope.ensures.law

@@ -8,7 +8,7 @@ use Rattle.rp_meaning.specs.Frame.{Run}
 use Rattle.rp_meaning.specs.Sessions.{World}
 use Rattle.rp_session.specs.Ready.{AnswersIn}
 use Rattle.rp_session.specs.View.{sessions_view}
-use Rattle.rp_step.specs.Moment.{run_of}
+use Rattle.rp_engine.specs.Moment.{run_of}
 use Rattle.rp_play.specs.Played.{with_new_sessions}
 use Rattle.rp_play.proofs.Answering.{still-answer}
 use Rattle.rp_play.proofs.playing.begin_all.Goals as goal

@@ -4,7 +4,7 @@ use Rattle.std.specs.Vec.Iter.{into_iter_items, into_iter_len}
 use Rattle.rp_meaning.specs.Frame.{Run}
 use Rattle.rp_session.specs.Ready.{AnswersIn, AreReady}
 use Rattle.rp_session.specs.View.{sessions_view}
-use Rattle.rp_step.specs.Moment.{run_of}
+use Rattle.rp_engine.specs.Moment.{run_of}
 use Rattle.rp_play.specs.Played.{with_new_sessions}
 use Rattle.rp_play.proofs.playing.begin_all.Given as goal
 

@@ -2,7 +2,7 @@ use Rattle.std.proofs.Common.{◌≡◌, ◌∙◌, suc, length, ap, arith}
 use Rattle.rp_meaning.specs.Frame.{program_of}
 use Rattle.rp_scope.proofs.TableLaws.{scopes_counted}
 use Rattle.rp_scope.specs.Numbers.{block_count}
-use Rattle.rp_step.specs.Moment.{layouts_view}
+use Rattle.rp_engine.specs.Moment.{layouts_view}
 use Rattle.rp_tree.specs.StatementViews.{view_tree}
 use Rattle.rp_play.proofs.programs.program_of.Goals as goal
 

@@ -1,7 +1,7 @@
 -- It has ended, no statement is left, or the next one ran.
 use Rattle.std.proofs.Common.{refl, sym, ap, ◌∙◌, arith}
 use Rattle.std.proofs.lemmas.Result.{on_ok_weaker}
-use Rattle.rp_step.specs.Moment.{run_of}
+use Rattle.rp_engine.specs.Moment.{run_of}
 use Rattle.rp_tree.specs.StatementViews.{view_stmts}
 use Rattle.rp_session.proofs.Settled.{some_run}
 use Rattle.rp_session.proofs.Turning.{first-of, none-of, turn-past, turn-ran}

@@ -1,6 +1,6 @@
 -- The scope is put into the store, and then the session behind the others.
 use Rattle.std.proofs.Common.{◌≡◌, ◌<◌, ◌+◌, ◌++◌, ◌∷◌, [], ◌∙◌, ap, sym, subst, length, arith}
-use Rattle.rp_step.specs.declared.units.Program.{Program}
+use Rattle.rp_engine.specs.declared.units.Program.{Program}
 use Rattle.rp_session.specs.declared.sessions.Sessions.{Sessions}
 use Rattle.rp_session.proofs.Beginning.{begun, first_running, ready-more}
 use Rattle.rp_session.proofs.sessions.Sessions.begin.Goals as goal

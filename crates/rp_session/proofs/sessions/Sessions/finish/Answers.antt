@@ -1,8 +1,8 @@
 use Rattle.std.proofs.Common.{◌≡◌, ◌<◌, ◌+◌, ◌∙◌, ap, sym, length, arith}
 use Rattle.rp_meaning.specs.Frame.{Run}
 use Rattle.rp_meaning.specs.Sessions.{count}
-use Rattle.rp_step.specs.Moment.{program_at, run_of}
-use Rattle.rp_step.specs.declared.units.Program.{Program}
+use Rattle.rp_engine.specs.Moment.{program_at, run_of}
+use Rattle.rp_engine.specs.declared.units.Program.{Program}
 use Rattle.rp_session.specs.View.{sessions_view}
 use Rattle.rp_session.proofs.Scripts.{count-of}
 use Rattle.rp_session.proofs.Turning.{finished-step, first-of}

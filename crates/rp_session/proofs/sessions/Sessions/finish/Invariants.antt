@@ -3,7 +3,7 @@ use Rattle.rp_meaning.specs.Sessions.{finished}
 use Rattle.rp_meaning.specs.Frame.{Run}
 use Rattle.rp_session.specs.Ready.{AreReady}
 use Rattle.rp_session.specs.View.{sessions_view}
-use Rattle.rp_step.specs.Moment.{run_of}
+use Rattle.rp_engine.specs.Moment.{run_of}
 use Rattle.rp_session.specs.View.{session_view}
 use Rattle.rp_session.proofs.sessions.Sessions.finish.Given as goal
 

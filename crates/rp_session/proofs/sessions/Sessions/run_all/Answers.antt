@@ -1,7 +1,7 @@
 use Rattle.std.proofs.Common.{◌∙◌, IfErr, ap, map, subst}
 use Rattle.std.proofs.lemmas.Result.{on_ok_weaker}
 use Rattle.rp_meaning.specs.Sessions.{finished}
-use Rattle.rp_step.specs.Moment.{run_of}
+use Rattle.rp_engine.specs.Moment.{run_of}
 use Rattle.rp_session.specs.View.{IsHaltOf, session_view, sessions_view}
 use Rattle.rp_session.proofs.Numbered.{finished-sides, sides-numbered}
 use Rattle.rp_session.proofs.sessions.Sessions.run_all.Goals as goal

@@ -1,6 +1,6 @@
 -- The session of a number stands one before it; there may be none.
 use Rattle.std.proofs.Common.{◌≡◌, refl, ap, ◌∙◌, ◌-◌, ◌+◌, ◌<◌, ◌≤◌, length, arith}
-use Rattle.rp_step.specs.Moment.{run_of}
+use Rattle.rp_engine.specs.Moment.{run_of}
 use Rattle.rp_session.proofs.Numbered.{number-at}
 use Rattle.rp_session.proofs.Turning.{both, four, on-err, ready-after, turned, turned-nothing}
 use Rattle.rp_session.proofs.sessions.Sessions.take_turn.Goals as goal

@@ -3,7 +3,7 @@ use Rattle.rp_meaning.specs.Sessions.{turns}
 use Rattle.rp_meaning.specs.Frame.{Run}
 use Rattle.rp_session.specs.Ready.{AreReady}
 use Rattle.rp_session.specs.View.{sessions_view}
-use Rattle.rp_step.specs.Moment.{run_of}
+use Rattle.rp_engine.specs.Moment.{run_of}
 use Rattle.rp_session.proofs.sessions.Sessions.turns.Given as goal
 
 -- the turns that are left do what all of them were to do

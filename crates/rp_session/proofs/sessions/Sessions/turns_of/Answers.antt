@@ -1,5 +1,5 @@
 use Rattle.std.proofs.Common.{◌∙◌, arith}
-use Rattle.rp_step.specs.Moment.{run_of}
+use Rattle.rp_engine.specs.Moment.{run_of}
 use Rattle.rp_session.specs.View.{sessions_view}
 use Rattle.rp_session.proofs.Turning.{turns_of-step}
 use Rattle.rp_session.proofs.sessions.Sessions.turns_of.Goals as goal

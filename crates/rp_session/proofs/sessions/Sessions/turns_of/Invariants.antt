@@ -3,7 +3,7 @@ use Rattle.rp_meaning.specs.Sessions.{turns_of}
 use Rattle.rp_meaning.specs.Frame.{Run}
 use Rattle.rp_session.specs.Ready.{AreReady}
 use Rattle.rp_session.specs.View.{sessions_view}
-use Rattle.rp_step.specs.Moment.{run_of}
+use Rattle.rp_engine.specs.Moment.{run_of}
 use Rattle.rp_session.proofs.sessions.Sessions.turns_of.Given as goal
 
 abbrev pub decreases-loop-left : goal.decreases-loop-left

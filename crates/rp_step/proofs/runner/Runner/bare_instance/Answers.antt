@@ -1,40 +1,43 @@
-use Rattle.std.proofs.Common.{reverse, take, sym, ◌∙◌, codes}
+use Rattle.std.proofs.Common.{◌≡◌, ◌≢◌, ◌≤◌, ap, arith, length, reverse, take, sym, ◌∙◌, codes}
 use Rattle.std.specs.Prelude.{None}
 use Rattle.std.specs.Str.{chars}
 use Rattle.rp_base.specs.declared.kind.Kind.TheVariants.{TypeError}
 use Rattle.rp_ops.specs.Outcome.{on_value}
-use Rattle.rp_meaning.specs.Binding.{only}
 use Rattle.rp_meaning.specs.Calls.{made_instance}
 use Rattle.rp_access.specs.Moment.{state_of}
-use Rattle.rp_step.proofs.Doings.{always}
+use Rattle.rp_engine.proofs.Doings.{always}
 use Rattle.rp_step.proofs.Entries.{refused_ok}
-use Rattle.rp_step.proofs.Instancing.{are_none, are_some, bare_asked_refused, bare_ended, bare_given, made_ends, made_is}
+use Rattle.rp_step.proofs.Instancing.{bare_asked_refused, bare_ended, bare_given, made_ends, made_is}
+use Rattle.rp_step.proofs.Hands.{no_args, some_args}
 use Rattle.rp_step.proofs.Runs.{waiting_goes}
-use Rattle.rp_step.proofs.Worlds.{IsReady-goes}
-use Rattle.rp_step.specs.DefinitionSteps.{got_by}
-use Rattle.rp_step.specs.Law.{frame_in}
+use Rattle.rp_engine.proofs.Worlds.{IsReady-goes}
+use Rattle.rp_engine.specs.DefinitionSteps.{got_by}
+use Rattle.rp_engine.specs.HandSteps.{held_by, size_of}
+use Rattle.rp_engine.specs.Law.{frame_in}
 use Rattle.rp_step.proofs.runner.Runner.bare_instance.Goals as goal
 
-pub returns-then-not-is_empty-clause-law : goal.returns-then-not-is_empty-clause-law
+pub returns-then-size-gt0-clause-law : goal.returns-then-size-gt0-clause-law
 unfolding chars
-returns-then-not-is_empty-clause-law c =
+returns-then-size-gt0-clause-law c =
     let r = c.args.self.now in
     let w = c.args.world.now in
-    let a = only (reverse (take c.args.count r.machine.values)) in
-    refused_ok r.machine w r.callers.items c.args.count c.refuse.new.self c.refuse.result TypeError (codes "arguments")
+    let a = held_by c.args.hand r.machine.values in
+    let vs = r.machine.values in
+    let last : c.last.result.now ≡ reverse (take (size_of c.args.hand) vs) = c.last.ensures ∙ ap (λ n. reverse (take n vs)) c.size-size.ensures in
+    let other : size_of c.args.hand ≢ 0 = omega (arith, c.size-size.ensures) in
+    let enough : size_of c.args.hand ≤ length (reverse (take (size_of c.args.hand) vs)) = omega (arith, c.size-size.ensures, ap length last) in
+    refused_ok r.machine w r.callers.items (size_of c.args.hand) c.refuse.new.self c.refuse.result TypeError (codes "arguments")
     (λ base. on_value (made_instance c.args.owner c.args.class None a (frame_in base r.machine) (state_of w)) (λ x s. got_by c.args.lent x (frame_in base r.machine) s))
-    (λ base. bare_asked_refused r w c.args.count c.args.owner c.args.class c.args.lent base
-    (are_some c.last.result.now (reverse (take c.args.count r.machine.values)) c.is_empty.result c.last.ensures c.is_empty.ensures c.if-not-is_empty.true)) c.refuse.ensures.law
+    (λ base. bare_asked_refused r w a c.args.owner c.args.class c.args.lent base (some_args c.args.hand vs other enough)) c.refuse.ensures.law
 
-pub returns-then-not-is_empty-clause-ready : goal.returns-then-not-is_empty-clause-ready
-returns-then-not-is_empty-clause-ready c = always c.refuse.result _ (c.refuse.ensures.ready c.args.world.now c.requires.ready)
+pub returns-then-size-gt0-clause-ready : goal.returns-then-size-gt0-clause-ready
+returns-then-size-gt0-clause-ready c = always c.refuse.result _ (c.refuse.ensures.ready c.args.world.now c.requires.ready)
 
 pub returns-in-Ok-clause-law : goal.returns-in-Ok-clause-law
 returns-in-Ok-clause-law c =
     let r = c.args.self.now in
-    bare_given r c.args.world.now c.new_instance.new.world c.args.count c.args.owner c.args.class c.args.lent
-    (are_none c.last.result.now (reverse (take c.args.count r.machine.values)) c.is_empty.result c.last.ensures c.is_empty.ensures c.if-not-is_empty.false)
-    c.give_instance.new.self c.give_instance.result c.in-Ok.at
+    let none : size_of c.args.hand ≡ 0 = omega (arith, c.size-size.ensures) in
+    bare_given r c.args.world.now c.new_instance.new.world c.args.hand c.args.owner c.args.class c.args.lent (no_args c.args.hand r.machine.values none) c.give_instance.new.self c.give_instance.result c.in-Ok.at
     (made_is c.new_instance.result (state_of c.new_instance.new.world) _ c.in-Ok.at c.in-Ok.is c.new_instance.ensures.law) c.give_instance.ensures.law
 
 pub give_instance-requires-clause-ready : goal.give_instance-requires-clause-ready
@@ -50,10 +53,9 @@ give_instance-requires-clause-ready c =
 pub returns-in-Err-clause-law : goal.returns-in-Err-clause-law
 returns-in-Err-clause-law c =
     let r = c.args.self.now in
-    bare_ended r c.args.world.now c.new_instance.new.world c.args.count c.args.owner c.args.class c.args.lent
-    (are_none c.last.result.now (reverse (take c.args.count r.machine.values)) c.is_empty.result c.last.ensures c.is_empty.ensures c.if-not-is_empty.false)
-    c.without_result.new.self c.without_result.result c.in-Err.end
-    (made_ends c.new_instance.result (state_of c.new_instance.new.world) _ c.in-Err.end c.in-Err.is c.new_instance.ensures.law) c.without_result.ensures.law
+    let none : size_of c.args.hand ≡ 0 = omega (arith, c.size-size.ensures) in
+    bare_ended r c.args.world.now c.new_instance.new.world c.args.hand c.args.owner c.args.class c.args.lent (no_args c.args.hand r.machine.values none) c.without_hand.new.machine c.without_hand.result c.in-Err.end
+    (made_ends c.new_instance.result (state_of c.new_instance.new.world) _ c.in-Err.end c.in-Err.is c.new_instance.ensures.law) c.without_hand.ensures.law
 
 pub returns-in-Err-clause-ready : goal.returns-in-Err-clause-ready
 returns-in-Err-clause-ready c =
@@ -62,7 +64,7 @@ returns-in-Err-clause-ready c =
     let r = c.args.self.now in
     let shape = c.new_instance.ensures.shape in
     let faithful = c.new_instance.ensures.faithful in
-    always c.without_result.result _ (record {
-      machine = c.without_result.ensures.ready u (IsReady-goes _ _ _ w u c.requires.ready.machine shape faithful);
+    always c.without_hand.result _ (record {
+      machine = c.without_hand.ensures.ready u (IsReady-goes _ _ _ w u c.requires.ready.machine shape faithful);
       callers = waiting_goes w u r.callers.items shape faithful c.requires.ready.callers;
     })

@@ -2,12 +2,13 @@ use Rattle.std.proofs.Common.{◌≡◌, ◌-◌, Ok, Err, Some, reverse, take, 
 use Rattle.rp_access.specs.Moment.{state_of}
 use Rattle.rp_base.specs.declared.value.Oid.{Oid}
 use Rattle.rp_store.specs.Kept.{IsScopeOf}
-use Rattle.rp_step.proofs.Doings.{always}
+use Rattle.rp_engine.proofs.Doings.{always}
 use Rattle.rp_step.proofs.Entries.{coded_within, comes_end, comes_some, enters, enters_not, one_less, some_held}
 use Rattle.rp_step.proofs.Runs.{made_goes, waiting_goes}
-use Rattle.rp_step.proofs.Worlds.{IsReady-goes}
-use Rattle.rp_step.specs.Callables.{before}
-use Rattle.rp_step.specs.Moment.{program_at}
+use Rattle.rp_engine.proofs.Worlds.{IsReady-goes}
+use Rattle.rp_step.specs.Callables.{before_all}
+use Rattle.rp_engine.specs.Moment.{program_at}
+use Rattle.rp_engine.specs.HandSteps.{held_by, size_of}
 use Rattle.rp_step.proofs.runner.Runner.begin.Goals as goal
 
 pub returns-in-Ok-Some-clause-law : goal.returns-in-Ok-Some-clause-law
@@ -17,7 +18,7 @@ returns-in-Ok-Some-clause-law c =
     let e = c.args.callable.entry in
     let v = c.scope_of-entered.new.world in
     let is : c.scope_of-entered.result ≡ Ok (Some c.in-Ok-Some.scope) = sym c.in_ok-scope.ensures.same ∙ c.in-Ok-Some.is ∙ ap Ok c.in-Ok-Some.field-0-is in
-    enters m c.args.world.now r.callers.items e c.args.lent c.args.made c.args.count (before c.args.callable.receiver (reverse (take c.args.count m.values))) c.requires.function
+    enters m c.args.world.now r.callers.items e c.args.lent c.args.made (size_of c.args.hand) (before_all c.args.callable.receiver (held_by c.args.hand m.values)) c.requires.function
     (m.frame.calls - 1) (one_less m.frame.calls c.requires.calls) (c.requires.ready.machine.indexed e.side) c.args.code c.requires.code
     c.switch.new.self v c.switch.result c.in-Ok-Some.scope (comes_some c.scope_of-entered.result (state_of v) _ c.in-Ok-Some.scope is c.scope_of-entered.ensures.law) c.switch.ensures.law
 
@@ -28,9 +29,9 @@ returns-in-Err-clause-law c =
     let e = c.args.callable.entry in
     let v = c.scope_of-entered.new.world in
     let is : c.scope_of-entered.result ≡ Err c.in-Err.end = sym c.in_ok-scope.ensures.same ∙ c.in-Err.is in
-    enters_not m c.args.world.now r.callers.items e c.args.lent c.args.made c.args.count (before c.args.callable.receiver (reverse (take c.args.count m.values))) c.requires.function
+    enters_not m c.args.world.now r.callers.items e c.args.lent c.args.made (size_of c.args.hand) (before_all c.args.callable.receiver (held_by c.args.hand m.values)) c.requires.function
     (m.frame.calls - 1) (one_less m.frame.calls c.requires.calls) (c.requires.ready.machine.indexed e.side) c.args.code c.requires.code
-    c.without_result.new.self v c.without_result.result c.in-Err.end (comes_end c.scope_of-entered.result (state_of v) _ c.in-Err.end is c.scope_of-entered.ensures.law) c.without_result.ensures.law
+    c.without_hand.new.machine v c.without_hand.result c.in-Err.end (comes_end c.scope_of-entered.result (state_of v) _ c.in-Err.end is c.scope_of-entered.ensures.law) c.without_hand.ensures.law
 
 pub returns-in-Ok-Some-clause-ready : goal.returns-in-Ok-Some-clause-ready
 returns-in-Ok-Some-clause-ready c =
@@ -55,5 +56,5 @@ returns-in-Err-clause-ready c =
     let v = c.scope_of-entered.new.world in
     let shape = c.scope_of-entered.ensures.shape in
     let faithful = c.scope_of-entered.ensures.faithful c.in_ok-scope.ensures.known in
-    always c.without_result.result _
-    (record { machine = c.without_result.ensures.ready v (IsReady-goes _ _ _ w v c.requires.ready.machine shape faithful); callers = waiting_goes w v r.callers.items shape faithful c.requires.ready.callers })
+    always c.without_hand.result _
+    (record { machine = c.without_hand.ensures.ready v (IsReady-goes _ _ _ w v c.requires.ready.machine shape faithful); callers = waiting_goes w v r.callers.items shape faithful c.requires.ready.callers })

@@ -2,10 +2,11 @@ use Rattle.std.proofs.Common.{◌≡◌, ◌-◌, ap, sym, codes, ◌∙◌, ari
 use Rattle.std.specs.Prelude.{reverse, take}
 use Rattle.std.specs.Str.{chars}
 use Rattle.rp_base.specs.declared.kind.Kind.TheVariants.{RecursionError, TypeError}
-use Rattle.rp_step.proofs.Doings.{always}
+use Rattle.rp_engine.proofs.Doings.{always}
 use Rattle.rp_step.proofs.Entries.{asked, calls_refused, code_refused, one_less, refused_ok}
-use Rattle.rp_step.specs.Callables.{before}
-use Rattle.rp_step.specs.Codes.{code_at}
+use Rattle.rp_step.specs.Callables.{before_all}
+use Rattle.rp_engine.specs.Codes.{code_at}
+use Rattle.rp_engine.specs.HandSteps.{held_by, size_of}
 use Rattle.rp_step.proofs.runner.Runner.call_function.Goals as goal
 
 pub returns-then-self-eq0-clause-law : goal.returns-then-self-eq0-clause-law
@@ -15,10 +16,10 @@ returns-then-self-eq0-clause-law c =
     let m = r.machine in
     let w = c.args.world.now in
     let e = c.args.callable.entry in
-    let vs = before c.args.callable.receiver (reverse (take c.args.count m.values)) in
-    refused_ok m w r.callers.items c.args.count c.refuse.new.self c.refuse.result RecursionError (codes "calls")
-    (asked m w r.callers.items e c.args.lent c.args.made c.args.count vs)
-    (λ base. calls_refused m w r.callers.items e c.args.lent c.args.made c.args.count vs c.requires.function base c.if-self-eq0.true) c.refuse.ensures.law
+    let vs = before_all c.args.callable.receiver (held_by c.args.hand m.values) in
+    refused_ok m w r.callers.items (size_of c.args.hand) c.refuse.new.self c.refuse.result RecursionError (codes "calls")
+    (asked m w r.callers.items e c.args.lent c.args.made (size_of c.args.hand) vs)
+    (λ base. calls_refused m w r.callers.items e c.args.lent c.args.made (size_of c.args.hand) vs c.requires.function base c.if-self-eq0.true) c.refuse.ensures.law
 
 pub returns-then-self-eq0-clause-ready : goal.returns-then-self-eq0-clause-ready
 returns-then-self-eq0-clause-ready c = always c.refuse.result _ (c.refuse.ensures.ready c.args.world.now c.requires.ready)
@@ -30,10 +31,10 @@ returns-in-None-clause-law c =
     let m = r.machine in
     let w = c.args.world.now in
     let e = c.args.callable.entry in
-    let vs = before c.args.callable.receiver (reverse (take c.args.count m.values)) in
-    refused_ok m w r.callers.items c.args.count c.refuse-in-None.new.self c.refuse-in-None.result TypeError (codes "call")
-    (asked m w r.callers.items e c.args.lent c.args.made c.args.count vs)
-    (λ base. code_refused m w r.callers.items e c.args.lent c.args.made c.args.count vs c.requires.function (m.frame.calls - 1) (one_less m.frame.calls (omega arith))
+    let vs = before_all c.args.callable.receiver (held_by c.args.hand m.values) in
+    refused_ok m w r.callers.items (size_of c.args.hand) c.refuse-in-None.new.self c.refuse-in-None.result TypeError (codes "call")
+    (asked m w r.callers.items e c.args.lent c.args.made (size_of c.args.hand) vs)
+    (λ base. code_refused m w r.callers.items e c.args.lent c.args.made (size_of c.args.hand) vs c.requires.function (m.frame.calls - 1) (one_less m.frame.calls (omega arith))
     (c.requires.ready.machine.indexed e.side) base (ap (λ p. code_at p e.block) (sym c.program.ensures) ∙ sym c.code.ensures ∙ c.in-None.is)) c.refuse-in-None.ensures.law
 
 pub returns-in-None-clause-ready : goal.returns-in-None-clause-ready

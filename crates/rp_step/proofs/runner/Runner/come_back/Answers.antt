@@ -1,8 +1,8 @@
 use Rattle.rp_step.proofs.Runs.{came_back, first_waits, last_waits, stays, stays_ready}
 use Rattle.std.proofs.Common.{sym, subst, ap, refl, ◌∙◌, []}
 use Rattle.rp_access.specs.Moment.{state_of}
-use Rattle.rp_step.specs.Ready.{IsReady}
-use Rattle.rp_step.specs.declared.machine.Machine.{Machine}
+use Rattle.rp_engine.specs.Ready.{IsReady}
+use Rattle.rp_engine.specs.declared.machine.Machine.{Machine}
 use Rattle.rp_step.proofs.runner.Runner.come_back.Goals as goal
 
 pub returns-in_ok-resume-in-Some-clause-law : goal.returns-in_ok-resume-in-Some-clause-law

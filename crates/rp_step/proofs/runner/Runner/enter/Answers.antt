@@ -1,7 +1,7 @@
 use Rattle.std.proofs.Common.{refl, sym, ap, ◌∙◌}
 use Rattle.rp_access.specs.Moment.{state_of}
-use Rattle.rp_step.specs.Law.{frame_in}
-use Rattle.rp_step.specs.Rest.{begun, rest}
+use Rattle.rp_engine.specs.Law.{frame_in}
+use Rattle.rp_engine.specs.Rest.{begun, rest}
 use Rattle.rp_step.specs.Running.{unwound}
 use Rattle.rp_step.proofs.runner.Runner.enter.Goals as goal
 

@@ -3,9 +3,9 @@ use Rattle.std.specs.Prelude.{OnOk}
 use Rattle.rp_meaning.specs.Frame.{Run}
 use Rattle.rp_ops.specs.Outcome.{gives}
 use Rattle.rp_access.specs.Moment.{state_of}
-use Rattle.rp_step.proofs.Moves.{on_ok}
+use Rattle.rp_engine.proofs.Moves.{on_ok}
 use Rattle.rp_step.proofs.Runs.{gives_plain}
-use Rattle.rp_step.specs.Rest.{rest}
+use Rattle.rp_engine.specs.Rest.{rest}
 use Rattle.rp_step.specs.Running.{given, got, unwound, whole_of}
 use Rattle.rp_step.proofs.runner.Runner.give.Goals as goal
 

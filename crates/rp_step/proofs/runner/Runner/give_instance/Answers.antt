@@ -1,23 +1,24 @@
 use Rattle.std.proofs.Common.{◌≡◌, ◌+◌, suc, arith}
-use Rattle.rp_step.proofs.Callings.{fit_dropped, ready_dropped}
-use Rattle.rp_step.proofs.Doings.{always}
+use Rattle.rp_expressions.proofs.Callings.{fit_dropped, ready_dropped}
+use Rattle.rp_engine.proofs.Doings.{always}
 use Rattle.rp_step.proofs.Instancing.{instance_given}
+use Rattle.rp_engine.specs.HandSteps.{size_of}
 use Rattle.rp_step.proofs.runner.Runner.give_instance.Goals as goal
 
 pub returns-clause-law : goal.returns-clause-law
 returns-clause-law c =
-    let more : c.args.count + 1 ≡ suc c.args.count = omega arith in
-    instance_given c.args.self.now c.forget.new.self c.back.new.self c.args.world.now c.args.count (c.args.count + 1) c.args.at c.args.lent c.back.result c.given-value.result c.forget.ensures more
+    let more : c.size.result + 1 ≡ suc (size_of c.args.hand) = omega (arith, c.size.ensures) in
+    instance_given c.args.self.now c.forget.new.self c.back.new.self c.args.world.now (size_of c.args.hand) (c.size.result + 1) c.args.at c.args.lent c.back.result c.given-value.result c.forget.ensures more
     c.given-value.ensures.value c.back.ensures.law
 
 pub returns-clause-ready : goal.returns-clause-ready
 returns-clause-ready c =
     let r = c.args.self.now in
     let w = c.args.world.now in
-    let more : c.args.count + 1 ≡ suc c.args.count = omega arith in
+    let more : c.size.result + 1 ≡ suc (size_of c.args.hand) = omega (arith, c.size.ensures) in
     always c.back.result _ (record {
       machine = c.back.ensures.ready w
-          (ready_dropped r.machine c.forget.new.self c.back.new.self c.back.result c.args.count (c.args.count + 1) c.forget.ensures more w c.requires.ready.machine)
-          (fit_dropped r.machine c.forget.new.self c.back.new.self c.back.result c.args.count (c.args.count + 1) c.forget.ensures more w c.given-value.result c.given-value.ensures.fit);
+          (ready_dropped r.machine c.forget.new.self c.back.new.self c.back.result (size_of c.args.hand) (c.size.result + 1) c.forget.ensures more w c.requires.ready.machine)
+          (fit_dropped r.machine c.forget.new.self c.back.new.self c.back.result (size_of c.args.hand) (c.size.result + 1) c.forget.ensures more w c.given-value.result c.given-value.ensures.fit);
       callers = c.requires.ready.callers;
     })

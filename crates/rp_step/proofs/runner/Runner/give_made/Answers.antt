@@ -6,11 +6,11 @@ use Rattle.rp_meaning.specs.Frame.{Run}
 use Rattle.rp_meaning.specs.State.{State}
 use Rattle.rp_ops.specs.Outcome.{gives, raises}
 use Rattle.rp_access.specs.Moment.{state_of}
-use Rattle.rp_step.proofs.Doings.{always}
-use Rattle.rp_step.proofs.Moves.{on_ok}
+use Rattle.rp_engine.proofs.Doings.{always}
+use Rattle.rp_engine.proofs.Moves.{on_ok}
 use Rattle.rp_step.proofs.Runs.{gives_made, gives_other, made_sound}
-use Rattle.rp_step.specs.Moment.{frame_of, run_of}
-use Rattle.rp_step.specs.Rest.{gave, rest}
+use Rattle.rp_engine.specs.Moment.{frame_of, run_of}
+use Rattle.rp_engine.specs.Rest.{gave, rest}
 use Rattle.rp_step.specs.Running.{given, got, unwound, whole_of}
 use Rattle.rp_step.proofs.runner.Runner.give_made.Goals as goal
 

@@ -3,5 +3,5 @@ use Rattle.rp_step.proofs.runner.Runner.give_value.Goals as goal
 
 pub returns-clause-law : goal.returns-clause-law
 returns-clause-law c =
-    gives_on c.args.self.now.machine c.take_over.new.self c.args.self.now.callers.items c.args.caller c.take_over.ensures c.back.new.self c.args.world.now c.back.result c.args.value c.given-value.result
+    gives_on c.args.self.now.machine c.take_over.new.machine c.args.self.now.callers.items c.args.caller c.take_over.ensures c.back.new.self c.args.world.now c.back.result c.args.value c.given-value.result
     c.given-value.ensures.value c.back.ensures.law

@@ -1,14 +1,14 @@
 use Rattle.rp_access.specs.Moment.{state_of}
-use Rattle.rp_step.proofs.Doings.{always}
+use Rattle.rp_engine.proofs.Doings.{always}
 use Rattle.rp_step.proofs.Instancing.{init_ended, init_given, made_ends, made_is}
 use Rattle.rp_step.proofs.Runs.{waiting_goes}
-use Rattle.rp_step.proofs.Worlds.{IsReady-goes}
+use Rattle.rp_engine.proofs.Worlds.{IsReady-goes}
 use Rattle.rp_step.proofs.runner.Runner.initialise.Goals as goal
 
 pub returns-in-Ok-clause-law : goal.returns-in-Ok-clause-law
 returns-in-Ok-clause-law c =
     let r = c.args.self.now in
-    init_given r c.args.world.now c.new_instance.new.world c.args.count c.args.owner c.args.class c.args.function c.args.lent c.call_init.new.self c.call_init.new.world c.call_init.result c.in-Ok.at
+    init_given r c.args.world.now c.new_instance.new.world c.args.hand c.args.owner c.args.class c.args.function c.args.lent c.call_init.new.self c.call_init.new.world c.call_init.result c.in-Ok.at
     (made_is c.new_instance.result (state_of c.new_instance.new.world) _ c.in-Ok.at c.in-Ok.is c.new_instance.ensures.law) c.call_init.ensures.law
 
 pub call_init-requires-clause-ready : goal.call_init-requires-clause-ready
@@ -27,8 +27,8 @@ call_init-requires-clause-function c = c.new_instance.ensures.shape.function c.a
 pub returns-in-Err-clause-law : goal.returns-in-Err-clause-law
 returns-in-Err-clause-law c =
     let r = c.args.self.now in
-    init_ended r c.args.world.now c.new_instance.new.world c.args.count c.args.owner c.args.class c.args.function c.args.lent c.without_result.new.self c.without_result.result c.in-Err.end
-    (made_ends c.new_instance.result (state_of c.new_instance.new.world) _ c.in-Err.end c.in-Err.is c.new_instance.ensures.law) c.without_result.ensures.law
+    init_ended r c.args.world.now c.new_instance.new.world c.args.hand c.args.owner c.args.class c.args.function c.args.lent c.without_hand.new.machine c.without_hand.result c.in-Err.end
+    (made_ends c.new_instance.result (state_of c.new_instance.new.world) _ c.in-Err.end c.in-Err.is c.new_instance.ensures.law) c.without_hand.ensures.law
 
 pub returns-in-Err-clause-ready : goal.returns-in-Err-clause-ready
 returns-in-Err-clause-ready c =
@@ -37,7 +37,7 @@ returns-in-Err-clause-ready c =
     let r = c.args.self.now in
     let shape = c.new_instance.ensures.shape in
     let faithful = c.new_instance.ensures.faithful in
-    always c.without_result.result _ (record {
-      machine = c.without_result.ensures.ready u (IsReady-goes _ _ _ w u c.requires.ready.machine shape faithful);
+    always c.without_hand.result _ (record {
+      machine = c.without_hand.ensures.ready u (IsReady-goes _ _ _ w u c.requires.ready.machine shape faithful);
       callers = waiting_goes w u r.callers.items shape faithful c.requires.ready.callers;
     })

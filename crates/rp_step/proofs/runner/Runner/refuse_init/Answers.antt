@@ -5,11 +5,11 @@ use Rattle.rp_step.proofs.runner.Runner.refuse_init.Goals as goal
 pub returns-clause-law : goal.returns-clause-law
 unfolding chars
 returns-clause-law c =
-    refuses_init c.args.self.now.machine c.take_over.new.self c.args.self.now.callers.items c.args.caller c.take_over.ensures c.no_value.new.self c.no_value.result c.raised-end.result
+    refuses_init c.args.self.now.machine c.take_over.new.machine c.args.self.now.callers.items c.args.caller c.take_over.ensures c.no_value.new.self c.no_value.result c.raised-end.result
     c.raised-end.ensures c.no_value.ensures.law
 
 pub returns-clause-ready : goal.returns-clause-ready
 returns-clause-ready c = λ w h waits. record {
-  machine = c.no_value.ensures.ready w (over_ready c.args.self.now.machine c.take_over.new.self c.args.self.now.callers.items c.args.caller c.take_over.ensures w waits);
+  machine = c.no_value.ensures.ready w (over_ready c.args.self.now.machine c.take_over.new.machine c.args.self.now.callers.items c.args.caller c.take_over.ensures w waits);
   callers = h.callers;
 }

@@ -4,10 +4,10 @@ use Rattle.rp_base.specs.declared.value.Value.TheVariants as value
 use Rattle.rp_frame.specs.declared.control.Control.TheVariants as control
 use Rattle.rp_ops.specs.Outcome.{ends, gives}
 use Rattle.rp_access.specs.Moment.{state_of}
-use Rattle.rp_step.proofs.Moves.{on_ok}
-use Rattle.rp_step.proofs.Doings.{always}
+use Rattle.rp_engine.proofs.Moves.{on_ok}
+use Rattle.rp_engine.proofs.Doings.{always}
 use Rattle.rp_step.proofs.Runs.{cut_here, resumed_ok, wait_here}
-use Rattle.rp_step.specs.Ends.{end_of}
+use Rattle.rp_engine.specs.Ends.{end_of}
 use Rattle.rp_step.specs.Running.{given, whole_of}
 use Rattle.rp_step.proofs.runner.Runner.resume.Goals as goal
 

@@ -2,9 +2,9 @@ use Rattle.std.proofs.Common.{ap, ◌∙◌}
 use Rattle.rp_access.specs.Moment.{state_of}
 use Rattle.rp_frame.specs.declared.control.Control.TheVariants as control
 use Rattle.rp_step.proofs.Runs.{whole_left}
-use Rattle.rp_step.specs.Does as does
-use Rattle.rp_step.specs.Law.{frame_in}
-use Rattle.rp_step.specs.Rest.{did, rest}
+use Rattle.rp_engine.specs.Does as does
+use Rattle.rp_engine.specs.Law.{frame_in}
+use Rattle.rp_engine.specs.Rest.{did, rest}
 use Rattle.rp_step.specs.declared.runner.Runner.{Runner}
 use Rattle.rp_step.proofs.runner.Runner.run_block.Goals as goal
 
@@ -18,12 +18,12 @@ returns-clause-law c = λ base.
     let w = c.args.world.now in
     let begun : Runner = record r { machine = record m { control = control.Block c.args.block } } in
     let o = does.block c.args.block.now (frame_in base m) (state_of w) in
-    c.left.ensures.law base (state_of c.run.new.world) (frame_in base m) m.values o c.in_ok-run.ensures.ended
+    c.how_left.ensures.law base (state_of c.run.new.world) (frame_in base m) m.values o c.in_ok-run.ensures.ended
     (whole_left base begun c.run.new.self w c.run.new.world c.in_ok-run.ensures.law c.requires.callers c.in_ok-run.ensures.none
     ∙ ap (λ ts. rest ts (did (frame_in base m) m.values o)) c.requires.tasks)
 
 pub returns-clause-ready : goal.returns-clause-ready
 returns-clause-ready c = record {
-  machine = c.left.ensures.ready c.run.new.world c.in_ok-run.ensures.ready.machine;
+  machine = c.how_left.ensures.ready c.run.new.world c.in_ok-run.ensures.ready.machine;
   callers = c.in_ok-run.ensures.ready.callers;
 }

@@ -1,0 +1,14 @@
+-- What comprehensions add to what they make, as the code has functions for it; each is a part of a form of rp_meaning.
+use Rattle.rp_base.specs.declared.value.Oid.{Oid}
+use Rattle.rp_base.specs.declared.value.Value.{Value}
+use Rattle.rp_meaning.specs.State.{State, Outcome, plainly}
+use Rattle.rp_ops.specs.Outcome as plain
+use Rattle.rp_ops.specs.Outcome.{gives, with_change}
+use Rattle.rp_store.specs.Writers.{pushed}
+
+-- a value at the end of the list at a place, for one cell
+abbrev pub put : Oid → Value → plain.State → plain.Outcome (Unit {0})
+put at v s = plain.charged 1 s (λ s. gives (tt {0}) (with_change s at (pushed v)))
+
+abbrev pub element_put : Oid → Value → State → Outcome (Unit {0})
+element_put at v s = plainly (put at v) s

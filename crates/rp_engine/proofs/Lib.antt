@@ -1,0 +1,17 @@
+pub mod Answering
+pub mod AtHand
+pub mod CodeNumbers
+pub mod Doings
+pub mod Equations
+pub mod Firsts
+pub mod FormEquations
+pub mod Gatherings
+pub mod Going
+pub mod Lasts
+pub mod Moves
+pub mod Namings
+pub mod Occupants
+pub mod Passing
+pub mod Slots
+pub mod Unbinding
+pub mod Worlds

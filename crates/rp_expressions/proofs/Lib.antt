@@ -1,0 +1,13 @@
+pub mod Asking
+pub mod Asks
+pub mod CallEquations
+pub mod Callings
+pub mod Definings
+pub mod DictDisplays
+pub mod Fronts
+pub mod Operating
+pub mod Settling
+pub mod Slicings
+pub mod Spreads
+pub mod Trailing
+pub mod Truths

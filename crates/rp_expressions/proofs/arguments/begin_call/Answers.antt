@@ -1,0 +1,35 @@
+use Rattle.std.proofs.Common.{[], ◌∙◌}
+use Rattle.rp_meaning.specs.Expressions as forms
+use Rattle.rp_expressions.proofs.Callings.{call_stepped}
+use Rattle.rp_access.proofs.Going.{IsEnd-same, IsEnd-then, gives-then}
+use Rattle.rp_engine.proofs.Moves.{as_ok, end_ok}
+use Rattle.rp_engine.specs.ArgumentSteps.{with_arguments}
+use Rattle.rp_engine.specs.Does as does
+use Rattle.rp_engine.specs.Law.{frame_in}
+use Rattle.rp_access.specs.Moment.{state_of}
+use Rattle.rp_engine.specs.TrailerSteps.{next_trailer}
+use Rattle.rp_expressions.proofs.arguments.begin_call.Goals as goal
+
+pub returns-in-Ok-clause-law : goal.returns-in-Ok-clause-law
+returns-in-Ok-clause-law c =
+    let m = c.args.machine.now in
+    let w = c.args.world.now in
+    let u = c.take_step.new.world in
+    let as' = does.args c.args.args.now in
+    let ts = does.trailers c.args.rest.now in
+    let f = c.args.f in
+    as_ok m c.first_argument.new.machine w c.first_argument.new.world c.first_argument.result (next_trailer (forms.call as') ts f) (with_arguments as' ts f []) u
+    (λ base. call_stepped ts f (frame_in base m) as' (state_of w)
+    ∙ gives-then (tt {0}) (state_of u) _ (λ _ s. with_arguments as' ts f [] (frame_in base m) s) c.in-Ok.ensures.law) c.first_argument.ensures.law
+
+pub returns-in-Err-clause-law : goal.returns-in-Err-clause-law
+returns-in-Err-clause-law c =
+    let m = c.args.machine.now in
+    let w = c.args.world.now in
+    let u = c.take_step.new.world in
+    let as' = does.args c.args.args.now in
+    let ts = does.trailers c.args.rest.now in
+    let f = c.args.f in
+    end_ok m c.no_value.new.self w u c.no_value.result (next_trailer (forms.call as') ts f) c.in-Err.end
+    (λ base. IsEnd-same c.in-Err.end (state_of u) _ _ (call_stepped ts f (frame_in base m) as' (state_of w))
+    (IsEnd-then c.in-Err.end (state_of u) _ (λ _ s. with_arguments as' ts f [] (frame_in base m) s) c.in-Err.ensures.law)) c.no_value.ensures.law

@@ -1,0 +1,23 @@
+use Rattle.std.proofs.Common.{List, true, ap, arith}
+use Rattle.rp_meaning.specs.Expressions as forms
+use Rattle.rp_tree.specs.declared.expr.Expr.{Expr}
+use Rattle.rp_tree.specs.declared.parts.Test.{Test}
+use Rattle.rp_engine.proofs.Firsts.{gives_ok, tests_front}
+use Rattle.rp_access.proofs.Lists.{none_left}
+use Rattle.rp_engine.specs.Does as does
+use Rattle.rp_engine.specs.Law.{frame_in}
+use Rattle.rp_access.specs.Moment.{state_of}
+use Rattle.rp_expressions.proofs.comparisons.tests.Goals as goal
+
+pub returns-in-len1-up-clause-law : goal.returns-in-len1-up-clause-law
+returns-in-len1-up-clause-law c =
+    tests_front c.args.machine.now c.test.new.machine c.args.world.now c.test.new.world c.test.result c.args.a c.args.rest.now
+    c.index-rest-0.result c.index-rest-0-2.result c.in-len1-up.len_at_least c.test.ensures.law
+
+pub returns-in-empty-clause-law : goal.returns-in-empty-clause-law
+returns-in-empty-clause-law c =
+    let m = c.args.machine.now in
+    let w = c.args.world.now in
+    let ts = c.args.rest.now in
+    gives_ok m c.back.new.self c.back.result (forms.tests (does.tests ts) c.args.a) (forms.truth true) w
+    (λ base. ap (λ (ys : List (Test × Expr)). forms.tests (does.tests ys) c.args.a (frame_in base m) (state_of w)) (none_left ts (omega arith))) c.back.ensures.law

@@ -1,0 +1,22 @@
+use Rattle.std.proofs.Common.{Ok, ap}
+use Rattle.rp_frame.specs.declared.display.Display.TheVariants.{Dict}
+use Rattle.rp_engine.proofs.Gatherings.{gathers_end, gathers_value, gathers_waits}
+use Rattle.rp_engine.specs.DisplaySteps.{parts}
+use Rattle.rp_engine.specs.Does as does
+use Rattle.rp_expressions.proofs.dict_displays.dict_value.Goals as goal
+
+pub returns-in-Ok-Some-clause-law : goal.returns-in-Ok-Some-clause-law
+returns-in-Ok-Some-clause-law c =
+    let found = rw c.in-Ok-Some.field-0-is at c.in-Ok-Some.ensures.law in
+    gathers_value c.args.machine.now c.wait_with.new.self c.args.world.now c.leaf.new.world c.wait_with.result Dict c.args.count (does.expr c.args.value.now) (parts (does.pairs c.args.rest.now))
+    c.in-Ok-Some.v found c.wait_with.ensures.law
+
+pub returns-in-Ok-None-clause-law : goal.returns-in-Ok-None-clause-law
+returns-in-Ok-None-clause-law c =
+    gathers_waits c.args.machine.now c.wait.new.self c.args.world.now c.leaf.new.world c.wait.result Dict c.args.count (does.expr c.args.value.now) (parts (does.pairs c.args.rest.now))
+    (c.in-Ok-None.ensures.none (ap Ok c.in-Ok-None.field-0-is)) c.wait.ensures.law
+
+pub returns-in-Err-clause-law : goal.returns-in-Err-clause-law
+returns-in-Err-clause-law c =
+    gathers_end c.args.machine.now c.no_element.new.machine c.args.world.now c.leaf.new.world c.no_element.result Dict c.args.count (does.expr c.args.value.now) (parts (does.pairs c.args.rest.now))
+    c.in-Err.end c.in-Err.ensures.law c.no_element.ensures.law

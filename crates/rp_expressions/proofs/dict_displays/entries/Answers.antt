@@ -1,0 +1,18 @@
+use Rattle.std.proofs.Common.{List, arith}
+use Rattle.rp_frame.specs.declared.display.Display.TheVariants.{Dict}
+use Rattle.rp_tree.specs.declared.expr.Expr.{Expr}
+use Rattle.rp_engine.proofs.Firsts.{of_first, of_none}
+use Rattle.rp_engine.specs.DisplaySteps.{parts}
+use Rattle.rp_engine.specs.Does as does
+use Rattle.rp_engine.specs.Gathering.{Gathers}
+use Rattle.rp_expressions.proofs.dict_displays.entries.Goals as goal
+
+pub returns-in-len1-up-clause-law : goal.returns-in-len1-up-clause-law
+returns-in-len1-up-clause-law c =
+    of_first c.dict_key.result (λ (ps : List (Expr × Expr)). Gathers Dict c.args.count (parts (does.pairs ps)) c.args.machine.now c.args.world.now c.dict_key.new.machine c.dict_key.new.world)
+    c.args.rest.now c.pair-item.result c.in-len1-up.len_at_least c.pair-item.is c.dict_key.ensures.law
+
+pub returns-in-empty-clause-law : goal.returns-in-empty-clause-law
+returns-in-empty-clause-law c =
+    of_none c.make_display.result (λ (ps : List (Expr × Expr)). Gathers Dict c.args.count (parts (does.pairs ps)) c.args.machine.now c.args.world.now c.make_display.new.machine c.make_display.new.world)
+    c.args.rest.now (omega arith) c.make_display.ensures.law

@@ -1,0 +1,23 @@
+-- What a step of the machine does within a call: the callee and, upon it, so many arguments are at hand, and these arguments and trailers are left.
+use Rattle.std.specs.Prelude.{◌≡◌, ℕ, suc, List, drop, take, reverse}
+use Rattle.rp_base.specs.declared.value.Value.{Value}
+use Rattle.rp_frame.specs.Top.{top}
+use Rattle.rp_meaning.specs.Calls.{Argument}
+use Rattle.rp_meaning.specs.Frame.{Meaning, Run}
+use Rattle.rp_proxy.specs.declared.world.World.{World}
+use Rattle.rp_engine.specs.ArgumentSteps.{with_all, with_arguments}
+use Rattle.rp_engine.specs.HandSteps.{held_by, size_of}
+use Rattle.rp_engine.specs.Law.{frame_in, rest_of}
+use Rattle.rp_access.specs.Moment.{state_of}
+use Rattle.rp_engine.specs.Rest.{gave, rest}
+use Rattle.rp_engine.specs.declared.calling.Hand.{Hand}
+use Rattle.rp_engine.specs.declared.machine.Machine.{Machine}
+
+abbrev pub Calls : ℕ → List Argument → List (Value → Meaning) → Machine → World → Machine → World → Type 0
+Calls n as' ts m w new v = (base : Run) → rest_of base new (state_of v) ≡ rest m.tasks (gave (frame_in base m) (drop (suc n) m.values)
+    (with_arguments as' ts (top (drop n m.values)) (reverse (take n m.values)) (frame_in base m) (state_of w)))
+
+-- the same, where some have names
+abbrev pub NamedCalls : Hand → List Argument → List (Value → Meaning) → Machine → World → Machine → World → Type 0
+NamedCalls h as' ts m w new v = (base : Run) → rest_of base new (state_of v) ≡ rest m.tasks (gave (frame_in base m) (drop (suc (size_of h)) m.values)
+    (with_all as' ts (top (drop (size_of h) m.values)) (held_by h m.values) (frame_in base m) (state_of w)))

@@ -1,0 +1,316 @@
+//! Calls: the arguments, and what is done once they are at hand (Python Language Reference, Calls).
+#![tactic(auto, using(rp_store::proofs::Shapes::goes_on))]
+
+ghost use Rattle.std.specs.Prelude.{◌≡◌, ◌≢◌, ◌∷◌, [], false, suc, IfNone, IfOk, IfSome, None, OnOk};
+ghost use Rattle.std.specs.Prelude.{◌++◌, drop, reverse, take};
+ghost use Rattle.rp_base.specs.declared.value.Value.{Value as TheValue};
+ghost use Rattle.rp_frame.specs.Top.{top};
+ghost use Rattle.rp_meaning.specs.Expressions as forms;
+ghost use Rattle.rp_meaning.specs.Frame.{Run};
+ghost use Rattle.rp_meaning.specs.State.{Outcome, State};
+ghost use Rattle.rp_proxy.specs.Faithful.{IsFaithful};
+ghost use Rattle.rp_proxy.specs.declared.world.World.{World as TheWorld};
+ghost use Rattle.rp_store.specs.Kept.{AreFit, IsFit};
+ghost use Rattle.rp_store.specs.Shape.{KeepsShape};
+ghost use Rattle.rp_engine.specs.ArgumentSteps.{with_arguments};
+ghost use Rattle.rp_expressions.specs.Arguments.{Calls};
+ghost use Rattle.rp_access.specs.Calling.{CallComes, IsCallLeft};
+ghost use Rattle.rp_access.specs.Comes.{IsEnd};
+ghost use Rattle.rp_engine.specs.DefinitionSteps.{callee_of, with_called};
+ghost use Rattle.rp_engine.specs.Does as does;
+ghost use Rattle.rp_engine.specs.Law.{Evaluates, Resumes, frame_in, rest_of};
+ghost use Rattle.rp_access.specs.Moment.{state_of};
+ghost use Rattle.rp_engine.specs.Ready.{IsReady};
+ghost use Rattle.rp_engine.specs.Rest.{gave, rest};
+ghost use Rattle.rp_engine.specs.TrailerSteps.{next_trailer};
+
+use crate::primaries::more_trailers;
+use rp_access::{call, spread, take_step};
+use rp_base::{OpEnd, Rock, Value};
+use rp_engine::{Halt, Machine, more_by, one_more};
+use rp_frame::{Control, ExprTask, Task};
+use rp_proxy::World;
+use rp_tree::{Arg, Expr, Trailer};
+
+/// Goes on with a call, with its step.
+///
+/// # Errors
+/// `Memory` where a growth was refused, `NotBuilt` at an argument without a name behind one with a name, at more
+/// than 2^32 - 1 arguments, and where `call` does not know the callee, as all that follow.
+#[inline(always)]
+#[tactic(auto, using(rp_store::proofs::Shapes::goes_on, rp_engine::proofs::Worlds::shape_stored))]
+pub(crate) fn begin_call<'u>(
+    machine: &mut Machine<'u>,
+    world: &mut World,
+    f: Value,
+    args: &'u [Arg],
+    rest: &'u [Trailer],
+) -> Result<(), Halt>
+    requires ready { IsReady machine.old.units.now machine.old.frame machine.old.values world.old }
+    requires value { IsFit world.old.store.heap machine.old.frame.side f }
+    ensures law { OnOk result (Evaluates (next_trailer (forms.call (does.args args.now)) (does.trailers rest.now) f)
+        machine.old world.old machine.new world.new) }
+    ensures ready { IsReady machine.new.units.now machine.new.frame machine.new.values world.new }
+    ensures shape { KeepsShape world.old.store.heap world.new.store.heap }
+{
+    match take_step(world) {
+        Ok(()) => first_argument(machine, world, f, args, rest),
+        Err(end) => machine.no_value(end),
+    }
+}
+
+/// Goes on with the arguments of a call.
+#[inline(always)]
+fn first_argument<'u>(
+    machine: &mut Machine<'u>,
+    world: &mut World,
+    f: Value,
+    args: &'u [Arg],
+    rest: &'u [Trailer],
+) -> Result<(), Halt>
+    requires ready { IsReady machine.old.units.now machine.old.frame machine.old.values world.old }
+    requires value { IsFit world.old.store.heap machine.old.frame.side f }
+    ensures law { OnOk result (Evaluates (with_arguments (does.args args.now) (does.trailers rest.now) f [])
+        machine.old world.old machine.new world.new) }
+    ensures ready { IsReady machine.new.units.now machine.new.frame machine.new.values world.new }
+    ensures shape { KeepsShape world.old.store.heap world.new.store.heap }
+{
+    machine.hold(f)?;
+    arguments(machine, world, 0, args, rest)
+}
+
+/// Goes on with the arguments that are left; the callee and so many arguments before them are at hand.
+#[inline(always)]
+fn arguments<'u>(
+    machine: &mut Machine<'u>,
+    world: &mut World,
+    count: u32,
+    args: &'u [Arg],
+    rest: &'u [Trailer],
+) -> Result<(), Halt>
+    requires ready { IsReady machine.old.units.now machine.old.frame machine.old.values world.old }
+    ensures law { OnOk result (Calls count (does.args args.now) (does.trailers rest.now)
+        machine.old world.old machine.new world.new) }
+    ensures ready { IsReady machine.new.units.now machine.new.frame machine.new.values world.new }
+    ensures shape { KeepsShape world.old.store.heap world.new.store.heap }
+{
+    match args {
+        [] => call_at_hand(machine, world, count, rest),
+        [arg, args @ ..] => argument(machine, world, count, arg, args, rest),
+    }
+}
+
+/// Goes on with the next argument.
+#[inline(always)]
+fn argument<'u>(
+    machine: &mut Machine<'u>,
+    world: &mut World,
+    count: u32,
+    arg: &'u Arg,
+    args: &'u [Arg],
+    rest: &'u [Trailer],
+) -> Result<(), Halt>
+    requires ready { IsReady machine.old.units.now machine.old.frame machine.old.values world.old }
+    ensures law { OnOk result (Calls count (does.arg arg.now ∷ does.args args.now) (does.trailers rest.now)
+        machine.old world.old machine.new world.new) }
+    ensures ready { IsReady machine.new.units.now machine.new.frame machine.new.values world.new }
+    ensures shape { KeepsShape world.old.store.heap world.new.store.heap }
+{
+    match arg {
+        Arg::Plain(x) => machine.wait(
+            Task::Expr(ExprTask::Argument(count, args, rest)),
+            Control::Expression(x),
+        ),
+        Arg::Star(x) => machine.wait(
+            Task::Expr(ExprTask::StarArgument(count, args, rest)),
+            Control::Expression(x),
+        ),
+        Arg::Key(name, x) => machine.wait(
+            Task::Expr(ExprTask::NamedArgument(count, 0, *name, args, rest)),
+            Control::Expression(x),
+        ),
+        Arg::Stars(x) => machine.wait(
+            Task::Expr(ExprTask::StarsArgument(count, 0, args, rest)),
+            Control::Expression(x),
+        ),
+    }
+}
+
+/// With what is spread; the callee and so many arguments before it are at hand.
+#[inline(never)]
+pub fn after_star<'u>(
+    machine: &mut Machine<'u>,
+    world: &mut World,
+    count: u32,
+    value: Value,
+    args: &'u [Arg],
+    rest: &'u [Trailer],
+) -> Result<(), Halt>
+    requires ready { IsReady machine.old.units.now machine.old.frame machine.old.values world.old }
+    requires value { IsFit world.old.store.heap machine.old.frame.side value }
+    ensures law { OnOk result (Resumes (ExprTask.StarArgument count args.entry rest.entry) value
+        machine.old world.old machine.new world.new) }
+    ensures ready { IsReady machine.new.units.now machine.new.frame machine.new.values world.new }
+    ensures shape { KeepsShape world.old.store.heap world.new.store.heap }
+{
+    match spread(machine.alloc, world, machine.frame.side, &value) {
+        Ok(values) => spread_over(machine, world, count, values, args, rest),
+        Err(end) => without_result(machine, count, end),
+    }
+}
+
+/// With the values that are spread.
+#[inline(always)]
+fn spread_over<'u>(
+    machine: &mut Machine<'u>,
+    world: &mut World,
+    count: u32,
+    values: Vec<Value>,
+    args: &'u [Arg],
+    trailers: &'u [Trailer],
+) -> Result<(), Halt>
+    requires ready { IsReady machine.old.units.now machine.old.frame machine.old.values world.old }
+    requires fit { AreFit world.old.store.heap machine.old.frame.side values.items }
+    ensures law { OnOk result ((base : Run) → rest_of base machine.new (state_of world.new)
+        ≡ rest machine.old.tasks (gave (frame_in base machine.old) (drop (suc count) machine.old.values)
+        (with_arguments (does.args args.now) (does.trailers trailers.now) (top (drop count machine.old.values))
+        (reverse (take count machine.old.values) ++ values.items) (frame_in base machine.old) (state_of world.old)))) }
+    ensures ready { IsReady machine.new.units.now machine.new.frame machine.new.values world.new }
+    ensures shape { KeepsShape world.old.store.heap world.new.store.heap }
+{
+    let count = more_by(count, values.len())?;
+    machine.values.add(values)?;
+    arguments(machine, world, count, args, trailers)
+}
+
+/// With an argument; the callee and so many arguments before it are at hand.
+#[inline(always)]
+pub fn after_argument<'u>(
+    machine: &mut Machine<'u>,
+    world: &mut World,
+    count: u32,
+    value: Value,
+    args: &'u [Arg],
+    rest: &'u [Trailer],
+) -> Result<(), Halt>
+    requires ready { IsReady machine.old.units.now machine.old.frame machine.old.values world.old }
+    requires value { IsFit world.old.store.heap machine.old.frame.side value }
+    ensures law { OnOk result (Resumes (ExprTask.Argument count args.entry rest.entry) value
+        machine.old world.old machine.new world.new) }
+    ensures ready { IsReady machine.new.units.now machine.new.frame machine.new.values world.new }
+    ensures shape { KeepsShape world.old.store.heap world.new.store.heap }
+{
+    machine.hold(value)?;
+    let count = one_more(count)?;
+    arguments(machine, world, count, args, rest)
+}
+
+/// Calls what is at hand with the arguments upon it.
+#[inline(never)]
+pub(crate) fn call_at_hand<'u>(
+    machine: &mut Machine<'u>,
+    world: &mut World,
+    count: u32,
+    rest: &'u [Trailer],
+) -> Result<(), Halt>
+    requires ready { IsReady machine.old.units.now machine.old.frame machine.old.values world.old }
+    ensures law { OnOk result (Calls count [] (does.trailers rest.now) machine.old world.old machine.new world.new) }
+    ensures ready { IsReady machine.new.units.now machine.new.frame machine.new.values world.new }
+    ensures shape { KeepsShape world.old.store.heap world.new.store.heap }
+{
+    match called(machine, world, count as usize) {
+        Ok(Some(value)) => with_result(machine, count, value, rest),
+        Ok(None) => ask_call(machine, count, rest),
+        Err(end) => without_result(machine, count, end),
+    }
+}
+
+/// Asks for the call of what is at hand, whose decision is made; it is code of the store.
+#[inline(always)]
+fn ask_call<'u>(machine: &mut Machine<'u>, count: u32, trailers: &'u [Trailer]) -> Result<(), Halt>
+    ensures law { OnOk result ((base : Run) (s : State) → rest_of base machine.new s
+        ≡ rest machine.old.tasks (gave (frame_in base machine.old) (drop (suc count) machine.old.values)
+        (with_called (does.trailers trailers.now) (top (drop count machine.old.values))
+        (reverse (take count machine.old.values)) (frame_in base machine.old) s))) }
+    ensures reference { OnOk result (callee_of (top (drop count machine.old.values)) ≢ None) }
+    ensures ready { (w : TheWorld) → IsReady machine.old.units.now machine.old.frame machine.old.values w
+        → IsReady machine.new.units.now machine.new.frame machine.new.values w }
+{
+    let nil = Value::Rock(Rock::Nil);
+    if is_rock(machine.values.under(count as usize, &nil)) {
+        return Err(Halt::NotBuilt);
+    }
+    machine.wait(
+        Task::Expr(ExprTask::Trailers(trailers)),
+        Control::Call(count, 0),
+    )
+}
+
+/// Goes on with the trailers that are left; the callee and the arguments are dropped.
+#[inline(always)]
+fn with_result<'u>(
+    machine: &mut Machine<'u>,
+    count: u32,
+    value: Value,
+    trailers: &'u [Trailer],
+) -> Result<(), Halt>
+    ensures law { OnOk result ((w : TheWorld) (base : Run) → rest_of base machine.new (state_of w)
+        ≡ rest machine.old.tasks (gave (frame_in base machine.old) (drop (suc count) machine.old.values)
+        (forms.trailers (does.trailers trailers.now) value (frame_in base machine.old) (state_of w)))) }
+    ensures ready { (w : TheWorld) → IsReady machine.old.units.now machine.old.frame machine.old.values w
+        → IsFit w.store.heap machine.old.frame.side value
+        → IsReady machine.new.units.now machine.new.frame machine.new.values w }
+{
+    machine.forget(count as usize + 1);
+    more_trailers(machine, value, trailers)
+}
+
+/// A call has no value; the callee and the arguments are dropped.
+#[inline(never)]
+fn without_result<'u>(machine: &mut Machine<'u>, count: u32, end: OpEnd) -> Result<(), Halt>
+    ensures law { OnOk result ((base : Run) (s : State) (o : Outcome TheValue) → IsEnd end s o
+        → rest_of base machine.new s
+        ≡ rest machine.old.tasks (gave (frame_in base machine.old) (drop (suc count) machine.old.values) o)) }
+    ensures ready { (w : TheWorld) → IsReady machine.old.units.now machine.old.frame machine.old.values w
+        → IsReady machine.new.units.now machine.new.frame machine.new.values w }
+{
+    machine.forget(count as usize + 1);
+    machine.no_value(end)
+}
+
+/// What the call gives; the callee and the arguments stay at hand.
+#[inline(always)]
+fn called<'u>(
+    machine: &Machine<'u>,
+    world: &mut World,
+    count: usize,
+) -> Result<Option<Value>, OpEnd>
+    requires ready { IsReady machine.now.units.now machine.now.frame machine.now.values world.old }
+    ensures law { CallComes machine.now.frame.side (top (drop count machine.now.values))
+        (reverse (take count machine.now.values)) result world.old world.new }
+    ensures left { IfOk result (λ v. IfNone v (IsCallLeft (top (drop count machine.now.values))
+        (reverse (take count machine.now.values)) (state_of world.old) (state_of world.new))) }
+    ensures faithful { IsFaithful world.new }
+    ensures shape { KeepsShape world.old.store.heap world.new.store.heap }
+    ensures fit { IfOk result (λ v. IfSome v (IsFit world.new.store.heap machine.now.frame.side)) }
+{
+    let nil = Value::Rock(Rock::Nil);
+    call(
+        machine.alloc,
+        world,
+        machine.frame.side,
+        machine.values.under(count, &nil),
+        machine.values.last(count),
+    )
+}
+
+/// Whether it is a rock, and no reference.
+fn is_rock(value: &Value) -> bool
+    ensures { result ≡ false → callee_of value.now ≢ None }
+{
+    match value {
+        Value::Rock(_) => true,
+        Value::Ref(_) => false,
+        Value::Prox(_) => false,
+    }
+}

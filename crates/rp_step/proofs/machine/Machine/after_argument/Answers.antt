@@ -1,8 +1,0 @@
-use Rattle.rp_step.proofs.Callings.{argument_held}
-use Rattle.rp_step.specs.Does as does
-use Rattle.rp_step.proofs.machine.Machine.after_argument.Goals as goal
-
-pub returns-clause-law : goal.returns-clause-law
-returns-clause-law c =
-    argument_held c.args.self.now c.arguments.new.self c.args.world.now c.arguments.new.world c.arguments.result (does.args c.args.args.now) (does.trailers c.args.rest.now)
-    c.hold.new.self c.args.count c.in_ok-count.count c.args.value c.in_ok-hold.ensures.held c.in_ok-count.ensures c.arguments.ensures.law

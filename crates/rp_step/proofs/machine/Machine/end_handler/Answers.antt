@@ -1,8 +1,0 @@
-use Rattle.rp_step.proofs.Handlings.{ended, ended_ready}
-use Rattle.rp_step.proofs.machine.Machine.end_handler.Goals as goal
-
-pub returns-clause-law : goal.returns-clause-law
-returns-clause-law c = ended c.args.self.now c.handle_before.new.self c.handle_before.ensures c.go.new.self c.args.control c.go.ensures.law
-
-pub returns-clause-ready : goal.returns-clause-ready
-returns-clause-ready c = λ w h. c.go.ensures.ready w (ended_ready c.args.self.now c.handle_before.new.self c.handle_before.ensures w h)

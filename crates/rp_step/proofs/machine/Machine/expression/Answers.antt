@@ -1,6 +1,0 @@
-use Rattle.std.proofs.Common.{sym}
-use Rattle.rp_step.proofs.Equations.{expr_out}
-use Rattle.rp_step.proofs.machine.Machine.expression.Goals as goal
-
-pub returns-clause-law : goal.returns-clause-law
-returns-clause-law c = rw (expr_out c.args.x.now, sym c.deref.ensures) c.form.ensures.law

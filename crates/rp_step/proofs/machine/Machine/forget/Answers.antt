@@ -1,5 +1,0 @@
-use Rattle.rp_step.proofs.Passing.{popped}
-use Rattle.rp_step.proofs.machine.Machine.forget.Goals as goal
-
-pub loop-preserved : goal.loop-preserved
-loop-preserved c = popped c.args.self.now c.loop.self c.loop.counter c.pop-value.new.self c.loop.invariant c.pop-value.ensures.left

@@ -1,7 +1,0 @@
-use Rattle.rp_step.proofs.Raisings.{cut_any}
-use Rattle.rp_step.specs.Raising.{raised_value}
-use Rattle.rp_step.proofs.machine.Machine.raised.Goals as goal
-
-pub returns-clause-law : goal.returns-clause-law
-returns-clause-law c =
-    cut_any c.args.self.now c.cut_off.new.self c.cut_off.result (raised_value c.args.value) c.raise_value.result (λ base s. c.raise_value.ensures s) c.cut_off.ensures.law

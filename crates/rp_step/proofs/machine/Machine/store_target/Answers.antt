@@ -1,9 +1,0 @@
-use Rattle.std.proofs.Common.{sym}
-use Rattle.rp_step.proofs.PlaceEquations.{target_group, target_place}
-use Rattle.rp_step.proofs.machine.Machine.store_target.Goals as goal
-
-pub returns-in-Place-clause-law : goal.returns-in-Place-clause-law
-returns-in-Place-clause-law c = rw (c.in-Place.is, target_place) c.store.ensures.law
-
-pub returns-in-Group-clause-law : goal.returns-in-Group-clause-law
-returns-in-Group-clause-law c = rw (c.in-Group.is, target_group, sym c.deref.ensures.value) c.unpack.ensures.law

@@ -1,4 +1,0 @@
-use Rattle.rp_step.proofs.names.+outwards.Given as goal
-
-abbrev pub decreases-outwards : goal.decreases-outwards
-decreases-outwards l = l.n

@@ -1,0 +1,42 @@
+use Rattle.std.proofs.Common.{Ok, ap, sym}
+use Rattle.rp_meaning.specs.Access as access
+use Rattle.rp_meaning.specs.Statements as forms
+use Rattle.rp_meaning.specs.Statements.{Store}
+use Rattle.rp_engine.proofs.Doings.{does_as, does_end, does_goes}
+use Rattle.rp_targets.proofs.Steps.{assign_ends, assign_gives}
+use Rattle.rp_engine.specs.Does as does
+use Rattle.rp_engine.specs.Law.{frame_in}
+use Rattle.rp_access.specs.Moment.{state_of}
+use Rattle.rp_targets.proofs.deleting.delete_item.Goals as goal
+
+pub returns-in-Ok-Some-clause-law : goal.returns-in-Ok-Some-clause-law
+returns-in-Ok-Some-clause-law c =
+    let m = c.args.machine.now in
+    let w = c.args.world.now in
+    let u = c.leaf.new.world in
+    let x = does.expr c.args.object.now in
+    let store : Store = λ o. forms.assign (does.expr c.args.key.now) (access.del_item o) in
+    let found = rw c.in-Ok-Some.field-0-is at c.in-Ok-Some.ensures.law in
+    does_as m c.delete_key.new.machine w c.delete_key.new.world c.delete_key.result (forms.assign x store) (store c.in-Ok-Some.o) u
+    (assign_gives m w u x store c.in-Ok-Some.o found) c.delete_key.ensures.law
+
+pub returns-in-Ok-None-clause-law : goal.returns-in-Ok-None-clause-law
+returns-in-Ok-None-clause-law c =
+    let m = c.args.machine.now in
+    let w = c.args.world.now in
+    let u = c.leaf.new.world in
+    let x = does.expr c.args.object.now in
+    let store : Store = λ o. forms.assign (does.expr c.args.key.now) (access.del_item o) in
+    let same = c.in-Ok-None.ensures.none (ap Ok c.in-Ok-None.field-0-is) in
+    does_goes m c.wait.new.self w u c.wait.result (forms.assign x store) (forms.assign x store)
+    (λ base. ap (λ z. forms.assign x store (frame_in base m) (state_of z)) (sym same)) c.wait.ensures.law
+
+pub returns-in-Err-clause-law : goal.returns-in-Err-clause-law
+returns-in-Err-clause-law c =
+    let m = c.args.machine.now in
+    let w = c.args.world.now in
+    let u = c.leaf.new.world in
+    let x = does.expr c.args.object.now in
+    let store : Store = λ o. forms.assign (does.expr c.args.key.now) (access.del_item o) in
+    does_end m c.cut_off.new.self w u c.cut_off.result (forms.assign x store) c.in-Err.end
+    (assign_ends m w u x store c.in-Err.end c.in-Err.ensures.law) c.cut_off.ensures.law
