@@ -9,7 +9,7 @@ is_current() {
 }
 
 if ! is_current; then
-    echo "rpy: proving and building the program; the first time this takes half an hour or more" >&2
+    echo "rpy: proving and building the program; the first time this takes an hour or more" >&2
     # `rt run` builds the program and runs it; without words it writes its usage, which is dropped.
     (cd "$top/crates/rpy" && rm -f "$program" && rt run >/dev/null </dev/null)
     if [ ! -x "$program" ]; then

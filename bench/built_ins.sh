@@ -4,21 +4,20 @@
 # a dict, `join` and `split` of 1,000 words; and the binding of three arguments by position, beside CPython's call of an empty
 # function. Ours are calls with the values at hand, without the finding of a name. Processor time, the least of some runs, less that
 # of an idle loop of the same number of turns on each side.
-cd "$(dirname "${BASH_SOURCE[0]}")/.." || exit 2
-[ -x crates/rp_bench_built_ins/out/rp_bench_built_ins ] || (cd crates/rp_bench_built_ins && rt run >/dev/null </dev/null)
+. "$(dirname "${BASH_SOURCE[0]}")/loops.sh"
 exec python3 - <<'PYTHON'
 import os
 import sys
 import time
 import timeit
 
-BENCH = "crates/rp_bench_built_ins/out/rp_bench_built_ins"
+BENCH = "crates/rp_bench/out/rp_bench"
 TIMES = 5
 
 
 def process(what, turns):
     """Processor seconds of a process."""
-    child = os.spawnv(os.P_NOWAIT, BENCH, [BENCH, what, str(turns)])
+    child = os.spawnv(os.P_NOWAIT, BENCH, [BENCH, "built-ins", what, str(turns)])
     _, status, used = os.wait4(child, 0)
     if status != 0:
         sys.exit(f"{what} {turns}: status {status}")

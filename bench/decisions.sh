@@ -5,8 +5,7 @@
 # proxy of zope.security in C, whose interaction has the permissions in a set: that reads the field too, and keeps no entry.
 # `apt-get install python3-zope.security` gives it to /usr/bin/python3; where it is missing, its column is. Processor time, the
 # least of some runs, less that of a loop of the same number of turns in which nothing is asked, on each side.
-cd "$(dirname "${BASH_SOURCE[0]}")/.." || exit 2
-[ -x crates/rp_bench_decisions/out/rp_bench_decisions ] || (cd crates/rp_bench_decisions && rt run >/dev/null </dev/null)
+. "$(dirname "${BASH_SOURCE[0]}")/loops.sh"
 python=/usr/bin/python3
 [ -x "$python" ] || python=python3
 exec "$python" - <<'PYTHON'
@@ -22,14 +21,14 @@ try:
 except ImportError:
     ProxyFactory = None
 
-BENCH = os.environ.get("RPY_BENCH_DECISIONS", "crates/rp_bench_decisions/out/rp_bench_decisions")
+BENCH = os.environ.get("RPY_BENCH", "crates/rp_bench/out/rp_bench")
 TURNS = 1_300_000
 MANY = 65
 
 
 def process(*words):
     """Processor seconds of a process."""
-    child = os.spawnv(os.P_NOWAIT, BENCH, [BENCH, *map(str, words)])
+    child = os.spawnv(os.P_NOWAIT, BENCH, [BENCH, "decisions", *map(str, words)])
     _, status, used = os.wait4(child, 0)
     if status != 0:
         sys.exit(f"{words}: status {status}")

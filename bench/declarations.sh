@@ -87,6 +87,7 @@ with tempfile.TemporaryDirectory() as folder:
         print(f"{classes} classes: rpy {rpy / classes * 1e6:.2f} microseconds a class, tomllib {python / classes * 1e6:.2f}")
     for what in ("decide", "row"):
         turns = 20_000_000
-        used = process([BENCH, what, str(turns)], 0) - process([BENCH, what, "0"], 0)
+        words = [BENCH, "declarations", what]
+        used = process([*words, str(turns)], 0) - process([*words, "0"], 0)
         print(f"{what}: {used / turns * 1e9:.1f} ns")
 PYTHON

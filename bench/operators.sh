@@ -6,17 +6,25 @@
 # for each cell, filled with lists, dicts and instances of some sizes. Processor time, the least of some runs, less that of an idle
 # loop of the same number of turns on each side.
 #
-# What limits those that are slower, in instructions of a turn by callgrind: an item of a list takes 114, 75 of them in `item`, which is
-# not inlined; a character or a new text 540 to 800, of which 250 are its memory; copying a value some 30, so a slice or a walk of ten
-# 340 to 520; a method of an instance 312, since an object is made for it; a key the keyed hash (bench/README.md has all).
-cd "$(dirname "${BASH_SOURCE[0]}")/.." || exit 2
-[ -x crates/rp_bench_ops/out/rp_bench_ops ] || (cd crates/rp_bench_ops && rt run >/dev/null </dev/null)
-exec python3 - <<'PYTHON'
+# With the word `instructions`, what callgrind counts in place of that: the instructions of a turn of our loops, and the functions in which
+# most of them stand; behind it may stand the loops that are counted (`bench/operators.sh instructions in show`), else all are.
+#
+# What limits those that miss the aim, in instructions of a turn by callgrind, an idle turn's 23 with them: an item of a list takes 114,
+# 75 of them in `item`, which is not inlined; an append 88, 48 in `Store::push` and 10 in dropping what was handed in; a character or a
+# new text 540 to 800, of which 250 are its memory; copying a value some 30, so a slice or a walk of ten 340 to 520; a pair of elements
+# that is compared 77, so `==` of ten 872; a method of an instance 312, since an object is made for it; a key 360, the keyed hash, which
+# also puts the next of 1,000,000 keys elsewhere in memory. Showing a list and `in` were not counted. bench/README.md has all figures.
+. "$(dirname "${BASH_SOURCE[0]}")/loops.sh"
+exec python3 - "$@" <<'PYTHON'
+import collections
 import os
+import re
+import subprocess
 import sys
+import tempfile
 import time
 
-BENCH = "crates/rp_bench_ops/out/rp_bench_ops"
+BENCH = "crates/rp_bench/out/rp_bench"
 
 CELLS = 1_000_000
 MILLION = 1_000_000
@@ -25,7 +33,7 @@ FAR = 618_033
 
 def process(*words):
     """Processor seconds and peak bytes of a process."""
-    child = os.spawnv(os.P_NOWAIT, BENCH, [BENCH, *map(str, words)])
+    child = os.spawnv(os.P_NOWAIT, BENCH, [BENCH, "operators", *map(str, words)])
     _, status, used = os.wait4(child, 0)
     if status != 0:
         sys.exit(f"{words}: status {status}")
@@ -199,15 +207,44 @@ def show(turns):
         str(xs)
 
 
-# What a process takes is measured before this one is large: a child begins with a copy of it.
-base = process("list", 0, 0)[1]
-per_cell = []
-for what in ("list", "dict", "instance"):
-    for entries in (0, 1, 2, 3, 5, 9):
-        per_cell.append((process(what, CELLS, entries)[1] - base) / CELLS)
-        print(f"{what}s of {entries}: {per_cell[-1]:.0f} bytes a cell")
-print(f"on average: {sum(per_cell) / len(per_cell):.0f} bytes a cell, at most {max(per_cell):.0f}")
+def counted(what, turns):
+    """The instructions of a turn, without those of the process, and the functions with most of them, by callgrind."""
+    totals = []
+    for count in (0, turns):
+        with tempfile.NamedTemporaryFile() as file:
+            words = ["valgrind", "--tool=callgrind", f"--callgrind-out-file={file.name}", BENCH, "operators", what, str(count)]
+            subprocess.run(words, check=True, stdout=subprocess.DEVNULL, stderr=subprocess.DEVNULL)
+            told = subprocess.run(["callgrind_annotate", file.name], capture_output=True, text=True, check=True).stdout
+        totals.append(collections.Counter())
+        for number, name in re.findall(r"^ *([\d,]+) \([ \d.]+%\)  (?:\S*?:)?(\S+)", told, re.M):
+            totals[-1][name] += int(number.replace(",", ""))
+    each = {name: (number - totals[0][name]) / turns for name, number in totals[1].items()}
+    most = sorted(((number, name) for name, number in each.items() if name != "PROGRAM"), reverse=True)[:6]
+    return each["PROGRAM"], most
 
+
+def instructions(wanted):
+    for title, what, turns, *_ in [("an idle turn", "idle", 2_000), *LOOPS]:
+        if wanted and what not in wanted:
+            continue
+        number, most = counted(what, max(turns // 1_000, 20))
+        print(f"{title} ({what}): {number:.0f}; " + ", ".join(f"{part:.0f} {name}" for part, name in most))
+
+
+def cells():
+    """The bytes that a store takes for each cell: the growth from half of the cells to all, since the system tells of a process no less than of the one that began it."""
+    per_cell = []
+    for what in ("list", "dict", "instance"):
+        for entries in (0, 1, 2, 3, 5, 9):
+            half, whole = (process(what, count, entries)[1] for count in (CELLS // 2, CELLS))
+            per_cell.append((whole - half) / (CELLS // 2))
+            print(f"{what}s of {entries}: {per_cell[-1]:.0f} bytes a cell")
+    print(f"on average: {sum(per_cell) / len(per_cell):.0f} bytes a cell, at most {max(per_cell):.0f}")
+
+
+if sys.argv[1:2] != ["instructions"]:
+    # What a process takes is measured before this one is large: a child begins with a copy of it.
+    cells()
 TURNS = 2_000_000
 LOOPS = [
     ("add", "add", TURNS, add, empty),
@@ -232,6 +269,9 @@ LOOPS = [
     ("delete and set far at 1,000,000", "replace_key_1000000", TURNS, replace_key(MILLION, FAR), keys(MILLION, FAR)),
     ("show of 1,000 numbers", "show", 2_000, show, empty),
 ]
+if sys.argv[1:2] == ["instructions"]:
+    instructions(sys.argv[2:])
+    sys.exit()
 IDLE = idle_turn()
 print(f"an idle turn: {IDLE * 1e9:.1f} ns")
 for title, what, turns, loop, idle in LOOPS:

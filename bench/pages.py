@@ -1,11 +1,12 @@
 #!/usr/bin/env python3
-"""Runs the examples of the pages for people, and tells how many commands answered what the page shows.
+"""Runs the examples of the pages for people, and tells how many answered what the page shows, and how long that took.
 
-    bench/pages.py [PAGE..]     README.md, docs/TUTORIAL.md, docs/DECLARATIONS.md, docs/FROM-ZOPE.md and docs/LANGUAGE.md where none is named
+    bench/pages.py [PAGE..]     README.md and each page of docs/ and examples/ that has a block ```console where none is named
 
 A fenced block whose first line names a file (```toml policy.toml) makes that file in a folder of the page's own, which also has the
-repository's examples/. In a block ```console each line `$ ./rpy WORDS` is run there, and what stands behind it, up to the next such line, is
-what it has to write. Its status is 0, or N where the line ends with `# status N`.
+repository's examples/; where it names one of these, its lines have to stand there. In a block ```console each line `$ ./rpy WORDS` is run
+there, and what stands behind it, up to the next such line, is what it has to write. Its status is 0, or N where the line ends with
+`# status N`.
 """
 import os
 import re
@@ -13,10 +14,10 @@ import shlex
 import subprocess
 import sys
 import tempfile
+import time
 from pathlib import Path
 
 TOP = Path(__file__).resolve().parent.parent
-PAGES = ["README.md", "docs/TUTORIAL.md", "docs/DECLARATIONS.md", "docs/FROM-ZOPE.md", "docs/LANGUAGE.md"]
 FENCE = re.compile(r"^```(\w*) ?(.*)$")
 COMMAND = re.compile(r"^\$ (\./rpy.*?)(?:\s+# status (\d+))?$")
 
@@ -55,13 +56,28 @@ def run(words, folder):
     return done.returncode, done.stdout.decode()
 
 
+def stand(name, lines):
+    """Whether the lines stand in a file of the repository, one behind the other."""
+    return "\n" + "".join(line + "\n" for line in lines) in "\n" + (TOP / name).read_text()
+
+
+def all_pages():
+    """The pages for people: those that show what a command answers."""
+    found = [f"{path.relative_to(TOP)}" for path in sorted([*(TOP / "docs").glob("*.md"), *(TOP / "examples").glob("*.md")]) if "\n```console\n" in path.read_text()]
+    return ["README.md", *found]
+
+
 def differing(page):
-    """How many commands a page has, and those that answer something else."""
+    """How many commands and blocks of examples/ a page has, and those that answer something else or stand otherwise."""
     count, wrong = 0, []
     with tempfile.TemporaryDirectory() as folder:
         os.symlink(TOP / "examples", Path(folder) / "examples")
         for number, language, name, lines in blocks(TOP / page):
-            if language != "console" and name:
+            if language != "console" and name.startswith("examples/"):
+                count += 1
+                if not stand(name, lines):
+                    wrong.append(f"{page}:{number}: not so in {name}")
+            elif language != "console" and name:
                 (Path(folder) / name).write_text("".join(line + "\n" for line in lines))
             for at, words, status, text in commands(lines) if language == "console" else []:
                 count += 1
@@ -73,14 +89,14 @@ def differing(page):
 
 
 def main(pages):
-    total, failed = 0, 0
-    for page in pages or PAGES:
+    total, failed, begun = 0, 0, time.monotonic()
+    for page in pages or all_pages():
         count, wrong = differing(page)
         total, failed = total + count, failed + len(wrong)
         for text in wrong:
             print(text)
-        print(f"{page}: {count - len(wrong)} of {count} commands passed")
-    print(f"{total - failed} of {total} commands passed")
+        print(f"{page}: {count - len(wrong)} of {count} passed")
+    print(f"{total - failed} of {total} passed in {time.monotonic() - begun:.1f} s")
     return 1 if failed or not total else 0
 
 

@@ -22,7 +22,7 @@ def tokens_of(text):
 
 def process(what, blocks):
     """Processor seconds and peak bytes of a process."""
-    child = os.spawnv(os.P_NOWAIT, BENCH, [BENCH, what, str(blocks), BLOCK])
+    child = os.spawnv(os.P_NOWAIT, BENCH, [BENCH, "parse", what, str(blocks), BLOCK])
     _, status, used = os.wait4(child, 0)
     if status != 0:
         sys.exit(f"{what}: status {status}")
@@ -50,7 +50,7 @@ for wanted in (250_000, 1_000_000):
     count = blocks * per_block
     empty, _ = rpy("tokens", 0)
     reading, before = rpy("tokens", blocks)
-    whole, after = rpy("parse", blocks)
+    whole, after = rpy("tree", blocks)
     theirs = python(BLOCK * blocks)
     spent.append((whole - reading) / count)
     print(

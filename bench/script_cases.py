@@ -19,10 +19,10 @@ TABLES = {}
 sys.setrecursionlimit(5_000)
 
 
-def table(name, sentence, scripts, own=()):
+def table(name, sentence, scripts, own=(), front=""):
     """A table: what it is about; scripts that CPython answers, each with the text of its exception behind ` !! ` where it
-    raises one; and scripts with their answers and why these are not CPython's."""
-    TABLES[name] = (sentence, scripts, own)
+    raises one; scripts with their answers and why these are not CPython's; and code that stands before each script."""
+    TABLES[name] = (sentence, scripts, own, front)
 
 
 
@@ -54,10 +54,10 @@ def wrapped(row):
 
 
 def cases(name):
-    _, scripts, own = TABLES[name]
+    _, scripts, own, front = TABLES[name]
     for script in scripts:
         script, fault, text = script.partition(" !! ")
-        yield case(script, answer(script, text if fault else None))
+        yield case(script, answer(front + script, text if fault else None))
     for script, told, _ in own:
         yield case(script, told)
 
@@ -387,6 +387,159 @@ table("CALLABLES", "Instances that are called, which the policy of names lets no
     "class A:\n    def __call__(self, x, y=0):\n        return (x, y)\na = A()\nprint(a(1, y=2), a(*[3]), a(**{'x': 4}))",
     "class A:\n    def __call__(self, *xs, **d):\n        return (xs, d)\nprint(A()(1, *[2], k=3), [f() for f in [A()]])",
     "class A:\n    def __call__(self):\n        return 1\nA()(2) !! arguments",
+])
+
+# a class with all special methods of containers
+BOX = """class Box:
+    def __init__(self, xs):
+        self.xs = xs
+    def __getitem__(self, i):
+        return self.xs[i]
+    def __setitem__(self, i, v):
+        self.xs[i] = v
+    def __delitem__(self, i):
+        del self.xs[i]
+    def __len__(self):
+        return len(self.xs)
+    def __contains__(self, v):
+        return v in self.xs
+"""
+
+table("BOXED", "Instances that hold lists and dicts: a class Box with all special methods of containers stands before each", [
+    "b = Box([1, 2, 3])\nprint(b[0], b[-1], len(b), 2 in b, 5 in b, 5 not in b)",
+    "b = Box([1, 2, 3])\nb[0] = 7\ndel b[1]\nprint(b.xs)",
+    "b = Box([1, 2])\nb[0] += 5\nb[1] *= b[0]\nprint(b.xs)",
+    "b = Box([[1, 2], 'ab', lambda x: x + 1])\nprint(b[0][1], b[1][-1], b[2](4), b[1].find('b'), b[0][1:])",
+    "b = Box([1, 2])\nfor b[0] in [8, 9]:\n    print(b[0], b.xs)\na, b[1] = 5, 6\nb[0] = c = 4\nprint(a, b.xs, c)",
+    "b = Box([1, 2])\nb[0], b[1] = b[1], b[0]\nprint(b.xs)",
+    "b = Box([1, 2])\nprint([b[i] for i in range(len(b))], [x for x in [1, 3] if x in b], {x: b[0] for x in b.xs if x not in [1]})",
+    "b = Box([0, 1, 2])\ndel b[0], b[0]\nprint(b.xs, len(b))",
+    "b = Box([])\ntry:\n    b[3]\nexcept IndexError:\n    print('none')\nfinally:\n    print('last')",
+    "b = Box([Box([5])])\nb[0][0] = 6\nb[0][0] += 1\nprint(b[0][0], len(b[0]), 7 in b[0])",
+    "b = Box([1])\nprint(len(b) + len(b), -len(b), not len(b), [len(b), len([])])\nf = len\nprint(f(b), (lambda g, x: g(x))(len, b), len(*[b]))",
+    "b = Box({'n': 2})\nb['m'] = b['n'] ** 3\nb['n'] -= 1\nprint(b.xs, 'm' in b, 8 in b, len(b))",
+    "b = Box([1, 2, 3])\ni = 0\nwhile i < len(b):\n    b[i] += 10\n    i += 1\nprint(b.xs, b[0] < b[1] < b[2], b[0] and b[1], 0 or b[2])",
+    "b = Box([[3, 1], {'sep': 2}])\ndef f(*xs, **d):\n    return (xs, d)\nprint(f(*b[0], **b[1]), f(b[0], k=b[1]['sep']))",
+    "b = Box([ValueError('held'), ValueError])\ntry:\n    raise b[0]\nexcept b[1] as e:\n    print('taken', e)",
+    "b = Box([True, 'told'])\nassert b[0], b[1]\nif b[0]:\n    print('yes' if not b[0] else b[1])\nb[0] = False\nassert b[0], b[1] !! told",
+    "b = Box([1, 2])\ndef f(x=b[1]):\n    return x\nb[1] = 3\nprint(f(), (lambda: b[1])())",
+    "class A:\n    pass\nb = Box([A()])\nb[0].x = 1\nb[0].x += 4\nprint(b[0].x)\ndel b[0].x\nb[0].x !! x",
+    "b = Box([2])\nprint(len(b), b[0], 2 in b)\nb.xs = {}\nprint(len(b), 2 in b)\nb[0] !! 0",
+    "b = Box([1])\nb.xs = b\nb[0] !! calls",
+    "b = Box([1])\nb[1] = 2 !! index",
+    "b = Box((1, 2))\nprint(b[1], len(b), 2 in b)\nb[1] = 2 !! item",
+    "b = Box('abc')\nprint(b[1], len(b), 'bc' in b)\ndel b[1] !! item",
+    "b = Box([1])\nb[0] += 'x' !! operand",
+    "b = Box([1])\nb[0] += undefined !! undefined",
+], front=BOX)
+
+table("SPECIAL", "Special methods of instances that operations call, which the policy of names lets no script have", [
+    "class A:\n    def __contains__(self, v):\n        return [v] if v else ''\na = A()\nprint(1 in a, 0 in a, 1 not in a, 0 not in a)",
+    "class A:\n    def __contains__(self, v):\n        print('asked', v)\n        return v > 1\na = A()\nprint(1 < 2 in a, 3 in a in [a], 0 in a in 5)",
+    "class A:\n    def __len__(self):\n        return True\nprint(len(A()))",
+    "class A:\n    def __getitem__(self, i):\n        print('get', i)\n        return i\n    def __setitem__(self, i, v):\n        print('set', i, v)\n        return 'dropped'\n"
+    "    def __delitem__(self, i):\n        print('del', i)\n        return 5\na = A()\na['k'] = a[1] = a[2]\ndel a['k']\na[3] -= a[4]",
+    "class A:\n    def __getitem__(self, i):\n        return i\na = A()\nprint(a[None], a['x'], a[(1, 2)], a[a] == a)",
+    "class A:\n    def __getitem__(self, n):\n        return 0 if n == 0 else n + self[n - 1]\nprint(A()[10])",
+    "class A:\n    def __call__(self, x):\n        return x\n    def __len__(self):\n        return 3\na = A()\nprint(a(len(a)))",
+    "class A:\n    def __len__(self):\n        return 0\n    def __getitem__(self, i):\n        return i\na = A()\nx = len(a) or a[2] or a[3]\n"
+    "print(x, a[1] if len(a) == 0 else 'no', len(a) and 1)\nwhile a[0]:\n    pass\nassert a[1]\nprint({a[1]: a[2]}, (a[3],), a[4] ** a[2], -a[1])",
+    "class A:\n    def __getitem__(self, i):\n        raise KeyError('own')\na = A()\ntry:\n    a[1]\nexcept KeyError as e:\n    print('taken')",
+    "class A:\n    def __setitem__(self, i, v):\n        self.i = i\n        self.v = v\ndef f():\n    a = A()\n    a[1] = 2\n    return (a.i, a.v)\nprint(f())",
+    "class A:\n    def __getitem__(self, *xs):\n        return xs\n    def __len__(self, n=4):\n        return n\nprint(A()[1], A()[(1, 2)], len(A()))",
+    "class A:\n    def __getitem__(self, i):\n        try:\n            return 1 // i\n        except ZeroDivisionError:\n            return 'none'\n        finally:\n            print('last')\n"
+    "a = A()\nprint(a[1], a[0])",
+    "class A:\n    def __contains__(self, v):\n        for x in [1, 2]:\n            if x == v:\n                return True\na = A()\nprint(2 in a, 3 in a, 3 not in a)",
+    "class A:\n    def __getitem__(self, i):\n        return lambda x, k=0: (i, x, k)\na = A()\nprint(a['f'](1), a['g'](*[2], k=3))",
+    "class A:\n    pass\na = A()\na.n = 1\nclass B:\n    def __getitem__(self, i):\n        return a\n    def __delitem__(self, i):\n        a.n = 'deleted'\nb = B()\nb[0].n = 2\nb[0].n += 5\n"
+    "print(b[1].n)\ndel b[2]\nprint(a.n)",
+    "class A:\n    def __len__(self):\n        return 2\n    def __getitem__(self, i):\n        return len(self) * i\n    def __contains__(self, v):\n        return self[1] == v\nprint(2 in A(), 3 in A(), A()[4])",
+    "def f(a):\n    def g():\n        return a[1] + a[2]\n    return g\nclass A:\n    def __getitem__(self, i):\n        return i * 10\nprint(f(A())(), f([0, 1, 2])())",
+    "class A:\n    def __getitem__(self, i):\n        print('read')\n        return [i]\n    def __setitem__(self, i, v):\n        print('stored', i, v)\na = A()\n"
+    "(print('place') or a)[print('key') or 1] += (print('right') or [2])",
+    "class A:\n    def __setitem__(self, i, v):\n        print(i, v)\na = A()\n(print('place') or a)[print('key') or 1] = print('right')",
+    "class A:\n    def __getitem__(self, i):\n        return i\nprint([A()['x']] * 2, A()[(1,)][0], str(A()[1]) + 'x')",
+])
+
+table("REFUSALS", "The same, that come to exceptions", [
+    "class A:\n    pass\nA()[0] !! item",
+    "class A:\n    pass\nA()[0] = 1 !! item",
+    "class A:\n    pass\ndel A()[0] !! item",
+    "class A:\n    pass\n1 in A() !! operand",
+    "class A:\n    pass\nlen(A()) !! len",
+    "class A:\n    pass\na = A()\na.__len__ = lambda: 3\nlen(a) !! len",
+    "class A:\n    def __getitem__(self):\n        pass\nA()[1] !! arguments",
+    "class A:\n    def __len__(self, n):\n        return n\nlen(A()) !! arguments",
+    "class A:\n    def __setitem__(self, i):\n        pass\nA()[1] = 2 !! arguments",
+    "class A:\n    def __getitem__(self, i):\n        return self[i]\nA()[0] !! calls",
+    "class A:\n    def __len__(self):\n        return len(self)\nlen(A()) !! calls",
+    "class A:\n    def __len__(self):\n        return 'a'\nlen(A()) !! len",
+    "class A:\n    def __len__(self):\n        return [1]\nlen(A()) !! len",
+    "class A:\n    def __len__(self):\n        pass\nlen(A()) !! len",
+    "class A:\n    def __len__(self):\n        return 1\nlen(A(), A()) !! arguments",
+    "class A:\n    def __len__(self):\n        return 1\nlen(x=A()) !! arguments",
+    "class A:\n    def __contains__(self, v):\n        return 1 // v\nprint(1 in A(), 0 in A()) !! zero",
+    "class A:\n    def __setitem__(self, i, v):\n        raise ValueError('no')\nA()[1] = 2 !! no",
+    "class A:\n    def __delitem__(self, i):\n        raise ValueError('no')\ndel A()[1] !! no",
+    "class A:\n    def __getitem__(self, i):\n        return i\na = A()\na[1] += 2 !! item",
+    "class A:\n    def __setitem__(self, i, v):\n        pass\na = A()\na[1] += 2 !! item",
+    "class A:\n    def __getitem__(self, i):\n        print(i)\na = A()\na[1] += 2 !! operand",
+    "class A:\n    def __delitem__(self, i):\n        print('del', i)\na = A()\ndel a[1], a[2], b[3] !! b",
+    "class A:\n    def __getitem__(self, i):\n        return i\n    def __len__(self):\n        return 1\na, b = 1, A()[2][3] !! item",
+], [
+    ("class A:\n    def __getitem__(self, i):\n        return i\nA()[0:1]", "TypeError: item", "slices call no special method"),
+    ("class A:\n    def __getitem__(self, i):\n        return i\nfor x in A():\n    pass", "TypeError: iterate", "instances are not walked"),
+    ("class A:\n    def __getitem__(self, i):\n        return i\na, b = A()", "TypeError: iterate", "instances are not walked"),
+    ("class A:\n    def __getitem__(self, i):\n        return i\n1 in A()", "TypeError: operand", "membership asks `__contains__` alone"),
+    ("class A:\n    def __len__(self):\n        return -1\nlen(A())", "TypeError: len", "a length is a number of at least 0"),
+    ("class A:\n    def __len__(self):\n        return 0\nprint('yes' if A() else 'no', not A(), bool(A()))", "yes False True~well", "instances are always true"),
+])
+
+table("ATTRIBUTES", "`getattr` and `setattr`", [
+    "class A:\n    def f(self):\n        return self.x\na = A()\nsetattr(a, 'x', 5)\nprint(getattr(a, 'x'), getattr(a, 'f')(), getattr(a, 'y', 'none'), getattr(a, 'x', 0))",
+    "print(getattr([1, 2], 'index')(2), getattr('ab', 'find')('b'), getattr(5, 'x', None), getattr([], 'none', 'd'))",
+    "class A:\n    pass\na = A()\nprint(setattr(a, 'new', 1))\nfor n in ['p', 'q']:\n    setattr(a, n, n + n)\nprint(a.new, a.p, a.q, [getattr(a, n) for n in ['q', 'p']])",
+    "class A:\n    pass\na = A()\ntry:\n    getattr(a, 'missing')\nexcept AttributeError:\n    print('missing')\ng = getattr\ns = setattr\ns(a, 'x', [])\ng(a, 'x').append(1)\nprint(a.x, getattr(a, 'for', 3))",
+    "class A:\n    pass\na = A()\nsetattr(a, 'def', 2)\nprint(getattr(a, 'def'))",
+    "class A:\n    pass\na = A()\nsetattr(*[a, 'x', 1])\nprint(getattr(*[a, 'x']), getattr(a, *['y', 2]), (lambda g: g(a, 'x'))(getattr))",
+    "class A:\n    def __init__(self):\n        setattr(self, 'n', 1)\n    def up(self, k):\n        setattr(self, k, getattr(self, k, 0) + 1)\n        return self\na = A()\nprint(a.up('n').up('m').up('m').n, a.m)",
+    "class A:\n    pass\na = A()\nwords = ['one', 'two']\nfor i in range(2):\n    setattr(a, words[i], i)\nprint([getattr(a, w) for w in words + ['one']], getattr(a, 'three', None) is None)",
+    "d = {}\nprint(getattr(d, 'get')('x', 1), getattr(d, 'x', getattr(d, 'y', 'z')), len(getattr('a b', 'split')()))",
+    "class A:\n    pass\nprint(getattr(A(), 'x', ValueError).x) !! x",
+    "class A:\n    pass\na = A()\ngetattr(a, 'x', 1 // 0) !! zero",
+    "class A:\n    pass\na = A()\nsetattr(a, 'f', lambda: 3)\nprint(a.f(), getattr(a, 'f')())",
+])
+
+table("WORDS", "The same of words that are no names, and of other arguments", [
+    "getattr(5) !! arguments",
+    "getattr() !! arguments",
+    "getattr(1, 'a', 2, 3) !! arguments",
+    "setattr(1, 'a') !! arguments",
+    "setattr(1, 'a', 2, 3) !! arguments",
+    "getattr(1, name='a') !! arguments",
+    "getattr(1, 2) !! argument",
+    "getattr(1, 2, 3) !! argument",
+    "setattr(1, None, 3) !! argument",
+    "getattr([], ['a'], 3) !! argument",
+    "getattr(1, 'a b') !! name",
+    "setattr(1, '', 2) !! name",
+    "setattr(1, '1a', 2) !! name",
+    "print(getattr(1, 'a b', 7), getattr(1, '', 8), getattr(1, '1x', 9))",
+    "setattr([], 'x', 1) !! x",
+    "setattr(len, 'x', 1) !! x",
+    "getattr([], '_') !! _",
+    "try:\n    getattr(1, 'b')\nexcept AttributeError:\n    print('taken')",
+], [
+    ("getattr(1, '_a')", "ForbiddenAttribute: _a", "the policy of names"),
+    ("getattr(1, '_a', 7)", "ForbiddenAttribute: _a", "the policy of names, which no default stands for"),
+    ("getattr([], 'tb_frame', 7)", "ForbiddenAttribute: tb_frame", "the policy of names"),
+    ("getattr([], 'x__roles__')", "ForbiddenAttribute: x__roles__", "the policy of names"),
+    ("setattr(1, '__init__', 1)", "ForbiddenAttribute: __init__", "the policy of names"),
+    ("getattr('a', '__class__')", "ForbiddenAttribute: __class__", "the policy of names"),
+    ("try:\n    getattr(1, '_a')\nexcept AttributeError as e:\n    print('taken', e)", "taken _a~well", "the policy of names; a ForbiddenAttribute is an AttributeError"),
+    ("try:\n    getattr(1, 'b')\nexcept AttributeError as e:\n    print('taken', e)", "taken b~well", "the text is the name"),
+    ("x = 'a' * 256\nprint(getattr(1, x, 'long'))\ngetattr(1, x)", "long~AttributeError: name", "names have at most 255 bytes"),
+    ("print(getattr(1, 'ﬁ', 'form'))\ngetattr(1, 'ﬁ')", "form~AttributeError: name", "names are spelled in their form NFKC"),
 ])
 
 table("COMPREHENSIONS", "Comprehensions of lists, dicts and sets", [

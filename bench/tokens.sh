@@ -30,7 +30,7 @@ def least(clock, work, times):
 
 
 def rpy(blocks):
-    done = subprocess.run([BENCH, "tokens", str(blocks), BLOCK])
+    done = subprocess.run([BENCH, "parse", "tokens", str(blocks), BLOCK])
     if done.returncode != 0:
         sys.exit(f"{blocks} blocks: status {done.returncode}")
 

@@ -5,7 +5,8 @@ import subprocess
 import sys
 import tempfile
 
-BENCH = "crates/rp_bench_ops/out/rp_bench_ops"
+BENCH = "crates/rp_bench/out/rp_bench"
+RPY = "crates/rpy/out/rpy"
 HOSTILE = "bench/hostile/collisions.py"
 
 
@@ -38,7 +39,7 @@ def python(text, source=os.devnull):
 
 def loop(what, turns, text):
     """One of our loops beside what CPython does the same number of times."""
-    ours = process([BENCH, what, str(turns)])
+    ours = process([BENCH, "operators", what, str(turns)])
     return told(f"{what} {turns:,}", ours, python(text.replace("TURNS", str(turns))))
 
 
@@ -52,9 +53,31 @@ def names(folder):
     for what in ("script", "plain-script"):
         file = f"{folder}/{what}.py"
         subprocess.run([sys.executable, HOSTILE, what, file], check=True)
-        ours = process(["./rpy", "run", "examples/title.toml", f"bob:{file}"])
+        ours = process([RPY, "run", "examples/title.toml", f"bob:{file}"])
         seconds.append(told(f"16,000 assignments, {what}", ours, process([sys.executable, file])))
     pair("names", *seconds)
+
+
+RUNS = {
+    "699,050 lines `x = 1` (4 MB)": "x = 1\n" * 699_050,
+    "198 blocks within one another": "".join(" " * i + "if 1:\n" for i in range(198)) + " " * 198 + "pass\n",
+    "a comprehension over 100,000": "print(len([i for i in range(100_000)]))\n",
+    "100,000 keys put and deleted": "d = {}\nfor i in range(100_000):\n    d[i] = i\nfor i in range(100_000):\n    del d[i]\nprint(len(d))\n",
+}
+
+
+def runs(folder):
+    """Scripts that are long, deep or wide. CPython takes no more than 100 blocks within one another."""
+    for title, text in RUNS.items():
+        file = f"{folder}/long.py"
+        with open(file, "w") as sink:
+            sink.write(text)
+        ours = process(["./rpy", "run", "examples/title.toml", f"bob:{file}", "--steps", "100000000", "--cells", "8000000"])
+        if "blocks" in title:
+            status, seconds, megabytes = ours
+            print(f"{title}: ours {seconds:.3f} s {megabytes:.0f} MB (status {status})")
+        else:
+            told(title, ours, process([sys.executable, file]))
 
 
 def keys(folder):
@@ -64,7 +87,7 @@ def keys(folder):
     for what in ("keys", "plain-keys"):
         file = f"{folder}/{what}.txt"
         subprocess.run([sys.executable, HOSTILE, what, file], check=True)
-        ours = process([BENCH, "keys"], file)
+        ours = process([BENCH, "operators", "keys"], file)
         seconds.append(told(f"dict of 40,000 keys, {what}", ours, python(read, file)))
     pair("keys", *seconds)
 
@@ -93,6 +116,7 @@ def main():
     with tempfile.TemporaryDirectory() as folder:
         names(folder)
         keys(folder)
+        runs(folder)
     loop("empty_front", 100_000, EMPTIED)
     texts()
     # Ours ends by want of memory (status 8); CPython's is cut off after 10,000 texts of 40,000 characters.

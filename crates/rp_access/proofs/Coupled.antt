@@ -19,11 +19,11 @@ use Rattle.rp_store.specs.Heap.{Owned}
 use Rattle.rp_store.specs.Kept.{AreSound, IsEntry, IsSound}
 use Rattle.rp_store.specs.Key.{key_form, same_key}
 use Rattle.rp_store.specs.Object as object
-use Rattle.rp_store.specs.Object.{Content}
+use Rattle.rp_store.specs.Object.{Content, Entries, Entry}
 use Rattle.rp_store.specs.Writers.{first_written}
 use Rattle.rp_store.specs.declared.key.Key.{Key}
 use Rattle.rp_store.specs.declared.key.Key.TheVariants as key
-use Rattle.rp_access.specs.Entries.{Entries, couples, dict_from}
+use Rattle.rp_access.specs.Entries.{couples, dict_from}
 
 abbrev on_dict : Result Content Raised → (Content → Result Content Raised) → Result Content Raised
 on_dict (Ok c) go = go c
@@ -83,9 +83,6 @@ rock_put r k v es is = rw is (rw is refl)
 
 -- every entry of the dict is one that it may hold
 module _ (heap : List Owned) where
-  abbrev Entry : Type 0
-  Entry = Key × (Rock × Value)
-
   module _ (k : Key) (r : Rock) (v : Value) (form : key_form r ≡ Some k) (sound : IsSound heap v) where
     put_case : (b : Bool) (e : Entry) (es : List Entry) (found : Option (Rock × Value)) → IsEntry heap e → All (IsEntry heap) es
         → All (IsEntry heap) (insert_entry same_key es k (option_map_or (λ x. x.0) found r, v))

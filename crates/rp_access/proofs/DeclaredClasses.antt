@@ -1,6 +1,6 @@
 -- Where the declared classes stand, by their places in the declarations.
 use Rattle.std.proofs.Common.{◌≡◌, ◌≢◌, ◌<◌, ℕ, zero, suc, ◌+◌, Bool, true, false, List, [], ◌∷◌, cond, length, map, Option, Some, None, refl, sym, ap, ◌∙◌, arith}
-use Rattle.std.specs.Prelude.{position}
+use Rattle.std.specs.Prelude.{IfSome, position}
 use Rattle.std.specs.List.{position_from}
 use Rattle.std.specs.Option.{option_map}
 use Rattle.std.proofs.lemmas.Iterator.Adapters.{position_from-zero}
@@ -11,7 +11,7 @@ use Rattle.rp_base.specs.declared.value.Oid.{Oid}
 use Rattle.rp_decl.specs.Records.{Class}
 use Rattle.rp_decl.specs.View.{class_view}
 use Rattle.rp_decl.specs.declared.records.ClassDecl.{ClassDecl}
-use Rattle.rp_meaning.specs.Classes.{declared_at}
+use Rattle.rp_meaning.specs.Classes.{declared_place}
 use Rattle.rp_meaning.specs.Frame.{Frame}
 
 -- the first that passes stands within the list
@@ -66,9 +66,9 @@ module _ (names permissions : List (List ℕ)) (word : List ℕ) (xs : List Clas
 
 module _ (frame : Frame) (word : List ℕ) (classes : List Class) where
   abbrev found : ℕ → ℕ → Option Oid
-  found n k = declared_at (record frame { side = record { 0 = n }; block = k }) word classes
+  found n k = declared_place (record frame { side = record { 0 = n }; block = k }) word classes
 
-  pub declared_here : frame.side.0 ≡ 0 → frame.block ≡ 0 → class_place word classes ≡ declared_at frame word classes
+  pub declared_here : frame.side.0 ≡ 0 → frame.block ≡ 0 → class_place word classes ≡ declared_place frame word classes
   declared_here side block = sym (ap (λ n. found n frame.block) side ∙ ap (λ k. found 0 k) block)
 
   none_for : (n k : ℕ) → n ≢ 0 → None ≡ found n k
@@ -80,8 +80,13 @@ module _ (frame : Frame) (word : List ℕ) (classes : List Class) where
   none_in zero (suc k) other = refl
   none_in (suc n) k other = refl
 
-  pub declared_of_side : frame.side.0 ≢ 0 → None ≡ declared_at frame word classes
+  pub declared_of_side : frame.side.0 ≢ 0 → None ≡ declared_place frame word classes
   declared_of_side other = none_for frame.side.0 frame.block other
 
-  pub declared_in : frame.block ≢ 0 → None ≡ declared_at frame word classes
+  pub declared_in : frame.block ≢ 0 → None ≡ declared_place frame word classes
   declared_in other = none_in frame.side.0 frame.block other
+
+-- what is so whatever is there
+pub if_any : {A : Type 0} (o : Option A) (P : Type 0) → P → IfSome o (λ _. P)
+if_any None P h = tt
+if_any (Some a) P h = h

@@ -1,10 +1,9 @@
 -- What a function comes to, from what is known of its decisions and of what it does.
-use Rattle.std.proofs.Common.{◌≡◌, ◌≤◌, ◌++◌, ℕ, Bool, true, false, true≢false, List, [], ◌∷◌, length, refl, sym, ap, ◌∙◌, codes, arith}
+use Rattle.std.proofs.Common.{◌≡◌, ◌≤◌, ◌++◌, ℕ, Bool, true, false, List, [], ◌∷◌, length, refl, sym, ap, ◌∙◌, codes, arith}
 use Rattle.std.specs.Prelude.{is_some}
 use Rattle.rp_base.specs.declared.kind.Kind.{Kind}
 use Rattle.rp_base.specs.declared.kind.Kind.TheVariants.{TypeError}
 use Rattle.rp_base.specs.declared.native.NativeId.{NativeId}
-use Rattle.rp_base.specs.declared.native.NativeId.TheVariants as native
 use Rattle.rp_base.specs.declared.value.OpEnd.{OpEnd}
 use Rattle.rp_base.specs.declared.value.Side.{Side}
 use Rattle.rp_base.specs.declared.value.Value.{Value}
@@ -18,7 +17,7 @@ use Rattle.rp_native.specs.Counts.{is_function}
 use Rattle.rp_native.specs.Print.{print_line}
 use Rattle.rp_ops.specs.Outcome.{Raises, gives, on_value}
 use Rattle.rp_proxy.specs.Taken.{taken}
-use Rattle.rp_access.specs.CallSteps.{HasLength, IsFunctionLeft, applied_by, function_by, kind_by, method_by, is_form, needs_asked, printing}
+use Rattle.rp_access.specs.CallSteps.{HasLength, IsFunctionLeft, applied_by, function_by, kind_by, method_by, needs_asked, printing}
 use Rattle.rp_access.specs.Comes.{IsEnd}
 use Rattle.rp_access.proofs.Going.{IsEnd-same, IsEnd-then, gives-then, raises_end}
 
@@ -88,13 +87,5 @@ kind_many k (v ∷ []) s two = absurd (omega arith)
 kind_many k (v ∷ w ∷ vs) s two = refl
 
 -- a function that is not done
-
-pub form_left : (id : NativeId) (vs : List Value) (s : State) → is_form id ≡ true → IsFunctionLeft id vs s s
-form_left native.GetAttr vs s form = refl
-form_left native.SetAttr vs s form = refl
-form_left id vs s form = absurd (true≢false (sym form))
-
 pub length_left : (id : NativeId) (vs : List Value) (s t : State) → needs_asked id vs s ≡ gives (tt {0}) t → HasLength (heap_of t) id vs → IsFunctionLeft id vs s t
-length_left native.GetAttr vs s t asked has = absurd has
-length_left native.SetAttr vs s t asked has = absurd has
 length_left id vs s t asked has = (asked, has)

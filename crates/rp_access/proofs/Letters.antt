@@ -4,13 +4,14 @@ use Rattle.std.specs.Fmt.{is_char_start}
 use Rattle.std.specs.Str.{IsCharBoundary, IsUtf8}
 use Rattle.std.proofs.lemmas.Bool.{cases_lt, lt-ltb, le-ltb, le-leb, lt-leb}
 use Rattle.std.proofs.lemmas.List.{drop_all, get_or_past}
-use Rattle.std.proofs.lemmas.Str.{IsCharBoundary-start, chars-nil, encodes-chars}
+use Rattle.std.proofs.lemmas.Str.{IsCharBoundary-start, chars-nil}
 use Rattle.rp_base.specs.declared.value.OpEnd.{OpEnd}
 use Rattle.rp_base.specs.declared.value.Value.{Value}
 use Rattle.rp_ops.specs.Outcome.{Meets, State, gives}
 use Rattle.rp_ops.specs.Standing.{letters_left}
 use Rattle.rp_ops.specs.Walk.{characters_from, next_of, with_cursor}
 use Rattle.rp_access.specs.Spots.{characters_at}
+use Rattle.rp_base.proofs.CallerLemmas.{bytes_from_view}
 
 -- what is known of a byte tells whether it is the first of a character
 starts : (b : ℕ) → (128 ≤ b → 192 ≤ b) → is_char_start b ≡ true
@@ -47,15 +48,11 @@ module _ (t : List ℕ) (i : ℕ) where
     by (inl within) = ap (λ b. cond b (letters_left t i) []) (continues (get_or bytes i 0) (λ k. h (omega arith, λ _. k)))
     by (inr past) = ap (λ b. cond (is_char_start b) (letters_left t i) []) (get_or_past bytes i 0 past) ∙ left_past t i past
 
--- the bytes of a text
-pub text_bytes : (bs t : List ℕ) → IsUtf8 bs → chars bs ≡ t → encode_utf8_all t ≡ bs
-text_bytes bs t utf8 e = ap encode_utf8_all (sym e) ∙ encodes-chars bs utf8
-
 -- the whole text begins at its first byte
 pub from_start : (bs t : List ℕ) → IsUtf8 bs → chars bs ≡ t → characters_at t 0 ≡ t
 from_start bs t utf8 e =
-    at_boundary t 0 (subst (λ (l : List ℕ). IsCharBoundary l 0) (sym (text_bytes bs t utf8 e)) (IsCharBoundary-start bs utf8))
-    ∙ ap chars (text_bytes bs t utf8 e) ∙ e
+    at_boundary t 0 (subst (λ (l : List ℕ). IsCharBoundary l 0) (sym (bytes_from_view bs t utf8 e)) (IsCharBoundary-start bs utf8))
+    ∙ ap chars (bytes_from_view bs t utf8 e) ∙ e
 
 -- what the next character comes to, by the characters that are left and by those at the bytes
 pub letter_meets : (t : List ℕ) (i j : ℕ) (r : Result (Option Value) OpEnd) (s p : State) → IsCharBoundary (encode_utf8_all t) i → IsCharBoundary (encode_utf8_all t) j

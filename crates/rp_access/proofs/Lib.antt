@@ -13,13 +13,17 @@ mod Growing
 mod Inplaces
 mod KindNames
 pub mod Known
+pub mod LengthCalls
 mod Letters
 pub mod Lists
 mod Naming
+mod NamedReads
+mod NamedWords
 pub mod Namings
 mod NamedCalls
 mod NativeCalls
 mod ObjectCalls
+pub mod Occupants
 mod Operands
 mod Printing
 mod Sliced

@@ -14,3 +14,16 @@ only_first (y ∷ z ∷ zs) x some one is = absurd (omega arith)
 pub none_left : {A : Type 0} (xs : List A) → length xs < 1 → xs ≡ []
 none_left [] none = refl
 none_left (x ∷ xs) none = absurd (omega arith)
+
+pub two_of : {A : Type 0} (xs : List A) (x y : A) → 2 ≤ length xs → length xs < 3 → x ≡ get_or xs 0 x → y ≡ get_or xs 1 y → x ∷ y ∷ [] ≡ xs
+two_of [] x y low high p q = absurd (omega arith)
+two_of (a ∷ []) x y low high p q = absurd (omega arith)
+two_of (a ∷ b ∷ []) x y low high p q = λ i. p i ∷ q i ∷ []
+two_of (a ∷ b ∷ c ∷ ds) x y low high p q = absurd (omega arith)
+
+pub three_of : {A : Type 0} (xs : List A) (x y z : A) → 3 ≤ length xs → length xs < 4 → x ≡ get_or xs 0 x → y ≡ get_or xs 1 y → z ≡ get_or xs 2 z → x ∷ y ∷ z ∷ [] ≡ xs
+three_of [] x y z low high p q r = absurd (omega arith)
+three_of (a ∷ []) x y z low high p q r = absurd (omega arith)
+three_of (a ∷ b ∷ []) x y z low high p q r = absurd (omega arith)
+three_of (a ∷ b ∷ c ∷ []) x y z low high p q r = λ i. p i ∷ q i ∷ r i ∷ []
+three_of (a ∷ b ∷ c ∷ d ∷ es) x y z low high p q r = absurd (omega arith)

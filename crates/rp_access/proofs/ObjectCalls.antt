@@ -1,5 +1,5 @@
 -- Calls of objects and other values, from what is known of the decision and of what is called.
-use Rattle.std.proofs.Common.{◌≡◌, ◌≢◌, List, Bool, true, false, Option, Some, None, IsSomeAnd, Result, Ok, Err, refl, sym, ap, ◌∙◌, subst}
+use Rattle.std.proofs.Common.{◌≡◌, ◌≢◌, List, false, Option, Some, None, IsSomeAnd, Result, Ok, Err, refl, sym, ap, ◌∙◌, subst}
 use Rattle.std.specs.Option.{option_map}
 use Rattle.std.specs.Prelude.{is_some, slice_get}
 use mathlib.Core.Path.{fun_ext}
@@ -137,14 +137,11 @@ stands_by heap o owner c e f = by (slice_get heap o.0) e f where
 
 -- calls of rocks
 
-pub native_comes : (side : Side) (id : NativeId) (vs : List Value) (r : Result (Option Value) OpEnd) (w u : World)
-    → ((call : Special → State → Outcome Value) → is_form id ≡ false → ComesIfAny r (state_of u) (function_by call side id vs (state_of w)))
-    → (is_form id ≡ true → r ≡ Ok None) → CallComes side (value.Rock (rock.Native id)) vs r w u
-native_comes side id vs r w u other form code same = by (is_form id) refl where
-  by : (b : Bool) → is_form id ≡ b → ComesIfAny r (state_of u) (calls.call (value.Rock (rock.Native id)) (only vs) (frame code) (state_of w))
-  by true e = subst (λ (r : Result (Option Value) OpEnd). ComesIfAny r (state_of u) (calls.call (value.Rock (rock.Native id)) (only vs) (frame code) (state_of w))) (sym (form e)) tt
-  by false e = ComesIfAny-same r (state_of u) _ _ (function_is code id vs (state_of w) e)
-      (subst (λ (side : Side). ComesIfAny r (state_of u) (function_by (length_called code) side id vs (state_of w))) (sym same) (other (length_called code) e))
+pub native_comes : (side : Side) (id : NativeId) (vs : List Value) (r : Result (Option Value) OpEnd) (w u : World) → is_form id ≡ false
+    → ((call : Special → State → Outcome Value) → ComesIfAny r (state_of u) (function_by call side id vs (state_of w))) → CallComes side (value.Rock (rock.Native id)) vs r w u
+native_comes side id vs r w u other law code same =
+    ComesIfAny-same r (state_of u) _ _ (function_is code id vs (state_of w) other)
+    (subst (λ (side : Side). ComesIfAny r (state_of u) (function_by (length_called code) side id vs (state_of w))) (sym same) (law (length_called code)))
 
 module _ (side : Side) (k : Kind) (vs : List Value) (w u : World) where
   pub kind_comes : (v : Value) → kind_by k vs (state_of w) ≡ gives v (state_of u) → CallComes side (value.Rock (rock.Kind k)) vs (Ok (Some v)) w u

@@ -20,8 +20,7 @@ use Rattle.rp_ops.specs.Walk.{elements}
 use Rattle.rp_proxy.specs.Taken.{taken}
 use Rattle.rp_store.specs.Heap.{Owned}
 use Rattle.rp_store.specs.Kept.{AreSound, IsEntry, IsSound}
-use Rattle.rp_store.specs.Object.{Content}
-use Rattle.rp_store.specs.declared.key.Key.{Key}
+use Rattle.rp_store.specs.Object.{Content, Entry}
 use Rattle.rp_access.specs.Comes.{IsEnd}
 use Rattle.rp_access.specs.Parts.{asking}
 use Rattle.rp_access.specs.Spreading.{all_got, all_taken, got_through, spread, spread_named, word_of}
@@ -56,9 +55,6 @@ module _ (side : Side) (v : Value) (s t : State) where
         IsEnd-same e t _ _ (named_asked ∙ ap (λ o. all_got side v o t) none) (raises_end (List (List ℕ × Value)) e (record { kind = TypeError; text = codes "argument" }) t raised)
 
 -- one more entry
-abbrev pub Entry : Type 0
-Entry = Key × (Rock × Value)
-
 module _ (heap : List Owned) (side : Side) (from : Value) where
   abbrev pub all_of : List (List ℕ × Value) → List Entry → Option (List (List ℕ × Value))
   all_of ns es = option_map (λ ms. ns ++ map (got_through heap side from) ms) (all_named es)

@@ -55,10 +55,8 @@ abbrev pub HasLength : List Owned → NativeId → List Value → Type 0
 HasLength heap native.Len (v ∷ []) = IsTrue (is_some (special heap v LEN))
 HasLength heap _ _ = ⊥
 
--- a function that is not done: a form, of which nothing was done, or `len` of such an instance, once that is decided
+-- a function that is not done: `len` of such an instance, once that is decided
 abbrev pub IsFunctionLeft : NativeId → List Value → State → State → Type 0
-IsFunctionLeft native.GetAttr vs s t = s ≡ t
-IsFunctionLeft native.SetAttr vs s t = s ≡ t
 IsFunctionLeft id vs s t = (needs_asked id vs s ≡ gives (tt {0}) t) × HasLength (heap_of t) id vs
 
 -- a function on values whose decisions are made

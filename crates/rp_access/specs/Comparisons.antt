@@ -11,7 +11,7 @@ use Rattle.rp_meaning.specs.State.{State, Outcome, heap_of, plainly}
 use Rattle.rp_ops.specs.Outcome.{gives, on_value}
 use Rattle.rp_tree.specs.declared.parts.Test.{Test}
 use Rattle.rp_tree.specs.declared.parts.Test.TheVariants as test
-use Rattle.rp_access.specs.Parts.{asking}
+use Rattle.rp_access.specs.Parts.{IsForMethod, asking}
 
 abbrev pub order_asked : CmpOp → Value → Value → State → Outcome Bool
 order_asked op a b s = on_value (asking (comparison_name op) a s) (λ _ s. on_value (asking (comparison_name (mirrored op)) b s) (λ _ s. plainly (compare op a b) s))
@@ -28,3 +28,9 @@ test_asked call test.Within a b s = within_asked call a b s
 test_asked call test.NotWithin a b s = without_asked call a b s
 test_asked call test.Is a b s = gives (is_nil a) s
 test_asked call test.IsNot a b s = gives (not (is_nil a)) s
+
+-- a test that a special method is left to do
+abbrev pub IsTestLeft : Test → Value → State → State → Type 0
+IsTestLeft test.Within b s t = IsForMethod CONTAINS b s t
+IsTestLeft test.NotWithin b s t = IsForMethod CONTAINS b s t
+IsTestLeft _ b s t = ⊥

@@ -7,7 +7,9 @@ pub mod ClassObjects
 pub mod Comes
 pub mod Comparisons
 pub mod Entries
+pub mod Lengths
 pub mod Moment
+pub mod NamedAttributes
 pub mod Natives
 pub mod Parts
 pub mod Reading

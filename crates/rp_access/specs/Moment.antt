@@ -4,9 +4,10 @@ use Rattle.rp_meaning.specs.Frame.{Frame, Run}
 use Rattle.rp_meaning.specs.State.{State}
 use Rattle.rp_meaning.specs.Unmonitored.{monitored}
 use Rattle.rp_ops.specs.Outcome as plain
+use Rattle.rp_policy.specs.Forbidden.{is_forbidden_attribute}
 use Rattle.rp_proxy.specs.declared.world.World.{World}
 use Rattle.rp_trail.specs.View.{trail_view}
-use Rattle.rp_access.specs.Natives.{natives}
+use Rattle.rp_access.specs.Natives.{is_attribute_word, natives}
 
 abbrev pub state_of : World → State
 state_of w = record {
@@ -19,9 +20,10 @@ state_of w = record {
   declarations = declarations_view w.names w.decl;
 }
 
--- a run whose operations are decided, with the built-in functions and methods
+-- a run whose operations are decided, with the built-in functions and methods, of which `getattr` and `setattr` take the words that the policy of names lets
+-- pass (RestrictedPython, attribute policy)
 abbrev pub decided_run : Run → Run
-decided_run run = record (monitored run) { natives = natives }
+decided_run run = record (monitored run) { natives = natives; is_identifier = is_attribute_word; is_forbidden = is_forbidden_attribute }
 
 -- code of such a run
 abbrev pub decided_frame : Frame → Frame

@@ -1,7 +1,8 @@
--- The built-in functions and methods of a run: those of rp_native and rp_methods (Python Standard Library, Built-in Functions, Built-in Types). The name is
--- opaque where the machine is proved.
-use Rattle.std.specs.Prelude.{ℕ, is_some, Option}
+-- The built-in functions and methods of a run: those of rp_native and rp_methods (Python Standard Library, Built-in Functions, Built-in Types), and the words
+-- that `getattr` and `setattr` take. The names are opaque where the machine is proved.
+use Rattle.std.specs.Prelude.{ℕ, Bool, List, is_some, Option}
 use Rattle.std.specs.Option.{option_map}
+use Rattle.rp_base.specs.Identifier.{is_identifier_word}
 use Rattle.rp_base.specs.declared.native.NativeId.{NativeId}
 use Rattle.rp_base.specs.declared.value.Name.{Name}
 use Rattle.rp_base.specs.declared.word.TheConstants.{BOOL, ITEMS, ITER, LEN, STR}
@@ -36,3 +37,7 @@ natives = record {
   method = λ names owner receiver id vs s. method owner receiver id vs s;
   print_line = print_line;
 }
+
+-- the words that `getattr` and `setattr` take: identifiers in their form (UAX 31, UAX 15)
+unfoldable pub is_attribute_word : List ℕ → Bool
+is_attribute_word word = is_identifier_word word

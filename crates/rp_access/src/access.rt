@@ -1,5 +1,5 @@
 //! Attributes, items and membership behind their decisions.
-#![tactic(auto, using(rp_store::proofs::Shapes::goes_on))]
+#![tactic(auto, using(rp_store::proofs::CallerLemmas::goes_on))]
 
 ghost use Rattle.std.specs.Prelude.{◌≡◌, ◌<◌, Bool, IfNone, IfOk, IfSome, None, false, is_some, length};
 ghost use Rattle.rp_attributes.specs.Attributes.{attribute};
@@ -11,7 +11,6 @@ ghost use Rattle.rp_base.specs.declared.word.TheConstants.{CONTAINS, GET_ITEM};
 ghost use Rattle.rp_meaning.specs.Frame.{through};
 ghost use Rattle.rp_meaning.specs.Special.{Special, special};
 ghost use Rattle.rp_meaning.specs.State.{Outcome, State, plainly};
-ghost use Rattle.rp_ops.specs.Operand.{lent};
 ghost use Rattle.rp_proxy.specs.Faithful.{IsFaithful};
 ghost use Rattle.rp_store.specs.Kept.{IsFit, IsSound};
 ghost use Rattle.rp_store.specs.Shape.{KeepsShape};
@@ -25,6 +24,7 @@ use crate::deciding::ask;
 use crate::operating::taken;
 use rp_base::word::{CONTAINS, GET_ITEM};
 use rp_base::{Name, Op, OpEnd, Side, Value};
+use rp_ops::lent;
 use rp_proxy::{World, cross};
 use rp_store::Store;
 use std::alloc::Global;
@@ -106,17 +106,6 @@ pub(crate) fn through(from: &Value, value: Value) -> Value
     }
 }
 
-/// What is got through a proxy is lent.
-#[inline(always)]
-fn lent(value: Value) -> Value
-    ensures { result ≡ lent value }
-{
-    match value {
-        Value::Ref(at) => Value::Prox(at),
-        other => other,
-    }
-}
-
 /// `o[key]`, as code of a side does it (Python Language Reference, Subscriptions; zope.security, proxies). It is
 /// decided first whether `__getitem__` may be read. What is read through a proxy is lent. None where `o` is an instance
 /// whose class has that method, which would be called; then nothing but the decision was made.
@@ -153,7 +142,7 @@ pub fn get_item(
 
 /// The plain item.
 #[inline(always)]
-#[tactic(auto, using(rp_store::proofs::Shapes::goes_on, crate::proofs::Namings::stored_faithful))]
+#[tactic(auto, using(rp_store::proofs::CallerLemmas::goes_on, crate::proofs::Namings::stored_faithful))]
 fn item(alloc: Global, world: &mut World, o: &Value, key: &Value) -> Result<Value, OpEnd>
     requires faithful { IsFaithful world.old }
     requires sound { IsSound world.old.store.heap o.now }
@@ -194,7 +183,7 @@ pub(crate) fn is_within(
 
 /// The plain membership.
 #[inline(always)]
-#[tactic(auto, using(rp_store::proofs::Shapes::goes_on, crate::proofs::Worlds::metered_faithful))]
+#[tactic(auto, using(rp_store::proofs::CallerLemmas::goes_on, crate::proofs::Worlds::metered_faithful))]
 fn contains(alloc: Global, world: &mut World, value: &Value, o: &Value) -> Result<bool, OpEnd>
     requires faithful { IsFaithful world.old }
     ensures law { Comes result (state_of world.new) (plainly (contains value.now o.now) (state_of world.old)) }

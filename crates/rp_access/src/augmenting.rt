@@ -1,5 +1,5 @@
 //! Augmented assignment behind its decisions.
-#![tactic(auto, using(rp_store::proofs::Shapes::goes_on))]
+#![tactic(auto, using(rp_store::proofs::CallerLemmas::goes_on))]
 
 ghost use Rattle.std.specs.Prelude.{◌≡◌, ◌<◌, IfOk, List};
 ghost use Rattle.std.specs.Option.{option_map_or};

@@ -1,5 +1,5 @@
 //! Calls of values behind their decisions.
-#![tactic(auto, using(rp_store::proofs::Shapes::goes_on))]
+#![tactic(auto, using(rp_store::proofs::CallerLemmas::goes_on))]
 
 ghost use Rattle.std.specs.Prelude.{◌∷◌, [], IfNone, IfOk, IfSome, List};
 ghost use Rattle.rp_base.specs.declared.value.Side.{Side as TheSide};
@@ -17,7 +17,7 @@ ghost use Rattle.rp_access.specs.Moment.{state_of};
 use crate::access::through;
 use crate::callees::{Called, called_at};
 use crate::deciding::ask;
-use crate::functions::function;
+use crate::functions::native;
 use crate::methods::method;
 use crate::operating::taken;
 use crate::showing::text_of;
@@ -30,8 +30,8 @@ use std::alloc::Global;
 /// `f(..)` by code of a side, with arguments that have no names (Python Language Reference, Calls; Python Standard
 /// Library, Built-in Functions; zope.security, proxies). A call of an object is decided first, and then what a built-in
 /// function or method does to its arguments. What is called through a proxy gives what is lent. None where code would
-/// have to run or an attribute form to be done: of a function of the store, a class, a bound function, an instance
-/// whose class has `__call__`, of `getattr` and `setattr`, and of `len` of an instance whose class has `__len__`.
+/// have to run: of a function of the store, a class, a bound function, an instance whose class has `__call__`, and of
+/// `len` of an instance whose class has `__len__`.
 ///
 /// # Errors
 /// - `Raised` with `TypeError` and the text `call`, where it is nothing that may be called, or a method of another
@@ -84,7 +84,7 @@ fn call_rock(
     ensures fit { IfOk result (λ v. IfSome v (IsFit world.new.store.heap side)) }
 {
     match rock {
-        Rock::Native(id) => function(alloc, world, side, *id, args),
+        Rock::Native(id) => native(alloc, world, side, *id, args),
         Rock::Kind(kind) => Ok(Some(exception(alloc, world, *kind, args)?)),
         _ => Err(raised(alloc, Kind::TypeError, "call")),
     }

@@ -1,16 +1,21 @@
 //! Attributes and items, stored and deleted behind their decisions.
-#![tactic(auto, using(rp_store::proofs::Shapes::goes_on))]
+#![tactic(auto, using(rp_store::proofs::CallerLemmas::goes_on))]
 
+ghost use Rattle.std.specs.Prelude.{◌≡◌, IfOk, IfSome};
 ghost use Rattle.rp_attributes.specs.Attributes.{del_attribute, set_attribute};
 ghost use Rattle.rp_base.specs.Names.{word_of};
 ghost use Rattle.rp_items.specs.Items.{del_item, set_item};
-ghost use Rattle.rp_meaning.specs.State.{plainly};
+ghost use Rattle.rp_base.specs.declared.word.TheConstants.{DEL_ITEM, SET_ITEM};
+ghost use Rattle.rp_meaning.specs.Special.{Special};
+ghost use Rattle.rp_meaning.specs.State.{Outcome, State, plainly};
 ghost use Rattle.rp_proxy.specs.Faithful.{IsFaithful};
 ghost use Rattle.rp_store.specs.Kept.{IsSound};
 ghost use Rattle.rp_store.specs.Shape.{KeepsShape};
-ghost use Rattle.rp_access.specs.Changes.{asking_to_set, attribute_deleted, attribute_set, item_deleted, item_set};
+ghost use Rattle.rp_access.specs.Changes.{ChangeComes, StoredComes, asking_to_set, attribute_deleted};
+ghost use Rattle.rp_access.specs.Changes.{attribute_set, item_deleted, item_set};
 ghost use Rattle.rp_access.specs.Comes.{Comes};
 ghost use Rattle.rp_access.specs.Moment.{state_of};
+ghost use Rattle.rp_access.specs.Parts.{IsForMethod};
 
 use crate::access::has_method;
 use crate::deciding::ask;
@@ -74,7 +79,8 @@ pub fn del_attribute(alloc: Global, world: &mut World, o: &Value, name: Name) ->
 }
 
 /// `o[key] = value` (Python Language Reference, Assignment statements; zope.security, proxies). It is decided first
-/// whether `__setitem__` may be read. Where `o` is an instance whose class has that method, nothing else is done.
+/// whether `__setitem__` may be read. The value comes back where `o` is an instance whose class has that method, which
+/// is to store it; then nothing else is done.
 ///
 /// # Errors
 /// - As `rp_proxy::cross`, where the decision refuses; then nothing is stored.
@@ -87,20 +93,23 @@ pub fn set_item(
     o: &Value,
     key: &Value,
     value: Value,
-) -> Result<Change, OpEnd>
+) -> Result<Option<Value>, OpEnd>
     requires faithful { IsFaithful world.old }
     requires o { IsSound world.old.store.heap o.now }
     requires value { IsSound world.old.store.heap value }
-    ensures law { Comes result (state_of world.new) (item_set o.now key.now value (state_of world.old)) }
+    ensures law { (call : Special → State → Outcome (Unit {0})) → StoredComes result (state_of world.new)
+        (item_set call o.now key.now value (state_of world.old)) }
+    ensures special { IfOk result (λ back. IfSome back (λ v. (v ≡ value)
+        × IsForMethod SET_ITEM o.now (state_of world.old) (state_of world.new))) }
     ensures faithful { IsFaithful world.new }
     ensures shape { KeepsShape world.old.store.heap world.new.store.heap }
 {
     ask(alloc, world, o, SET_ITEM)?;
     if has_method(&world.store, o, SET_ITEM) {
-        return Ok(Change::Special);
+        return Ok(Some(value));
     }
     put_item(alloc, world, o, key, value)?;
-    Ok(Change::Done)
+    Ok(None)
 }
 
 /// `del o[key]` (Python Language Reference, The del statement; zope.security, proxies). It is decided first whether
@@ -114,7 +123,10 @@ pub fn set_item(
 pub fn del_item(alloc: Global, world: &mut World, o: &Value, key: &Value) -> Result<Change, OpEnd>
     requires faithful { IsFaithful world.old }
     requires o { IsSound world.old.store.heap o.now }
-    ensures law { Comes result (state_of world.new) (item_deleted o.now key.now (state_of world.old)) }
+    ensures law { (call : Special → State → Outcome (Unit {0})) → ChangeComes result (state_of world.new)
+        (item_deleted call o.now key.now (state_of world.old)) }
+    ensures special { IfOk result (λ change. change ≡ Change.Special
+        → IsForMethod DEL_ITEM o.now (state_of world.old) (state_of world.new)) }
     ensures faithful { IsFaithful world.new }
     ensures shape { KeepsShape world.old.store.heap world.new.store.heap }
 {

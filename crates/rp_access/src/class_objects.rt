@@ -1,13 +1,13 @@
 //! Classes that are made (Python Language Reference, Class definitions).
-#![tactic(auto, using(rp_store::proofs::Shapes::goes_on))]
+#![tactic(auto, using(rp_store::proofs::CallerLemmas::goes_on))]
 
-ghost use Rattle.std.specs.Prelude.{◌≡◌, ℕ, All, OnErr, OnOk, false};
+ghost use Rattle.std.specs.Prelude.{◌≡◌, ℕ, All, IfOk, OnErr, OnOk, false};
 ghost use Rattle.rp_meaning.specs.State.{makes};
 ghost use Rattle.rp_ops.specs.Outcome.{Meets};
 ghost use Rattle.rp_ops.specs.Outcome as plain;
 ghost use Rattle.rp_proxy.specs.Faithful.{IsFaithful};
 ghost use Rattle.rp_store.specs.Heap.{IsHeld, Names};
-ghost use Rattle.rp_store.specs.Kept.{Holds};
+ghost use Rattle.rp_store.specs.Kept.{Holds, IsFit};
 ghost use Rattle.rp_store.specs.Object.{class, content_of};
 ghost use Rattle.rp_store.specs.Parts.{IsClass, IsFunction};
 ghost use Rattle.rp_store.specs.Shape.{KeepsShape};
@@ -16,7 +16,7 @@ ghost use Rattle.rp_access.specs.ClassObjects.{renewed, renewed_plainly};
 ghost use Rattle.rp_access.specs.Comes.{Comes};
 ghost use Rattle.rp_access.specs.Moment.{state_of};
 
-use rp_base::{Name, Oid, OpEnd, Side};
+use rp_base::{Name, Oid, OpEnd, Side, Value};
 use rp_dict::Dict;
 use rp_ops::charge;
 use rp_proxy::World;
@@ -37,6 +37,7 @@ pub fn new_class(
     ensures law { Comes result (state_of world.new) (makes side (class name false methods) (state_of world.old)) }
     ensures faithful { IsFaithful world.new }
     ensures shape { KeepsShape world.old.store.heap world.new.store.heap }
+    ensures fit { IfOk result (λ at. IsFit world.new.store.heap side (Value.Ref at)) }
 {
     let class = Object::Class {
         name,
@@ -47,12 +48,14 @@ pub fn new_class(
 }
 
 fn make_class(store: &mut Store, side: Side, object: Object) -> Result<Oid, OpEnd>
-    requires { Holds store.old.heap side (content_of object) }
+    requires holds { Holds store.old.heap side (content_of object) }
+    requires class { IsClass (content_of object) }
     ensures plain { (steps : ℕ) → Meets result (plain.state_of store.new steps)
         (plain.makes side (content_of object) (plain.state_of store.old steps)) }
     ensures made { OnOk result (store.new ≡ made store.old side (content_of object)) }
     ensures same { OnErr result (store.new ≡ store.old) }
     ensures shape { KeepsShape store.old.heap store.new.heap }
+    ensures fit { IfOk result (λ at. IsFit store.new.heap side (Value.Ref at)) }
 {
     Ok(store.make(side, object)?)
 }
@@ -67,6 +70,7 @@ pub fn renew_class(world: &mut World, at: Oid, methods: Dict<Name, Oid>) -> Resu
     requires class { Names world.old.store.heap IsClass at }
     requires methods { All (λ m. Names world.old.store.heap IsFunction m.1) methods }
     ensures law { Comes result (state_of world.new) (renewed at methods (state_of world.old)) }
+    ensures place { IfOk result (λ same. same ≡ at) }
     ensures faithful { IsFaithful world.new }
     ensures shape { KeepsShape world.old.store.heap world.new.store.heap }
 {
@@ -79,6 +83,7 @@ fn put_methods(store: &mut Store, at: Oid, methods: Dict<Name, Oid>) -> Result<O
     requires methods { All (λ m. Names store.old.heap IsFunction m.1) methods }
     ensures plain { (steps : ℕ) → Meets result (plain.state_of store.new steps)
         (renewed_plainly at methods (plain.state_of store.old steps)) }
+    ensures place { IfOk result (λ same. same ≡ at) }
     ensures same { OnErr result (store.new ≡ store.old) }
     ensures shape { KeepsShape store.old.heap store.new.heap }
 {

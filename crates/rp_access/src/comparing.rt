@@ -1,5 +1,5 @@
 //! Tests of comparisons behind their decisions.
-#![tactic(auto, using(rp_store::proofs::Shapes::goes_on))]
+#![tactic(auto, using(rp_store::proofs::CallerLemmas::goes_on))]
 
 ghost use Rattle.std.specs.Prelude.{◌≡◌, ◌<◌, Bool, IfNone, IfOk, not, option_map};
 ghost use Rattle.rp_base.specs.declared.word.TheConstants.{CONTAINS};
@@ -11,7 +11,7 @@ ghost use Rattle.rp_proxy.specs.Faithful.{IsFaithful};
 ghost use Rattle.rp_store.specs.Kept.{IsSound};
 ghost use Rattle.rp_store.specs.Shape.{KeepsShape};
 ghost use Rattle.rp_access.specs.Comes.{Comes, ComesIfAny};
-ghost use Rattle.rp_access.specs.Comparisons.{order_asked, test_asked, without_asked};
+ghost use Rattle.rp_access.specs.Comparisons.{IsTestLeft, order_asked, test_asked, without_asked};
 ghost use Rattle.rp_access.specs.Moment.{state_of};
 ghost use Rattle.rp_access.specs.Parts.{IsForMethod};
 
@@ -45,7 +45,7 @@ pub fn holds(
     ensures law { (call : Special → State → Outcome Bool) → ComesIfAny result (state_of world.new)
         (test_asked call test a.now b.now (state_of world.old)) }
     ensures special { IfOk result (λ r. IfNone r
-        (IsForMethod CONTAINS b.now (state_of world.old) (state_of world.new))) }
+        (IsTestLeft test b.now (state_of world.old) (state_of world.new))) }
     ensures faithful { IsFaithful world.new }
     ensures shape { KeepsShape world.old.store.heap world.new.store.heap }
 {
@@ -98,7 +98,7 @@ fn order(alloc: Global, world: &mut World, op: CmpOp, a: &Value, b: &Value) -> R
 
 /// The plain comparison.
 #[inline(always)]
-#[tactic(auto, using(crate::proofs::Worlds::metered_faithful, rp_store::proofs::Shapes::goes_on))]
+#[tactic(auto, using(crate::proofs::Worlds::metered_faithful, rp_store::proofs::CallerLemmas::goes_on))]
 fn compare(alloc: Global, world: &mut World, op: CmpOp, a: &Value, b: &Value) -> Result<bool, OpEnd>
     requires faithful { IsFaithful world.old }
     ensures law { Comes result (state_of world.new) (plainly (compare op a.now b.now) (state_of world.old)) }

@@ -35,7 +35,7 @@ pub(crate) fn ask(alloc: Global, world: &mut World, value: &Value, name: Name) -
 /// # Errors
 /// As `rp_proxy::cross`, where the decision refuses.
 #[inline(always)]
-#[tactic(auto, using(rp_store::proofs::Shapes::goes_on))]
+#[tactic(auto, using(rp_store::proofs::CallerLemmas::goes_on))]
 pub fn truth(alloc: Global, world: &mut World, value: &Value) -> Result<bool, OpEnd>
     requires faithful { IsFaithful world.old }
     requires sound { IsSound world.old.store.heap value.now }

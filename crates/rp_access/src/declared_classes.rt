@@ -1,26 +1,44 @@
 //! The declared classes, as `class` statements find them.
-#![tactic(auto, using(rp_store::proofs::Shapes::goes_on))]
+#![tactic(auto, using(rp_store::proofs::CallerLemmas::goes_on))]
 
-ghost use Rattle.std.specs.Prelude.{◌≡◌, ◌+◌, ◌<◌, chars, length, option_map, position};
+ghost use Rattle.std.specs.Prelude.{◌≡◌, ◌+◌, ◌<◌, IfSome, chars, length, option_map, position};
 ghost use Rattle.rp_base.specs.Names.{word_of};
 ghost use Rattle.rp_base.specs.Same.{same_text};
 ghost use Rattle.rp_decl.specs.View.{declarations_view};
-ghost use Rattle.rp_meaning.specs.Classes.{declared_at};
+ghost use Rattle.rp_meaning.specs.Classes.{declared_at, declared_place};
 ghost use Rattle.rp_meaning.specs.Frame.{Frame};
+ghost use Rattle.rp_store.specs.Heap.{IsHeld, Names as IsAt};
+ghost use Rattle.rp_store.specs.Parts.{IsClass};
 
 use crate::global_names::is_word_of;
-use rp_base::{Name, Names, Oid, Side};
+use crate::standing::class_there;
+use rp_base::{Name, Names, Oid, Side, word_of};
 use rp_decl::ClassDecl;
-use rp_ops::word_of;
 use rp_proxy::World;
 
 /// The declared class that a `class` statement of a name gives methods, by code of a side and a code block: that of the
-/// name, for the module's own statements, which stand in no function; None for all other code. The declared classes
-/// stand behind the scope of the exposed values.
+/// name, for the module's own statements, which stand in no function; None for all other code, and where no class
+/// stands at its place. The declared classes stand behind the scope of the exposed values.
 pub fn declared_class(world: &World, side: Side, block: usize, name: Name) -> Option<Oid>
-    ensures { (frame : Frame) → frame.side ≡ side → frame.block ≡ block
-        → result ≡ declared_at frame (word_of world.now.names name)
+    ensures place { (frame : Frame) → frame.side ≡ side → frame.block ≡ block
+        → result ≡ declared_at frame world.now.store.heap (word_of world.now.names name)
         (declarations_view world.now.names world.now.decl).classes }
+    ensures class { IfSome result (IsAt world.now.store.heap IsClass) }
+    ensures held { IfSome result (IsHeld world.now.store.heap) }
+    ensures trusted { IfSome result (λ at. side.0 ≡ 0) }
+{
+    match declared_place(world, side, block, name) {
+        Some(at) => class_there(&world.store, at),
+        None => None,
+    }
+}
+
+/// Its place.
+fn declared_place(world: &World, side: Side, block: usize, name: Name) -> Option<Oid>
+    ensures place { (frame : Frame) → frame.side ≡ side → frame.block ≡ block
+        → result ≡ declared_place frame (word_of world.now.names name)
+        (declarations_view world.now.names world.now.decl).classes }
+    ensures trusted { IfSome result (λ at. side.0 ≡ 0) }
 {
     if side.0 != 0 {
         return None;

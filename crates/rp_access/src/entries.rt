@@ -1,17 +1,16 @@
 //! The entries of dict displays.
 
-ghost use Rattle.std.specs.Prelude.{◌≡◌, ◌∷◌, [], IfErr, OnErr, OnOk, None, Some, IsSome};
-ghost use Rattle.std.specs.Map.{lookup};
+ghost use Rattle.std.specs.Prelude.{◌≡◌, ◌∷◌, [], OnOk, None, Some};
 ghost use Rattle.rp_dict.specs.Dict.{insert_entry};
 ghost use Rattle.rp_ops.specs.Outcome.{Answers};
-ghost use Rattle.rp_store.specs.Key.{key_form, same_key};
+ghost use Rattle.rp_store.specs.Key.{same_key};
 ghost use Rattle.rp_store.specs.Writers.{first_written};
 ghost use Rattle.rp_access.specs.Entries.{as_dict, dict_from, dict_then};
 
 use rp_base::{Memory, OpEnd, Rock, Seed, Value};
 use rp_dict::Dict;
 use rp_ops::Refusal;
-use rp_store::{Key, key_of};
+use rp_store::{Key, key_of, push_new, set_held};
 use std::alloc::Global;
 
 /// The entries of a dict display (Python Language Reference, Dictionary displays), from keys, each with the value
@@ -84,35 +83,4 @@ fn put_key(
         return Ok(());
     };
     push_new(entries, key, rock.copy()?, value)
-}
-
-/// Gives a held key its value; it stays as first written. The value comes back where no pair has the key.
-fn set_held(entries: &mut Dict<Key, (Rock, Value)>, key: &Key, value: Value) -> Result<(), Value>
-    ensures set { (rock : Rock) → OnOk result (entries.new
-        ≡ insert_entry same_key entries.old key.now (first_written key.now rock entries.old, value)) }
-    ensures held { OnOk result (IsSome (lookup (same_key key.now) entries.old)) }
-    ensures absent { OnErr result (lookup (same_key key.now) entries.old ≡ None) }
-    ensures back { IfErr result (λ back. back ≡ value) }
-    ensures same { OnErr result (entries.new ≡ entries.old) }
-{
-    match entries.set_second(key, value) {
-        Ok(_) => Ok(()),
-        Err(value) => Err(value),
-    }
-}
-
-/// Puts an entry with a new key last.
-fn push_new(
-    entries: &mut Dict<Key, (Rock, Value)>,
-    key: Key,
-    rock: Rock,
-    value: Value,
-) -> Result<(), Memory>
-    requires { lookup (same_key key) entries.old ≡ None }
-    ensures put { OnOk result (entries.new
-        ≡ insert_entry same_key entries.old key (first_written key rock entries.old, value)) }
-    ensures same { OnErr result (entries.new ≡ entries.old) }
-{
-    entries.push(key, (rock, value))?;
-    Ok(())
 }

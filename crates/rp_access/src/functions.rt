@@ -1,7 +1,7 @@
 //! Built-in functions behind their decisions.
-#![tactic(auto, using(rp_store::proofs::Shapes::goes_on))]
+#![tactic(auto, using(rp_store::proofs::CallerLemmas::goes_on))]
 
-ghost use Rattle.std.specs.Prelude.{◌≡◌, ◌<◌, ◌++◌, IfErr, IfNone, IfOk, IfSome, IsTrue, None, Ok, OnOk, false, true};
+ghost use Rattle.std.specs.Prelude.{◌≡◌, ◌<◌, ◌++◌, IfErr, IfNone, IfOk, IfSome, IsTrue, None, OnOk, false, true};
 ghost use Rattle.rp_base.specs.declared.value.Value.{Value as TheValue};
 ghost use Rattle.rp_meaning.specs.Special.{Special};
 ghost use Rattle.rp_meaning.specs.State.{State, Outcome, plainly};
@@ -13,12 +13,14 @@ ghost use Rattle.rp_store.specs.Shape.{KeepsShape};
 ghost use Rattle.rp_access.specs.CallSteps.{HasLength, IsFunctionLeft, IsPlainly, all_asked, applied_by, function_by};
 ghost use Rattle.rp_access.specs.CallSteps.{given, is_form};
 ghost use Rattle.rp_access.specs.CallSteps.{needs_asked, printing};
+ghost use Rattle.rp_access.specs.Calling.{CallComes};
 ghost use Rattle.rp_access.specs.Comes.{Comes, ComesIfAny};
 ghost use Rattle.rp_access.specs.Moment.{state_of};
 ghost use Rattle.rp_access.specs.Natives.{need_name};
 
 use crate::access::has_method;
 use crate::deciding::ask;
+use crate::named_attributes::form;
 use crate::operating::taken;
 use rp_base::word::LEN;
 use rp_base::{Kind, Name, NativeId, OpEnd, Rock, Side, Text, Value, word};
@@ -28,14 +30,12 @@ use rp_proxy::World;
 use rp_store::Store;
 use std::alloc::Global;
 
-/// A call of a built-in function by code of a side; None where it is `getattr` or `setattr`, or `len` of an instance
-/// whose class has a method for it.
+/// A call of a built-in function by code of a side; None where it is `len` of an instance whose class has a method for
+/// it.
 ///
 /// # Errors
-/// - `Raised` with `TypeError` and the text `call`, where a method is called as a function.
-/// - As `cross`, of an argument, from left to right.
-/// - As `rp_native::call_native`, and `rp_native::print_line`.
-pub(crate) fn function(
+/// As `function`, and as `form` of those that stand for forms of the language.
+pub(crate) fn native(
     alloc: Global,
     world: &mut World,
     side: Side,
@@ -44,9 +44,7 @@ pub(crate) fn function(
 ) -> Result<Option<Value>, OpEnd>
     requires faithful { IsFaithful world.old }
     requires args { AreSound world.old.store.heap args.now }
-    ensures law { (call : Special → State → Outcome TheValue) → is_form id ≡ false
-        → ComesIfAny result (state_of world.new) (function_by call side id args.now (state_of world.old)) }
-    ensures form { is_form id ≡ true → result ≡ Ok None }
+    ensures law { CallComes side (Value.Rock (Rock.Native id)) args.now result world.old world.new }
     ensures left { IfOk result (λ v. IfNone v
         (IsFunctionLeft id args.now (state_of world.old) (state_of world.new))) }
     ensures faithful { IsFaithful world.new }
@@ -54,8 +52,35 @@ pub(crate) fn function(
     ensures fit { IfOk result (λ v. IfSome v (IsFit world.new.store.heap side)) }
 {
     if is_form(id) {
-        return Ok(None);
+        return Ok(Some(form(alloc, world, side, id, args)?));
     }
+    function(alloc, world, side, id, args)
+}
+
+/// The same of a function that stands for no form.
+///
+/// # Errors
+/// - `Raised` with `TypeError` and the text `call`, where a method is called as a function.
+/// - As `cross`, of an argument, from left to right.
+/// - As `rp_native::call_native`, and `rp_native::print_line`.
+fn function(
+    alloc: Global,
+    world: &mut World,
+    side: Side,
+    id: NativeId,
+    args: &[Value],
+) -> Result<Option<Value>, OpEnd>
+    requires faithful { IsFaithful world.old }
+    requires args { AreSound world.old.store.heap args.now }
+    requires form { is_form id ≡ false }
+    ensures law { (call : Special → State → Outcome TheValue)
+        → ComesIfAny result (state_of world.new) (function_by call side id args.now (state_of world.old)) }
+    ensures left { IfOk result (λ v. IfNone v
+        (IsFunctionLeft id args.now (state_of world.old) (state_of world.new))) }
+    ensures faithful { IsFaithful world.new }
+    ensures shape { KeepsShape world.old.store.heap world.new.store.heap }
+    ensures fit { IfOk result (λ v. IfSome v (IsFit world.new.store.heap side)) }
+{
     if !is_function(id) {
         return Err(raised(alloc, Kind::TypeError, "call"));
     }

@@ -1,7 +1,7 @@
 //! Names behind the globals: the exposed ones, and those of built-in functions and exceptions.
-#![tactic(auto, using(rp_store::proofs::Shapes::goes_on))]
+#![tactic(auto, using(rp_store::proofs::CallerLemmas::goes_on))]
 
-ghost use Rattle.std.specs.Prelude.{◌≡◌, ◌∷◌, map, position, option_map, chars, find, IfOk, IfSome};
+ghost use Rattle.std.specs.Prelude.{◌≡◌, ◌∷◌, map, position, option_map, chars, find, length, nat_lt, IfOk, IfSome};
 ghost use Rattle.std.specs.Option.{option_or};
 ghost use Rattle.rp_attributes.specs.Attributes.{method_named};
 ghost use Rattle.rp_base.specs.Kind.{kind_name};
@@ -14,14 +14,12 @@ ghost use Rattle.rp_decl.specs.View.{name_text};
 ghost use Rattle.rp_meaning.specs.Scopes.{built_in, exposed, functions_of, held, slot_in};
 ghost use Rattle.rp_proxy.specs.Faithful.{IsFaithful};
 ghost use Rattle.rp_proxy.specs.Taken.{taken};
-ghost use Rattle.rp_store.specs.Kept.{IsFit, IsSound};
+ghost use Rattle.rp_store.specs.Kept.{IsFit};
 ghost use Rattle.rp_access.specs.Rocks.{IsRock};
 
 use crate::operating::taken;
-use rp_base::{Kind, Memory, Name, Names, NativeId, Oid, Rock, Side, Value};
-use rp_ops::word_of;
+use rp_base::{Kind, Memory, Name, Names, NativeId, Oid, Rock, Side, Value, word_of};
 use rp_proxy::World;
-use std::alloc::Global;
 
 /// The scope that holds the exposed values.
 const EXPOSED: Oid = Oid(0);
@@ -39,35 +37,46 @@ pub fn elsewhere(world: &World, side: Side, name: Name) -> Result<Option<Value>,
         (word_of world.now.names name)) (built_in side (word_of world.now.names name))) }
     ensures fit { IfOk result (λ value. IfSome value (IsFit world.now.store.heap side)) }
 {
-    let word = word_of(&world.names, name);
-    match exposed(world, side, word)? {
+    match exposed(world, side, name)? {
         Some(value) => Ok(Some(value)),
-        None => Ok(built_in(side, word)),
+        None => Ok(built_in(side, word_of(&world.names, name))),
     }
 }
 
 /// The value of an exposed name, as a script takes it.
-fn exposed(world: &World, side: Side, word: &str) -> Result<Option<Value>, Memory>
+fn exposed(world: &World, side: Side, name: Name) -> Result<Option<Value>, Memory>
     requires { IsFaithful world.now }
     ensures value { IfOk result (λ value. value ≡ exposed side world.now.store.heap
-        (map (name_text world.now.names) world.now.decl.expose) (chars word.now)) }
+        (map (name_text world.now.names) world.now.decl.expose) (word_of world.now.names name)) }
     ensures fit { IfOk result (λ value. IfSome value (IsFit world.now.store.heap side)) }
 {
     if side.0 == 0 {
         return Ok(None);
     }
-    match place_among(world, word) {
+    match place_among(world, name) {
         Some(index) => exposed_at(world, side, index),
         None => Ok(None),
     }
 }
 
-/// The place of a word among the exposed names.
-fn place_among(world: &World, word: &str) -> Option<usize>
-    ensures { result ≡ position (same_text (chars word.now))
+/// The place of the word of a name among the exposed names: that of the name, as each word has one name. A name that is
+/// not held has no word, and its place is that of the empty one.
+fn place_among(world: &World, name: Name) -> Option<usize>
+    requires { IsFaithful world.now }
+    ensures { result ≡ position (same_text (word_of world.now.names name))
         (map (name_text world.now.names) world.now.decl.expose) }
 {
-    place_in(&world.names, world.decl.expose(), word)
+    if is_held(&world.names, name) {
+        return world.decl.exposed_place(name);
+    }
+    place_in(&world.names, world.decl.expose(), "")
+}
+
+/// Whether a name is one of the names.
+fn is_held(names: &Names, name: Name) -> bool
+    ensures { result ≡ nat_lt name.0 (length names.now) }
+{
+    name.0 < names.len()
 }
 
 fn place_in(names: &Names, expose: &[Name], word: &str) -> Option<usize>

@@ -1,5 +1,5 @@
 //! Built-in methods behind their decisions.
-#![tactic(auto, using(rp_store::proofs::Shapes::goes_on))]
+#![tactic(auto, using(rp_store::proofs::CallerLemmas::goes_on))]
 
 ghost use Rattle.std.specs.Prelude.{IfOk};
 ghost use Rattle.rp_meaning.specs.State.{plainly};

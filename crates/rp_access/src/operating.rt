@@ -1,5 +1,5 @@
 //! Operators behind their decisions.
-#![tactic(auto, using(rp_store::proofs::Shapes::goes_on))]
+#![tactic(auto, using(rp_store::proofs::CallerLemmas::goes_on))]
 
 ghost use Rattle.std.specs.Prelude.{◌≡◌, ◌<◌, IfOk};
 ghost use Rattle.rp_meaning.specs.Operators.{left_name, right_name, unary_name};
@@ -81,9 +81,9 @@ fn unary_name(op: UnOp) -> Name
     }
 }
 
-/// A value as code of a side gets it.
+/// A value as code of a side gets it (zope.security, proxies).
 #[inline(always)]
-pub(crate) fn taken(world: &World, value: Value, side: Side) -> Value
+pub fn taken(world: &World, value: Value, side: Side) -> Value
     requires { IsSound world.now.store.heap value }
     ensures value { result ≡ taken world.now.store.heap side value }
     ensures fit { IsFit world.now.store.heap side result }

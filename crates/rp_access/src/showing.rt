@@ -1,5 +1,5 @@
 //! The text of a value behind its decision.
-#![tactic(auto, using(rp_store::proofs::Shapes::goes_on))]
+#![tactic(auto, using(rp_store::proofs::CallerLemmas::goes_on))]
 
 ghost use Rattle.rp_meaning.specs.State.{plainly};
 ghost use Rattle.rp_proxy.specs.Faithful.{IsFaithful};

@@ -1,5 +1,5 @@
 //! Slices behind their decision.
-#![tactic(auto, using(rp_store::proofs::Shapes::goes_on))]
+#![tactic(auto, using(rp_store::proofs::CallerLemmas::goes_on))]
 
 ghost use Rattle.std.specs.Prelude.{IfOk};
 ghost use Rattle.rp_items.specs.Slices.{slice};

@@ -1,5 +1,5 @@
 //! What is spread over the arguments of a call.
-#![tactic(auto, using(rp_store::proofs::Shapes::goes_on))]
+#![tactic(auto, using(rp_store::proofs::CallerLemmas::goes_on))]
 
 ghost use Rattle.std.specs.Prelude.{◌≡◌, All, IfOk, IfSome, MatchOption, None, Some, map, option_map};
 ghost use Rattle.std.specs.Option.{option_and_then};

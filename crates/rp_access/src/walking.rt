@@ -1,5 +1,5 @@
 //! Walks over values behind their decision.
-#![tactic(auto, using(rp_store::proofs::Shapes::goes_on))]
+#![tactic(auto, using(rp_store::proofs::CallerLemmas::goes_on))]
 
 ghost use Rattle.std.specs.Prelude.{◌≡◌, [], encode_utf8_all, false, true, IfOk, IfSome, map};
 ghost use Rattle.std.specs.Str.{IsCharBoundary};

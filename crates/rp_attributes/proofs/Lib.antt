@@ -1,4 +1,5 @@
 mod AttributeExamples
+pub mod CallerLemmas
 mod Found
 pub mod MethodNames
 mod Places

@@ -1,7 +1,7 @@
 -- Attributes of the object at a place, by what it holds.
-use Rattle.std.proofs.Common.{◌≡◌, ℕ, Bool, true, false, true≢false, cond, not, Err, List, [], ◌∷◌, zero, suc, Option, Some, None, slice_get, refl, sym, ap, ◌∙◌}
+use Rattle.std.proofs.Common.{◌≡◌, ℕ, Bool, true, false, cond, List, [], ◌∷◌, zero, suc, Option, Some, None, slice_get, refl, sym, ap, ◌∙◌}
 use Rattle.std.specs.Map.{lookup, remove_entry}
-use Rattle.std.specs.Option.{is_some, option_and_then, option_map, option_map_or}
+use Rattle.std.specs.Option.{option_and_then, option_map, option_map_or}
 use Rattle.rp_base.specs.declared.value.Name.{Name}
 use Rattle.rp_base.specs.declared.value.Oid.{Oid}
 use Rattle.rp_base.specs.declared.value.Side.{Side}
@@ -14,10 +14,7 @@ use Rattle.rp_store.specs.Object.{Content, list, tuple, dict, instance, class, f
 use Rattle.rp_store.specs.Parts.{fields}
 use Rattle.rp_store.specs.Store.{Cells, written}
 use Rattle.rp_store.specs.Writers.{without_field}
-use Rattle.rp_base.specs.declared.value.OpEnd.{OpEnd}
-use Rattle.rp_base.specs.declared.value.OpEnd.TheVariants as end
-use Rattle.rp_base.specs.declared.value.Raised.{Raised}
-use Rattle.rp_ops.specs.Outcome.{Meets, Outcome, Raises, State, ends, gives, raised, state_of}
+use Rattle.rp_ops.specs.Outcome.{State, gives}
 use Rattle.rp_attributes.specs.Attributes.{attribute_at, bound, content_del, del_at, field_deleted, field_or_method, method_of, no_attribute, object_attribute}
 
 -- the field of what stands at a place
@@ -91,16 +88,3 @@ module _ (name : Name) where
   -- a field that is not there leaves the store as it was
   pub written-missing : (s : Cells) (at : Oid) → field_at s.heap at name ≡ None → written s at (without_field name) ≡ s
   written-missing s at none = ap (λ (heap : List Owned). record s { heap = heap }) (unchanged s.heap at.0 none)
-
-pub is_none-None : {A : Type 0} (x : Option A) (b : Bool) → is_some x ≡ not b → b ≡ true → x ≡ None
-is_none-None None b e none = refl
-is_none-None (Some a) b e none = absurd (true≢false (e ∙ ap not none))
-
--- an exception is raised where the store is as before, or there was no memory for its text
-pub Meets-raised : {A : Type 0} (e : OpEnd) (r : Raised) (old new : Cells) (steps : ℕ) (o : Outcome A) → Raises e r → new ≡ old → o ≡ ends (raised r) (state_of old steps)
-    → Meets (Err e) (state_of new steps) o
-Meets-raised (end.Raised x) r old new steps o h same is =
-    is ∙ ap (λ (s : Cells). ends (raised r) (state_of s steps)) (sym same) ∙ ap (λ (r : Raised). ends (raised r) (state_of new steps)) (sym h)
-Meets-raised end.StopSteps r old new steps o h same is = absurd h
-Meets-raised end.StopCells r old new steps o h same is = absurd h
-Meets-raised end.Memory r old new steps o h same is = tt

@@ -1,5 +1,5 @@
 //! The end of an operation on an attribute that is missing.
-#![tactic(auto, using(rp_store::proofs::Shapes::goes_on))]
+#![tactic(auto, using(rp_store::proofs::CallerLemmas::goes_on))]
 
 ghost use Rattle.std.specs.Prelude.{◌≡◌, IfOk};
 ghost use Rattle.rp_base.specs.declared.kind.Kind.TheVariants.{AttributeError};
@@ -7,8 +7,7 @@ ghost use Rattle.rp_base.specs.Names.{word_of};
 ghost use Rattle.rp_ops.specs.Outcome.{Raises};
 ghost use Rattle.rp_store.specs.Counters.{KeepsCounters};
 
-use rp_base::{Kind, Memory, Name, Names, OpEnd, Raised, Text};
-use rp_ops::word_of;
+use rp_base::{Kind, Memory, Name, Names, OpEnd, Raised, Text, word_of};
 use rp_store::{Store, bytes_of};
 use std::alloc::Global;
 
@@ -29,11 +28,16 @@ pub(crate) fn no_attribute(alloc: Global, store: &mut Store, names: &Names, name
     }
 }
 
-/// The word of a name as a text, whose bytes the store counts.
+/// The word of a name as a text of an exception, whose bytes the store counts.
 ///
 /// # Errors
 /// `Memory` where a growth was refused, or the store holds no more bytes of such texts.
-fn word_text(alloc: Global, store: &mut Store, names: &Names, name: Name) -> Result<Text, Memory>
+pub fn word_text(
+    alloc: Global,
+    store: &mut Store,
+    names: &Names,
+    name: Name,
+) -> Result<Text, Memory>
     ensures text { IfOk result (λ t. t ≡ word_of names.now name) }
     ensures same { store.new ≡ store.old }
 {

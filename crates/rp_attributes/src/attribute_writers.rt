@@ -1,5 +1,5 @@
 //! Setting and deleting attributes.
-#![tactic(auto, using(rp_store::proofs::Shapes::goes_on))]
+#![tactic(auto, using(rp_store::proofs::CallerLemmas::goes_on))]
 
 ghost use Rattle.std.specs.Prelude.{◌≡◌, ◌↔◌, ℕ, IsTrue, OnErr};
 ghost use Rattle.rp_attributes.specs.Attributes.{del_at, del_attribute, set_at, set_attribute};

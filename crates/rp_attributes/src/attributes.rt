@@ -1,9 +1,8 @@
 //! Reading attributes.
-#![tactic(auto, using(rp_store::proofs::Shapes::goes_on))]
+#![tactic(auto, using(rp_store::proofs::CallerLemmas::goes_on))]
 
 ghost use Rattle.std.specs.Prelude.{◌≡◌, ℕ, IfOk, IfSome, OnErr};
 ghost use Rattle.rp_attributes.specs.Attributes.{attribute, attribute_at, bound, rock_attribute};
-ghost use Rattle.rp_ops.specs.Operand.{lent};
 ghost use Rattle.rp_ops.specs.Outcome.{Meets, state_of};
 ghost use Rattle.rp_base.specs.Names.{word_of};
 ghost use Rattle.rp_store.specs.Counters.{KeepsCounters};
@@ -13,8 +12,8 @@ ghost use Rattle.rp_store.specs.Shape.{KeepsShape};
 use crate::attribute_error::no_attribute;
 use crate::built_ins::{Receiver, built_in_method};
 use crate::methods::{method_of, native};
-use rp_base::{Name, Names, Oid, OpEnd, Rock, Side, Value};
-use rp_ops::{new_object, word_of};
+use rp_base::{Name, Names, Oid, OpEnd, Rock, Side, Value, word_of};
+use rp_ops::{lent, new_object};
 use rp_store::{Callee, Object, Store};
 use std::alloc::Global;
 
@@ -129,16 +128,5 @@ fn bind(
     match callee {
         Some(callee) => new_object(store, owner, Object::Method { receiver, callee }),
         None => Err(no_attribute(alloc, store, names, name)),
-    }
-}
-
-/// What is got through a proxy is lent (zope.security, proxies).
-#[inline(always)]
-fn lent(value: Value) -> Value
-    ensures { result ≡ lent value }
-{
-    match value {
-        Value::Ref(at) => Value::Prox(at),
-        other => other,
     }
 }

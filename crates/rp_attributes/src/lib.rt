@@ -7,6 +7,7 @@ mod attributes;
 mod built_ins;
 mod methods;
 
+pub use attribute_error::word_text;
 pub use attribute_writers::{del_attribute, set_attribute};
 pub use attributes::attribute;
 pub use built_ins::{Counts, Receiver, counts_of, has_method, method_takes, receiver_of};

@@ -9,8 +9,7 @@ ghost use Rattle.rp_store.specs.Heap.{IsHeld, content_at, method_at};
 ghost use Rattle.rp_store.specs.Kept.{IsCallee};
 
 use crate::built_ins::{Receiver, built_in_method};
-use rp_base::{Name, Names, NativeId, Oid};
-use rp_ops::word_of;
+use rp_base::{Name, Names, NativeId, Oid, word_of};
 use rp_store::{Callee, Object, Store};
 
 /// What is called by the method of the object at a place: a function of an instance's class, or a built-in method of

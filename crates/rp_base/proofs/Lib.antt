@@ -1,3 +1,4 @@
+pub mod CallerLemmas
 pub mod FirstWords
 pub mod Hierarchy
 mod Keywords
@@ -5,3 +6,4 @@ mod Plain
 pub mod Spelling
 pub mod Texts
 pub mod Words
+pub mod Lists

@@ -1,5 +1,5 @@
 -- The words that `Names` holds: a list, where the place of a word is its name.
-use Rattle.std.specs.Prelude.{◌≡◌, ℕ, Bool, List, [], ◌∷◌, ◌++◌, fold, Some, if◌then◌else◌, slice_get, slice_index_or, codes}
+use Rattle.std.specs.Prelude.{◌≡◌, ◌==◌, ℕ, Bool, List, [], ◌∷◌, ◌++◌, fold, Some, if◌then◌else◌, slice_get, slice_index_or, codes}
 use Rattle.std.specs.List.{All, list_any}
 use Rattle.rp_base.specs.Identifier.{IsIdentifier}
 use Rattle.rp_base.specs.Same.{same_text}
@@ -20,6 +20,14 @@ with_words words more = fold with_word words more
 -- the word of a name, which is its place; empty where there is no such place
 abbrev pub word_of : List (List ℕ) → Name → List ℕ
 word_of words name = slice_index_or words name.0 []
+
+-- two names are equal
+abbrev pub same_name : Name → Name → Bool
+same_name m n = m.0 == n.0
+
+-- the words with others behind them, so that each keeps its place
+abbrev pub GrowsTo : List (List ℕ) → List (List ℕ) → Type 0
+GrowsTo old new = (more : List (List ℕ)) × (new ≡ old ++ more)
 
 -- two places with the same word are the same place
 abbrev pub HoldsEachOnce : List (List ℕ) → Type 0

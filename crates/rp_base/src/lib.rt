@@ -23,12 +23,12 @@ pub use memory::Memory;
 pub use memory_files::{MemFiles, SureFiles};
 pub use memory_sink::{MemSink, SureSink};
 pub use meter::Meter;
-pub use names::Names;
+pub use names::{Names, word_of};
 pub use native::NativeId;
 pub use operator::{BinOp, CmpOp, UnOp};
 pub use rp_hash::Seed;
 pub use sink::Sink;
 #[doc(hidden)]
 pub use text::Letters;
-pub use text::{Characters, Printed, Text, ascii_at, ascii_slice};
+pub use text::{Characters, Printed, Text, add_ascii, ascii_at, ascii_slice};
 pub use value::{ClassTag, Line, Name, Oid, Op, OpEnd, Raised, Rock, Side, Status, Value};

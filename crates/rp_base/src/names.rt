@@ -3,7 +3,7 @@
 ghost use Rattle.std.specs.Prelude.{◌≡◌, ◌<◌, [], All, IfOk, IfSome, IsOk, IsTrue, OnErr, OnOk, Some, chars, fold};
 ghost use Rattle.std.specs.Prelude.{is_some, length, map, slice_get};
 ghost use Rattle.rp_base.specs.Identifier.{IsIdentifier};
-ghost use Rattle.rp_base.specs.Names.{HoldsEachOnce, first_words, is_held, with_word};
+ghost use Rattle.rp_base.specs.Names.{HoldsEachOnce, first_words, is_held, with_word, word_of};
 
 use crate::memory::Memory;
 use crate::value::Name;
@@ -78,9 +78,15 @@ const FIRST_WORDS: [&str; 59] = [
 
 /// The words of the program, each held once, as the list of them: the place of a word is its name.
 /// Each is an identifier in its form.
-#[derive(Drop)]
 pub struct Names {
     words: IndexSet<RcStr, Seed>,
+}
+
+// By hand, so that crates that drop one do not prove again how its parts are dropped.
+impl Drop for Names {
+    fn drop(self) {
+        let Names { words: _ } = self;
+    }
 }
 
 impl Model for Names {
@@ -183,5 +189,16 @@ impl Names {
             self.intern(word)?;
         }
         Ok(())
+    }
+}
+
+/// The word of a name, empty where there is no such name.
+pub fn word_of(names: &Names, name: Name) -> &str
+    ensures { chars result.now ≡ word_of names.now name }
+{
+    if name.0 < names.len() {
+        names.text(name)
+    } else {
+        ""
     }
 }

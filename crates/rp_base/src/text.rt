@@ -1,7 +1,9 @@
 //! Shared texts, and the text that grows.
 
-ghost use Rattle.std.specs.Prelude.{◌≡◌, ◌≤◌, ◌↔◌, ◌++◌, [], chars, IfOk, IfSome, IsSome, IsTrue, MatchOption, OnOk};
+ghost use Rattle.std.specs.Prelude.{◌≡◌, ◌≤◌, ◌↔◌, ◌++◌, [], chars, IfOk, IfSome, IsSome, IsTrue, MatchOption, OnOk, true};
 ghost use Rattle.std.specs.Prelude.{OnErr, length, slice_get, slice_range, string_bytes};
+ghost use Rattle.std.specs.Char.{is_ascii};
+ghost use Rattle.std.specs.List.{list_all};
 ghost use Rattle.std.specs.Str.{IsAscii};
 ghost use Rattle.rp_base.specs.Characters.{AreThose};
 ghost use Rattle.rp_base.specs.Same.{same_text};
@@ -34,9 +36,15 @@ pub enum Characters<'a> {
 /// A shared text, seen as the list of its characters, which knows how many they are and finds one by its place in
 /// constant time. It takes its UTF-8 bytes, and four bytes more for each character where not all are ASCII. Texts are
 /// compared by their UTF-8 bytes, which is the order of their characters.
-#[derive(Drop)]
 pub struct Text {
     shared: Rc<Letters>,
+}
+
+// By hand, so that crates that drop one do not prove again how its parts are dropped.
+impl Drop for Text {
+    fn drop(self) {
+        let Text { shared: _ } = self;
+    }
 }
 
 impl Model for Text {
@@ -296,4 +304,12 @@ impl Printed {
     {
         self.text.as_str()
     }
+}
+
+/// Appends an ASCII text, whose characters are its bytes. It is refused only for want of memory.
+pub fn add_ascii(text: &mut Printed, piece: &str) -> Result<(), Memory>
+    requires { list_all is_ascii piece.now ≡ true }
+    ensures { OnOk result (text.new ≡ text.old ++ piece.now) }
+{
+    text.add(piece)
 }

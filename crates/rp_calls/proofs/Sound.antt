@@ -1,5 +1,5 @@
 -- What is bound is sound, where the arguments and the defaults are.
-use Rattle.std.proofs.Common.{◌≡◌, ℕ, Bool, true, false, true≢false, cond, List, [], ◌∷◌, ◌++◌, map, drop, slice_get, Option, Some, None, is_some, if◌then◌else◌, refl, sym, ap, subst, ◌∙◌}
+use Rattle.std.proofs.Common.{◌≡◌, ℕ, Bool, true, false, List, [], ◌∷◌, ◌++◌, map, drop, slice_get, Option, Some, None, is_some, if◌then◌else◌, refl, sym, ap, subst, ◌∙◌}
 use Rattle.std.specs.List.{All}
 use Rattle.std.specs.Map.{lookup}
 use Rattle.std.specs.Option.{IfSome, option_map, option_to_list}
@@ -21,14 +21,7 @@ use Rattle.rp_tree.specs.Expressions.{Named}
 use Rattle.rp_base.specs.Names.{word_of}
 use Rattle.rp_calls.specs.Binding.{are_plain, default_of, defaults_after, entries_for, filled, given, is_plain, offered, other_entries, put, sole}
 use Rattle.rp_calls.specs.View.{AreSlotsSound}
-
-insert-absent : {K V : Type 0} (same : K → K → Bool) (k : K) (v : V) (es : List (K × V)) → lookup (same k) es ≡ None → insert_entry same es k v ≡ es ++ (k, v) ∷ []
-insert-absent same k v [] h = refl
-insert-absent {K} {V} same k v (e ∷ es) h = by (same k e.0) (insert-absent same k v es) h where
-  by : (b : Bool) → (lookup (same k) es ≡ None → insert_entry same es k v ≡ es ++ (k, v) ∷ []) → cond b (Some e.1) (lookup (same k) es) ≡ None
-      → (if b then (e.0, v) ∷ es else e ∷ insert_entry same es k v) ≡ e ∷ (es ++ (k, v) ∷ [])
-  by true rest h = absurd (true≢false (ap is_some h))
-  by false rest h = ap (λ l. e ∷ l) (rest h)
+use Rattle.rp_store.proofs.CallerLemmas.{insert_entry-absent}
 
 module _ (heap : List Owned) where
   abbrev pub Given : List (List ℕ × Value) → Type 0
@@ -98,7 +91,7 @@ module _ (heap : List Owned) where
         by false (Some x) e v rest = tt
         by false None e v rest =
             rest more
-            (All-same (IsEntry heap) more (es ++ (key.Text g.0, (rock.Text g.0, g.1)) ∷ []) (insert-absent same_key (key.Text g.0) (rock.Text g.0, g.1) es e)
+            (All-same (IsEntry heap) more (es ++ (key.Text g.0, (rock.Text g.0, g.1)) ∷ []) (insert_entry-absent same_key (key.Text g.0) (rock.Text g.0, g.1) es e)
             (All-push (IsEntry heap) es (key.Text g.0, (rock.Text g.0, g.1)) a (refl, v)))
 
   for-sound : (b : Bool) (names : List (List ℕ)) (ps : List (Named × Option Expr)) (named : List (List ℕ × Value))

@@ -7,10 +7,9 @@ use Rattle.std.specs.HashMap.{HashMap}
 use Rattle.std.specs.HashSet as bag
 use Rattle.std.specs.HashSet.{HashSet}
 use Rattle.std.specs.Cmp.Lexicographic.{pointwise, bytes_decides, nat_list_eq_equiv}
-use Rattle.std.proofs.lemmas.List.{drop_more}
 use Rattle.std.proofs.lemmas.Map.Text.{hash_map_updates_str}
 use Rattle.std.proofs.lemmas.Str.{encodes-chars}
-use Rattle.rp_base.proofs.Texts.{bytes_from_view}
+use Rattle.rp_base.proofs.CallerLemmas.{bytes_from_view, drop_here}
 use Rattle.rp_base.specs.Same.{same_text}
 use Rattle.rp_base.specs.declared.value.Value.{Value}
 use Rattle.rp_base.specs.Names.{word_of}
@@ -91,9 +90,6 @@ module _ {S : Type 0} where
       by true c = refl
       by false c = refl
 
-item : {A : Type 0} (xs : List A) (i : ℕ) (x : A) → i < length xs → x ≡ get_or xs i x → drop i xs ≡ x ∷ drop (i + 1) xs
-item xs i x within e = drop_more xs i x within ∙ ap (λ x. x ∷ drop (i + 1) xs) (sym e)
-
 -- the words of the parameters, where there are such, tell of each name whether it is one
 pub names-told : {S : Type 0} (o : Option (HashSet (Bor (List ℕ)) S)) (words : HashSet (Bor (List ℕ)) S) (names : List (List ℕ)) (ps : List (Named × Option Expr)) (bytes name : List ℕ)
     → IfSome o (λ words. HasNames words names ps) → o ≡ Some words → IsUtf8 bytes → chars bytes ≡ name
@@ -109,7 +105,7 @@ pub argument-turn : (named : List (List ℕ × Value)) (i : ℕ) (g : List ℕ �
     → noted new (given (drop (i + 1) named) word) ≡ noted held (given (drop i named) word)
 argument-turn named i g bytes word held new within e text name put =
     ap (λ o. noted o gs) put ∙ by (bytes_eq bytes (encode_utf8_all word)) ∙ ap (λ b. noted held (if b then g.1 ∷ gs else gs)) (name-bytes bytes g.0 word text name)
-    ∙ ap (λ gs. noted held (given gs word)) (sym (item named i g within e))
+    ∙ ap (λ gs. noted held (given gs word)) (sym (drop_here named i g within e))
   where
     gs : List Value
     gs = given (drop (i + 1) named) word
@@ -126,7 +122,7 @@ pub parameter-turn : (names : List (List ℕ)) (ps : List (Named × Option Expr)
 parameter-turn names ps i p bytes word held new within e text name put =
     ap (λ b. b || rest) put ∙ by (bytes_eq bytes (encode_utf8_all word)) held
     ∙ ap (λ b. held || (b || rest)) (name-bytes bytes (word_of names p.0.name) word text name ∙ same_text-swap (word_of names p.0.name) word)
-    ∙ ap (λ ps. held || is_plain names ps word) (sym (item ps i p within e))
+    ∙ ap (λ ps. held || is_plain names ps word) (sym (drop_here ps i p within e))
   where
     rest : Bool
     rest = is_plain names (drop (i + 1) ps) word
@@ -136,10 +132,6 @@ parameter-turn names ps i p bytes word held new within e text name put =
     by true false = refl
     by false true = refl
     by false false = refl
-
-pub or-false : (b : Bool) → (b || false) ≡ b
-or-false true = refl
-or-false false = refl
 
 noted-more : (vs : List Value) → noted (Some None) vs ≡ Some None
 noted-more [] = refl

@@ -1,5 +1,5 @@
 //! Arguments are bound to parameters.
-#![tactic(auto, using(rp_store::proofs::Shapes::goes_on))]
+#![tactic(auto, using(rp_store::proofs::CallerLemmas::goes_on))]
 
 ghost use Rattle.std.specs.Prelude.{◌≡◌, ℕ, All, IfOk, drop, length, true};
 ghost use Rattle.rp_ops.specs.Outcome.{Meets, Raises, state_of};
@@ -12,11 +12,11 @@ ghost use Rattle.rp_store.specs.Shape.{KeepsShape};
 ghost use Rattle.rp_calls.specs.Binding.{all_made, bind, defaults_at, has_dict, has_list, plain, refused, slot_made};
 ghost use Rattle.rp_calls.specs.View.{AreSlotsSound, slots_of};
 
-use crate::others::{copies, entries_for, rest_of};
+use crate::others::{entries_for, rest_of};
 use crate::parameters::plain_slots;
 use rp_base::{Kind, Memory, Names, Oid, OpEnd, Rock, Side, Text, Value};
 use rp_dict::Dict;
-use rp_ops::{new_object, raised};
+use rp_ops::{copies, new_object, raised};
 use rp_store::{Key, Object, Store};
 use rp_tree::Params;
 use std::alloc::Global;

@@ -108,17 +108,3 @@ pub fn rest_of(args: &[Value], from: usize) -> &[Value]
     }
     &[]
 }
-
-/// Copies of values.
-///
-/// # Errors
-/// `Memory` where a growth was refused, or the count of a text's owners is full.
-pub fn copies(alloc: Global, values: &[Value]) -> Result<Vec<Value>, Memory>
-    ensures { IfOk result (λ all. all.items ≡ values.now) }
-{
-    let mut all = Vec::with_capacity(alloc, values.len())?;
-    for value in values {
-        all.push(value.copy()?)?;
-    }
-    Ok(all)
-}

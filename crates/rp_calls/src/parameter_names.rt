@@ -5,8 +5,7 @@ ghost use Rattle.rp_calls.specs.TableSteps.{HasNames, has_word};
 
 use crate::named_arguments::FEW;
 use crate::parameters::is_plain;
-use rp_base::{Memory, Names, Seed, Text};
-use rp_ops::word_of;
+use rp_base::{Memory, Names, Seed, Text, word_of};
 use rp_tree::{Expr, Named};
 use std::alloc::Global;
 use std::collections::HashSet;

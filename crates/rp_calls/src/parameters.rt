@@ -7,8 +7,7 @@ ghost use Rattle.rp_calls.specs.Binding.{parameter as parameter_of, sole, value_
 
 use crate::named_arguments::NamedArguments;
 use crate::others::rest_of;
-use rp_base::{Memory, Names, Seed, Text, Value};
-use rp_ops::word_of;
+use rp_base::{Memory, Names, Seed, Text, Value, word_of};
 use rp_tree::{Expr, Named};
 use std::alloc::Global;
 

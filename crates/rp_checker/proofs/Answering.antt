@@ -12,7 +12,7 @@ use Rattle.rp_base.specs.declared.value.ClassTag.TheVariants.{List as ListTag, T
 use Rattle.rp_base.specs.declared.value.Name.{Name}
 use Rattle.rp_base.specs.declared.value.Op.{Op}
 use Rattle.rp_base.specs.declared.value.Op.TheVariants.{Get, Set}
-use Rattle.rp_base.proofs.Words.{same_text-refl}
+use Rattle.rp_base.proofs.CallerLemmas.{same_text-refl}
 use Rattle.rp_decl.specs.Document.{public as zope_public}
 use Rattle.rp_decl.specs.Places.{IsHeld}
 use Rattle.rp_decl.specs.View.{Placed, class_view, declarations_view, name_text, text_at}

@@ -3,14 +3,14 @@ use Rattle.std.proofs.Common.{◌≡◌, refl, sym, ap, ◌∙◌, ℕ, zero, su
 use Rattle.std.specs.List.{All, filter, find, slice_get}
 use Rattle.std.specs.Option.{IfSome, option_and_then, option_map, option_or}
 use Rattle.std.specs.Map.{lookup}
-use Rattle.std.proofs.lemmas.Bool.{cases_lt}
+use Rattle.std.proofs.lemmas.Bool.{cases_lt, eqb-true}
 use Rattle.std.proofs.lemmas.List.{get_or-map, length-map, length_push}
 use Rattle.std.proofs.lemmas.List.Elements.{All-head, All-tail}
 use Rattle.std.proofs.lemmas.Option.{get_or_from_slice_get, slice_get-get_or, slice_get_within}
 use Rattle.rp_base.specs.Names.{HoldsEachOnce}
 use Rattle.rp_base.specs.Same.{same_text}
 use Rattle.rp_base.specs.declared.value.Name.{Name}
-use Rattle.rp_base.proofs.Words.{same_text-equal, same_text-refl}
+use Rattle.rp_base.proofs.CallerLemmas.{nil-rest, same_text-equal, same_text-refl}
 use Rattle.rp_decl.specs.Places.{IsClassHeld, IsHeld}
 use Rattle.rp_decl.specs.Records.{Class, Declarations}
 use Rattle.rp_decl.specs.View.{Placed, class_view, declarations_view, name_text, perm_text, row_text, text_at}
@@ -27,7 +27,6 @@ use Rattle.rp_checker.specs.Chain.{class_places, like_place, own_permission, row
 use Rattle.rp_checker.specs.RowOf as text
 use Rattle.rp_checker.specs.Lookup.{is_name}
 use Rattle.rp_checker.specs.Plan.{Plan}
-use Rattle.rp_checker.proofs.Lookups.{one_number}
 use Rattle.rp_checker.proofs.Plans.{numbered}
 use Rattle.rp_checker.proofs.Rings.{HasNoRing, ahead, ahead-last}
 
@@ -40,7 +39,7 @@ same_text-places names i j once here there = by (nat_eq i j) refl (same_text (te
   where
     by : (b : Bool) → nat_eq i j ≡ b → (s : Bool) → same_text (text_at names i) (text_at names j) ≡ s → s ≡ b
     by true e true t = refl
-    by true e false t = let one : i ≡ j = one_number i j e in absurd (true≢false (sym (same_text-refl (text_at names i)) ∙ ap (λ k. same_text (text_at names i) (text_at names k)) one ∙ t))
+    by true e false t = let one : i ≡ j = eqb-true i j e in absurd (true≢false (sym (same_text-refl (text_at names i)) ∙ ap (λ k. same_text (text_at names i) (text_at names k)) one ∙ t))
     by false e false t = refl
     by false e true t =
         let equal : text_at names i ≡ text_at names j = same_text-equal _ _ t in
@@ -195,10 +194,6 @@ filter-none {X} p (x ∷ xs) e k d inside = by (p x) refl (filter-none p xs) e k
     by false here later e zero inside = here
     by false here later e (suc k) inside = later e k d (omega arith)
 
-pub behind-nil : {X : Type 0} (xs ys : List X) → xs ++ ys ≡ [] → ys ≡ []
-behind-nil [] ys e = e
-behind-nil (x ∷ xs) ys e = cc
-
 pub comes_back-follows : (d : Declarations) (m n : ℕ) (t : List ℕ) → n < m → follow d (suc n) t ≡ Some t → comes_back d m t ≡ true
 comes_back-follows d zero n t few e = absurd (omega arith)
 comes_back-follows d (suc m) n t few e = by (cases_lt n m) (λ low. comes_back-follows d m n t low e)
@@ -223,7 +218,7 @@ module _ (names : List (List ℕ)) (d : Placed) (places : List (Name × ℕ)) (r
       let found : option_and_then (slice_get d.classes) (lookup (is_name name) places) ≡ find (λ c. is_name name c.name) d.classes =
       ap (option_and_then (slice_get d.classes)) (look name) ∙ found-numbered (is_name name) [] d.classes in
       let at_place : find (λ c. is_name name c.name) d.classes ≡ Some c = sym found ∙ ap (option_and_then (slice_get d.classes)) here ∙ e in
-      one_number name.0 c.name.0 (find-passes (λ c. is_name name c.name) d.classes c at_place)
+      eqb-true name.0 c.name.0 (find-passes (λ c. is_name name c.name) d.classes c at_place)
 
   abbrev Follows : ℕ → ℕ → ClassDecl → Type 0
   Follows k last c =
@@ -277,7 +272,7 @@ module _ (names : List (List ℕ)) (d : Placed) (places : List (Name × ℕ)) (r
       get_or-map (λ c. c.name) (map (class_view names d.permissions) d.classes) place (class_view names d.permissions c) [] inside_views
       ∙ ap (λ c. c.name) (get_or-map (class_view names d.permissions) d.classes place c (class_view names d.permissions c) inside)
       ∙ ap (λ c. name_text names c.name) (get_or_from_slice_get d.classes place c c found) in
-      let none : filter (is_on_ring (declarations_view names d)) (class_names (declarations_view names d)) ≡ [] = behind-nil _ _ r.consistent.classes_declared in
+      let none : filter (is_on_ring (declarations_view names d)) (class_names (declarations_view names d)) ≡ [] = nil-rest _ _ r.consistent.classes_declared in
       ap (is_on_ring (declarations_view names d)) (sym its_name) ∙ filter-none (is_on_ring (declarations_view names d)) (class_names (declarations_view names d)) none place [] (omega arith)
 
   -- the name by which a class was led to

@@ -22,10 +22,6 @@ tie m n = grind (arith, nat_tests)
 one_name : (a b c : ℕ) → nat_eq a b ≡ true → nat_eq b c ≡ nat_eq a c
 one_name a b c e = grind (arith, nat_tests)
 
--- what the test calls one number is one
-pub one_number : (a b : ℕ) → nat_eq a b ≡ true → a ≡ b
-one_number a b e = grind (arith, nat_tests)
-
 pub nat_eq-swap : (a b : ℕ) → nat_eq a b ≡ nat_eq b a
 nat_eq-swap a b = grind (arith, nat_tests)
 

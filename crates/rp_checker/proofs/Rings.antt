@@ -6,8 +6,8 @@ use Rattle.std.proofs.lemmas.Map.Keys.{IsDistinct-cons}
 use Rattle.std.proofs.lemmas.Map.Steps.{length-le_from_distinct_below}
 use Rattle.rp_checker.specs.Chain.{AllEnd, EndsWithin, like_place}
 use Rattle.rp_checker.specs.Plan.{Plan, HasPlacesWithin}
-use Rattle.rp_checker.proofs.Lookups.{one_number}
 use Rattle.rp_checker.proofs.Plans.{like_within}
+use Rattle.std.proofs.lemmas.Bool.{eqb-true}
 
 -- the place so many classes on
 abbrev pub ahead : Plan → ℕ → ℕ → Option ℕ
@@ -65,7 +65,7 @@ orbit-within plan (suc n) (Some p) q places within e = by (nat_eq q p) refl (orb
   where
     by : (b : Bool) → nat_eq q p ≡ b → (list_any (nat_eq q) (orbit plan n (like_place plan p)) ≡ true → q < length plan.classes)
         → (b || list_any (nat_eq q) (orbit plan n (like_place plan p))) ≡ true → q < length plan.classes
-    by true same later e = let here : p < length plan.classes = within p refl in let one : q ≡ p = one_number q p same in omega arith
+    by true same later e = let here : p < length plan.classes = within p refl in let one : q ≡ p = eqb-true q p same in omega arith
     by false same later e = later e
 
 -- what comes behind a class differs from it
@@ -77,7 +77,7 @@ orbit-apart plan place m (suc n) (Some q) free inside few e =
     (by (nat_eq place q) refl, orbit-apart plan place (suc m) n (like_place plan q) free inside (omega arith) next)
   where
     by : (b : Bool) → nat_eq place q ≡ b → nat_eq place q ≡ false
-    by true same = absurd (free.no_return m place (omega arith) inside (e ∙ ap Some (sym (one_number place q same))))
+    by true same = absurd (free.no_return m place (omega arith) inside (e ∙ ap Some (sym (eqb-true place q same))))
     by false same = same
 
 orbit-distinct : (plan : Plan) (n : ℕ) (o : Option ℕ) → HasNoRing plan → HasPlacesWithin plan → n ≤ suc (length plan.classes) → ForSome o (λ p. p < length plan.classes) → IsDistinct nat_eq (orbit plan n o)

@@ -2,8 +2,7 @@
 use Rattle.std.proofs.Common.{◌≡◌, refl, arith, ℕ, zero, suc, ◌<◌, Bool, true, false, cond, List, [], ◌∷◌, ◌++◌, length, set, unwrap_or, Option, Some, None}
 use Rattle.std.specs.List.{All, slice_get}
 use Rattle.std.specs.Option.{IfSome, IsSome, option_and_then, option_map, option_or}
-use Rattle.std.specs.Map.{lookup}
-use Rattle.std.proofs.lemmas.List.Elements.{All-head, All-push, All-set, All-tail}
+use Rattle.std.proofs.lemmas.List.Elements.{All-push, All-set}
 use Rattle.std.proofs.lemmas.Map.Entries.{All-lookup}
 use Rattle.rp_base.specs.declared.value.ClassTag.{ClassTag}
 use Rattle.rp_base.specs.declared.value.ClassTag.TheVariants.{List as ListTag, Tuple, Dict, Function, Method, Class, Declared, Other}
@@ -25,12 +24,7 @@ use Rattle.rp_checker.specs.Plan.{Plan}
 use Rattle.rp_checker.specs.Tables.{Tables, class_place, is_place_among, listed, public_places, row_at, row_unlisted}
 use Rattle.rp_checker.specs.declared.class_rows.ClassRows.{ClassRows}
 use Rattle.rp_checker.specs.declared.words.TheConstants.{AVAILABLE}
-
--- what holds of each element holds of the one at a place
-IfSome-slice_get : {X : Type 0} (P : X → Type 0) (xs : List X) (i : ℕ) → All P xs → IfSome (slice_get xs i) P
-IfSome-slice_get P [] i all = tt
-IfSome-slice_get P (x ∷ xs) zero all = All-head P x xs all
-IfSome-slice_get P (x ∷ xs) (suc i) all = IfSome-slice_get P xs i (All-tail P x xs all)
+use Rattle.rp_base.proofs.CallerLemmas.{IfSome-slice_get}
 
 module _ (n : ℕ) where
   needing-within : (permissions : List (List ℕ)) (p : Perm) → p.0 < n → IsRowWithin n (row_needing permissions p)

@@ -15,8 +15,8 @@ use rp_base::Memory;
 use rp_tree::{Branch, Except, Expr, Place, Stmt, StmtForm, Tree, stmts_of};
 use std::alloc::Global;
 
-/// The functions of a program by the numbers of their code blocks, of which there are so many; of several with one number
-/// the first (Python Language Reference, Structure of a program).
+/// The functions of a program by the numbers of their code blocks, of which there are so many; of several with one
+/// number the first (Python Language Reference, Structure of a program).
 ///
 /// # Errors
 /// `Memory` where a growth was refused.

@@ -1,4 +1,5 @@
+pub mod CallerLemmas
 mod CompareExamples
-mod Parts
+pub mod Parts
 mod Rounds
 mod Sought

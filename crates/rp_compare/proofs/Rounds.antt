@@ -4,30 +4,21 @@ use Rattle.std.specs.List.{zip}
 use Rattle.std.specs.Map.{lookup}
 use Rattle.std.specs.Option.{option_copied}
 use Rattle.rp_base.specs.declared.value.OpEnd.{OpEnd}
-use Rattle.rp_base.specs.declared.value.OpEnd.TheVariants as end
 use Rattle.rp_base.specs.declared.value.Rock.{Rock}
 use Rattle.rp_base.specs.declared.value.Value.{Value}
 use Rattle.rp_store.specs.Key.{same_key}
+use Rattle.rp_store.specs.Object.{Entries}
 use Rattle.rp_store.specs.contracts.key.KeyPartialEq.TheImpl as key_block
 use Rattle.rp_store.specs.declared.key.Key.{Key}
-use Rattle.rp_store.specs.declared.key.Key.TheVariants as key
 use Rattle.rp_ops.specs.Outcome.{Meets, State, Outcome, gives, on_value}
 use Rattle.rp_compare.specs.Equality.{all_equal, equal, of_length, within}
-
-abbrev pub Entries : Type 0
-Entries = List (Key × (Rock × Value))
+use Rattle.rp_ops.proofs.CallerLemmas.{meets-passes}
+use Rattle.rp_store.proofs.CallerLemmas.{same_by_cases}
 
 pub of_length-same : (m n : ℕ) (s : State) (o : Outcome Bool) → m ≡ n → of_length m n s o ≡ o
 of_length-same m n s o e = rw (eq-eqb m n e) refl
 
 -- ---- rounds
-
--- every other end passes through
-passed : {A B : Type 0} (e : OpEnd) (s : State) (o : Outcome A) (go : A → State → Outcome B) → Meets {A = A} (Err e) s o → Meets {A = B} (Err e) s (on_value o go)
-passed (end.Raised r) s o go h = ap (λ p. on_value p go) h
-passed end.StopSteps s o go h = ap (λ p. on_value p go) h
-passed end.StopCells s o go h = ap (λ p. on_value p go) h
-passed end.Memory s o go h = tt
 
 module _ {A : Type 0} (one : A → State → Outcome Bool) where
   -- what follows the test of the first
@@ -43,7 +34,7 @@ module _ {A : Type 0} (one : A → State → Outcome Bool) where
   all-stops (Ok b) e left more x s t is over h = absurd over
   all-stops (Err f) e left more x s t is over h =
       subst (λ (g : OpEnd). Meets {A = Bool} (Err g) t (all_equal one left s)) (sym over)
-      (subst (λ (l : List A). Meets {A = Bool} (Err e) t (all_equal one l s)) (sym is) (passed e t (one x s) (goes_on more) h))
+      (subst (λ (l : List A). Meets {A = Bool} (Err e) t (all_equal one l s)) (sym is) (meets-passes e t (one x s) (goes_on more) h))
 
   pub all-end : (left : List A) (s : State) → left ≡ [] → all_equal one left s ≡ gives true s
   all-end left s e = ap (λ (l : List A). all_equal one l s) e
@@ -71,13 +62,6 @@ within-next (suc d) h =
     ap (λ (n : ℕ). Some (equal n)) (sym e)
 
 -- ---- keys
-
--- the comparison of keys that is derived is that of the definitions
-same_by_cases : (x y : Key) → (key_block.ghosts).eq x y ≡ same_key x y
-same_by_cases key.Nil key.Nil = refl
-same_by_cases (key.Number m) (key.Number n) = refl
-same_by_cases (key.Text s) (key.Text t) = refl
-same_by_cases _ _ = refl
 
 -- what a dict has at a key, as it hands it out
 pub looked-up : (fs : Entries) (k : Key) (r : Option (Bor (Rock × Value))) → option_copied r ≡ lookup ((key_block.ghosts).eq k) fs → lookup (same_key k) fs ≡ option_copied r

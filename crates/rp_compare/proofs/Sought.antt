@@ -1,17 +1,17 @@
 -- A look-up of a value as a key.
-use Rattle.std.proofs.Common.{◌≡◌, Option, Some, None, Ok, Bor, codes, is_some, refl, sym, ap, ◌∙◌}
+use Rattle.std.proofs.Common.{◌≡◌, Some, Ok, codes, is_some, sym, ap, ◌∙◌}
 use Rattle.std.specs.Map.{lookup}
-use Rattle.std.specs.Option.{option_and_then, option_copied, option_map_or}
+use Rattle.std.specs.Option.{option_and_then, option_map_or}
 use Rattle.rp_base.specs.declared.kind.Kind.TheVariants.{TypeError}
 use Rattle.rp_base.specs.declared.value.Rock.{Rock}
 use Rattle.rp_base.specs.declared.value.Value.{Value}
 use Rattle.rp_base.specs.declared.value.Value.TheVariants as value
 use Rattle.rp_store.specs.Key.{key_form, same_key}
+use Rattle.rp_store.specs.Object.{Entries}
 use Rattle.rp_store.specs.declared.key.Key.{Key}
 use Rattle.rp_ops.specs.Keys.{entry_in, key_named}
 use Rattle.rp_ops.specs.Numbers.{refused}
 use Rattle.rp_ops.specs.Outcome.{State, gives, on_found}
-use Rattle.rp_compare.proofs.Rounds.{Entries}
 
 -- a value that can be a key is looked up
 pub key-sought : (v : Value) (r : Rock) (k : Key) (es : Entries) (s : State) → v ≡ value.Rock r → Some k ≡ key_form r
@@ -20,7 +20,3 @@ key-sought v r k es s is form =
     ap (λ w. on_found (key_named w) s (λ q s. gives (is_some (entry_in es q)) s)) is
     ∙ ap (λ f. on_found (option_map_or (λ _. Ok r) f (refused TypeError (codes "key"))) s (λ q s. gives (is_some (entry_in es q)) s)) (sym form)
     ∙ ap (λ f. gives (is_some (option_and_then (λ key. lookup (same_key key) es) f)) s) (sym form)
-
-pub is_some-copied : {A : Type 0} (r : Option (Bor A)) → is_some (option_copied r) ≡ is_some r
-is_some-copied None = refl
-is_some-copied (Some x) = refl

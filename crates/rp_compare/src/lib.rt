@@ -8,4 +8,4 @@ mod rocks;
 
 pub use equality::equal;
 pub use membership::contains;
-pub use order::compare;
+pub use order::{compare, is_less_text};

@@ -4,9 +4,8 @@ ghost use Rattle.rp_compare.specs.Order.{compare, less, numbers_less, ordered, r
 ghost use Rattle.rp_ops.specs.Outcome.{Meets, State, state_of};
 
 use crate::equality::equal;
-use crate::rocks::number_of;
 use rp_base::{CmpOp, Meter, OpEnd, Rock, Text, Value};
-use rp_ops::Refusal;
+use rp_ops::{Refusal, rock_number};
 use rp_store::Store;
 use std::alloc::Global;
 
@@ -72,11 +71,14 @@ fn less_rocks(q: &Rock, r: &Rock) -> Option<bool>
 {
     match (q, r) {
         (Rock::Text(t), Rock::Text(u)) => Some(is_less_text(t, u)),
-        _ => less_numbers(number_of(q), number_of(r)),
+        _ => less_numbers(rock_number(q), rock_number(r)),
     }
 }
 
-fn is_less_text(x: &Text, y: &Text) -> bool
+/// Whether a text is less than another (Python Language Reference, Value comparisons): in the order of code points,
+/// which is that of the bytes in UTF-8.
+#[inline(always)]
+pub fn is_less_text(x: &Text, y: &Text) -> bool
     ensures { result ≡ texts_less x.now y.now }
 {
     x < y

@@ -1,10 +1,7 @@
 -- A tree that is spelled, after its code blocks have been numbered.
-use Rattle.std.proofs.Common.{◌≡◌, refl, sym, ap, ◌∙◌, subst, ℕ, ◌+◌, ◌<◌, ◌^◌, Bool, true, false, List, [], ◌∷◌, length, Option, Some, None, arith}
+use Rattle.std.proofs.Common.{◌≡◌, refl, sym, ap, ◌∙◌, subst, ℕ, ◌+◌, ◌<◌, ◌^◌, true, List, [], length, arith}
 use Rattle.std.proofs.lemmas.Bool.{eqb-true}
 use Rattle.rp_base.specs.declared.value.Name.{Name}
-use Rattle.rp_token.specs.declared.token.TokenKind.{TokenKind}
-use Rattle.rp_token.specs.declared.token.TokenKind.TheVariants as kind
-use Rattle.rp_tree.specs.declared.parts.Guard.{Guard}
 use Rattle.rp_tree.specs.declared.stmt.Tree.{Tree}
 use Rattle.rp_tree.specs.Guarded.{Guarded}
 use Rattle.rp_tree.specs.Maps.{named, names_by, no_blocks, without_blocks}
@@ -14,10 +11,10 @@ use Rattle.rp_tree.specs.StatementViews.{view_tree}
 use Rattle.rp_tree.proofs.MapLaws.{stmts_after}
 use Rattle.rp_tree.proofs.MarkLaws.{erased}
 use Rattle.rp_grammar.specs.Kinds.{Tokens}
-use Rattle.rp_grammar.specs.Leaves.{LeafTest, kind_passes, stmts_pass, tokens_pass}
+use Rattle.rp_grammar.specs.Leaves.{stmts_pass}
 use Rattle.rp_grammar.specs.Program.{Spells}
 use Rattle.rp_grammar.proofs.Kept.{stmts_kept}
-use Rattle.rp_grammar.proofs.Unmarked.{leaves_spelled}
+use Rattle.rp_grammar.proofs.Unmarked.{all_fit, leaves_spelled, taken_off, unmarked}
 use Rattle.rp_base.specs.Names.{word_of}
 use Rattle.rp_program.specs.Leaves.{IsTreeHeld, below, unnumbered}
 use Rattle.rp_program.specs.Program.{IsProgram}
@@ -26,33 +23,13 @@ use Rattle.rp_policy.specs.Offences.{offences, offences_by}
 use Rattle.rp_policy.proofs.Renamed.{offences-unnumbered}
 use Rattle.rp_scope.specs.Numbers.{HasNumbers, block_count, block_numbers}
 use Rattle.rp_scope.specs.NumberSteps.{renumbered}
+use Rattle.rp_scope.specs.Scopes as found
 use Rattle.rp_scope.specs.Scopes.{AreScopesOf, Scope}
 use Rattle.rp_scope.proofs.Mapped.{guarded_has_numbers}
 use Rattle.rp_scope.proofs.Runs.{length-renumbered, numbered_from}
 use Rattle.rp_compile.specs.Compiled.{IsCompiled}
 use Rattle.rp_compile.specs.Trusted.{IsTrusted}
 use Rattle.rp_compile.proofs.Uncounted.{stmts_counted}
-
-abbrev is_none : Option Guard → Bool
-is_none None = true
-is_none (Some g) = false
-
--- any name and any number, and no mark
-abbrev unmarked : LeafTest Name
-unmarked = record { name = λ n. true; number = λ n. true; block = λ b. true; mark = is_none }
-
-kind_fits : (k : TokenKind) → kind_passes unmarked k ≡ true
-kind_fits (kind.Name n) = refl
-kind_fits (kind.Int n) = refl
-kind_fits _ = refl
-
-all_fit : (ts : Tokens) → tokens_pass unmarked ts ≡ true
-all_fit [] = refl
-all_fit (t ∷ ts) = rw (kind_fits t.kind, all_fit ts) refl
-
-taken_off : (g : Option Guard) → is_none g ≡ true → None ≡ g
-taken_off None ok = refl
-taken_off (Some g) ok = absurd cc
 
 no_number : (k : ℕ) → unnumbered.block k ≡ true → 0 ≡ k
 no_number k ok = sym (eqb-true k 0 ok)
@@ -109,8 +86,8 @@ pub compiled : (words : List (List ℕ)) (read source marked : Tree) (layouts : 
     → without_blocks (view_tree source) ≡ without_blocks (view_tree read) → block_numbers (view_tree source) ≡ renumbered 1 (block_numbers (view_tree read))
     → offences_by (word_of words) (view_tree read) ≡ [] → Rewrites (view_tree source) (view_tree marked)
     → Guarded (view_tree marked) → block_count (view_tree source) + 1 < 2 ^ 64 → (HasNumbers (view_tree source) → AreScopesOf layouts [] (view_tree source))
-    → IsCompiled (record { rewritten = marked; layouts = layouts })
-compiled words read source marked layouts ts spells kept given lawful rewrites guarded few laid =
+    → layouts ≡ found.scopes [] (view_tree source) → IsCompiled (record { rewritten = marked; layouts = layouts })
+compiled words read source marked layouts ts spells kept given lawful rewrites guarded few laid table =
     let result : Stmts Name = erase (view_tree marked) in
     let kept_off : without_blocks result ≡ without_blocks (view_tree read) = unguarded (view_tree read) (view_tree source) (view_tree marked) kept rewrites in
     let numbers : HasNumbers (view_tree source) = has_numbers (view_tree read) (view_tree source) given few in
@@ -126,14 +103,15 @@ compiled words read source marked layouts ts spells kept given lawful rewrites g
       source_numbers = source_numbers;
       numbers = subst (λ (x : Stmts Name). HasNumbers x) rewrites.has_marks (guarded_has_numbers result source_numbers);
       scopes = subst (λ (x : Stmts Name). AreScopesOf layouts [] x) (sym rewrites.is_source) (laid numbers);
+      table = table ∙ ap (λ (x : Stmts Name). found.scopes [] x) (sym rewrites.is_source);
     }
 
 -- what is kept of a trusted module that has been numbered, then laid out
 pub trusted : (read tree : Tree) (layouts : List Scope) (first : List Name) (ts : Tokens) → Spells (view_tree read) ts
     → without_blocks (view_tree tree) ≡ without_blocks (view_tree read) → block_numbers (view_tree tree) ≡ renumbered 1 (block_numbers (view_tree read))
     → block_count (view_tree tree) + 1 < 2 ^ 64 → (HasNumbers (view_tree tree) → AreScopesOf layouts first (view_tree tree))
-    → IsTrusted (record { tree = tree; layouts = layouts })
-trusted read tree layouts first ts spells kept given few laid =
+    → layouts ≡ found.scopes first (view_tree tree) → IsTrusted (record { tree = tree; layouts = layouts })
+trusted read tree layouts first ts spells kept given few laid table =
     let numbers : HasNumbers (view_tree tree) = has_numbers (view_tree read) (view_tree tree) given few in
     record {
       plain = plain (view_tree read) (view_tree tree) ts spells kept;
@@ -142,4 +120,5 @@ trusted read tree layouts first ts spells kept given few laid =
       numbers = numbers;
       first = first;
       scopes = laid numbers;
+      table = table;
     }

@@ -6,6 +6,7 @@ use Rattle.rp_grammar.specs.Kinds.{Tokens}
 use Rattle.rp_grammar.specs.Program.{Spells}
 use Rattle.rp_policy.specs.Offences.{offences_by}
 use Rattle.rp_scope.specs.Numbers.{HasNumbers}
+use Rattle.rp_scope.specs.Scopes as found
 use Rattle.rp_scope.specs.Scopes.{AreScopesOf, Scope}
 use Rattle.rp_tree.specs.declared.stmt.Tree.{Tree}
 use Rattle.rp_tree.specs.Guarded.{Guarded}
@@ -26,7 +27,7 @@ source_tree c = erase (view_tree c.rewritten)
 -- Some tokens spell the source but for the numbers of its code blocks, and its statements are of height at most 200
 -- then; by some words for its names it has no offence; and it is rewritten into the tree that runs, where no form stands
 -- outside of its guard. The code blocks of both have the numbers 1, 2, 3 and so on, and the scopes are those of the
--- source.
+-- source, by two ways of saying it.
 pub record IsCompiled (c : Compilation) : Type 0 where
   pub plain : HasNoGuards (source_tree c)
   pub tokens : Tokens
@@ -38,3 +39,4 @@ pub record IsCompiled (c : Compilation) : Type 0 where
   pub source_numbers : HasNumbers (source_tree c)
   pub numbers : HasNumbers (view_tree c.rewritten)
   pub scopes : AreScopesOf c.layouts [] (source_tree c)
+  pub table : c.layouts ≡ found.scopes [] (source_tree c)

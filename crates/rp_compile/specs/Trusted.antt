@@ -6,6 +6,7 @@ use Rattle.rp_grammar.specs.Program.{Spells}
 use Rattle.rp_program.specs.Fault.{IsFault}
 use Rattle.rp_program.specs.declared.fault.ProgramFault.{ProgramFault}
 use Rattle.rp_scope.specs.Numbers.{HasNumbers}
+use Rattle.rp_scope.specs.Scopes as found
 use Rattle.rp_scope.specs.Scopes.{AreScopesOf, Scope}
 use Rattle.rp_script.specs.Refusal.{from_program}
 use Rattle.rp_script.specs.declared.refusal.Refusal.{Refusal}
@@ -21,7 +22,7 @@ pub record TrustedModule : Type 0 where
 
 -- Some tokens spell the tree but for the numbers of its code blocks, and its statements are of height at most 200 then;
 -- it has no guards; its code blocks have the numbers 1, 2, 3 and so on, and the scopes are theirs, where the module
--- first binds some names.
+-- first binds some names, by two ways of saying it.
 pub record IsTrusted (m : TrustedModule) : Type 0 where
   pub plain : HasNoGuards (view_tree m.tree)
   pub tokens : Tokens
@@ -29,6 +30,7 @@ pub record IsTrusted (m : TrustedModule) : Type 0 where
   pub numbers : HasNumbers (view_tree m.tree)
   pub first : List Name
   pub scopes : AreScopesOf m.layouts first (view_tree m.tree)
+  pub table : m.layouts ≡ found.scopes first (view_tree m.tree)
 
 -- the refusal of bytes that are no program, for the first check that they don't pass
 pub record IsNoProgram (bytes : List ℕ) (refusal : Refusal) : Type 0 where

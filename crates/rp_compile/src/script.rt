@@ -1,8 +1,7 @@
 //! Scripts from bytes, with their guards.
 
 ghost use Rattle.std.specs.Prelude.{◌≡◌, ◌≢◌, ℕ, [], IfErr, IfOk, List, MatchResult, OnOk};
-ghost use Rattle.rp_base.specs.Names.{with_words, word_of};
-ghost use Rattle.rp_token.specs.Lexer.{IsGrown};
+ghost use Rattle.rp_base.specs.Names.{GrowsTo, with_words, word_of};
 ghost use Rattle.rp_tree.specs.Maps.{named, without_blocks};
 ghost use Rattle.rp_tree.specs.StatementTrees.{Stmts};
 ghost use Rattle.rp_program.specs.Leaves.{IsTreeHeld};
@@ -88,7 +87,7 @@ pub fn compile_script(alloc: Global, bytes: &[u8], names: &mut Names) -> Result<
         (λ e. e ≡ Refusal.Memory) }
     ensures held { IfOk result (λ c. IsTreeHeld names.new (source_tree c)) }
     ensures refused { IfErr result (λ r. r ≢ Refusal.Memory → IsRefused names.new bytes.now r) }
-    ensures names { IsGrown names.old names.new }
+    ensures names { GrowsTo names.old names.new }
     ensures words { OnOk result (names.new ≡ with_words names.old (program_words bytes.now)) }
 {
     let mut source = read_script(alloc, bytes, names)?;

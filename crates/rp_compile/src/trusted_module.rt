@@ -1,16 +1,15 @@
 //! Trusted modules from texts.
 
 ghost use Rattle.std.specs.Prelude.{◌≡◌, ◌≢◌, ℕ, IfErr, IfOk, List, MatchResult, OnOk};
-ghost use Rattle.std.specs.List.{IsDistinct};
-ghost use Rattle.rp_base.specs.Names.{with_words, word_of};
-ghost use Rattle.rp_token.specs.Lexer.{IsGrown};
+ghost use Rattle.rp_base.specs.Names.{GrowsTo, with_words, word_of};
 ghost use Rattle.rp_tree.specs.Maps.{named, without_blocks};
 ghost use Rattle.rp_tree.specs.StatementTrees.{Stmts};
 ghost use Rattle.rp_tree.specs.StatementViews.{view_tree};
 ghost use Rattle.rp_program.specs.Leaves.{IsTreeHeld};
 ghost use Rattle.rp_program.specs.Program.{IsProgram};
 ghost use Rattle.rp_program.specs.ProgramWords.{program_words};
-ghost use Rattle.rp_scope.specs.Scopes.{AreScopesOf, same_name};
+ghost use Rattle.rp_scope.specs.Numbers.{HasNumbers};
+ghost use Rattle.rp_scope.specs.Scopes.{AreScopesOf, scopes};
 ghost use Rattle.rp_compile.specs.Trusted.{IsNoProgram};
 
 use rp_base::{Name, Names};
@@ -75,7 +74,7 @@ impl Trusted {
 }
 
 /// The trusted module of the text, to which no policy applies and whose forms have no guards. Its local names begin
-/// with `first`, which differ. Its words are interned among the names, which stay where they are and grow, whatever is
+/// with `first`, each once. Its words are interned among the names, which stay where they are and grow, whatever is
 /// answered.
 ///
 /// # Errors
@@ -87,7 +86,6 @@ pub fn compile_trusted(
     first: &[Name],
     names: &mut Names,
 ) -> Result<Trusted, Refusal>
-    requires differ { IsDistinct same_name first.now }
     ensures program { IfOk result (λ m. IsProgram text.now
         (without_blocks (named (word_of names.new) (view_tree m.tree)))) }
     // A program is refused for want of memory alone.
@@ -95,9 +93,11 @@ pub fn compile_trusted(
         → MatchResult result (λ m. without_blocks (named (word_of names.new) (view_tree m.tree)) ≡ tree)
         (λ e. e ≡ Refusal.Memory) }
     ensures held { IfOk result (λ m. IsTreeHeld names.new (view_tree m.tree)) }
+    ensures numbers { IfOk result (λ m. HasNumbers (view_tree m.tree)) }
     ensures scopes { IfOk result (λ m. AreScopesOf m.layouts first.now (view_tree m.tree)) }
+    ensures table { IfOk result (λ m. m.layouts ≡ scopes first.now (view_tree m.tree)) }
     ensures refused { IfErr result (λ r. r ≢ Refusal.Memory → IsNoProgram text.now r) }
-    ensures names { IsGrown names.old names.new }
+    ensures names { GrowsTo names.old names.new }
     ensures words { OnOk result (names.new ≡ with_words names.old (program_words text.now)) }
 {
     let mut tree = read_text(alloc, text, names)?;

@@ -14,11 +14,11 @@ use Rattle.rp_items.specs.Items.{content_set, no_items, set_item, entry_put}
 use Rattle.rp_ops.specs.Keys.{key_named}
 use Rattle.rp_ops.specs.Outcome as plain
 use Rattle.rp_ops.specs.Walk.{Cursor}
-use Rattle.rp_ops.specs.Outcome.{ends, gives, on_value}
+use Rattle.rp_ops.specs.Outcome.{ends, gives}
 use Rattle.rp_store.specs.Cost.{cell_if_new}
 use Rattle.rp_store.specs.Heap.{content_at, entry_of}
 use Rattle.rp_store.specs.Object as object
-use Rattle.rp_store.specs.Object.{Content}
+use Rattle.rp_store.specs.Object.{Content, Entry}
 use Rattle.rp_store.specs.Writers.{pushed, with_rock}
 use Rattle.rp_store.proofs.CallerLemmas.{content_at-changed_at}
 use Rattle.rp_meaning.specs.Expressions.{Clause, dict_with, nil}
@@ -28,7 +28,7 @@ use Rattle.rp_meaning.specs.Statements.{Store}
 use Rattle.rp_more_laws.specs.Sets.{distinct_behind, equals}
 use Rattle.rp_more_laws.proofs.Going.{Holds, bind, found_held, held_at, lifted_held, step_heap, step_held, then_held}
 use Rattle.rp_more_laws.proofs.Keys.{AreKeys}
-use Rattle.rp_more_laws.proofs.Filled.{AreKeyed, Entry, IsFilled, OnOk, filled, rocks_of}
+use Rattle.rp_more_laws.proofs.Filled.{AreKeyed, IsFilled, OnOk, filled, rocks_of}
 use Rattle.rp_comprehension_laws.specs.Comprehensions.{put_key, put_last}
 use Rattle.rp_comprehension_laws.specs.Elements.{Gives, GivesFrom, Keeps, KeepsFrom, at_end, element, left_out}
 use Rattle.rp_comprehension_laws.specs.Elements.{selected, within}

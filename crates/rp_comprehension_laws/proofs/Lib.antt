@@ -5,3 +5,5 @@ pub mod Comprehensions
 pub mod Refused
 pub mod Quiet
 pub mod Reading
+pub mod Own
+pub mod Left

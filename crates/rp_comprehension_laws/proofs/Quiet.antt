@@ -17,10 +17,10 @@ use Rattle.rp_checker.specs.RowOf.{reading}
 use Rattle.rp_ops.specs.Binary.{new_text}
 use Rattle.rp_ops.specs.Operand.{truth_of}
 use Rattle.rp_ops.specs.Outcome as plain
-use Rattle.rp_ops.specs.Outcome.{End, Ending, ends, gives, on_answer, on_value, on_found}
+use Rattle.rp_ops.specs.Outcome.{End, ends, gives, on_value, on_found}
 use Rattle.rp_ops.specs.Walk as walking
 use Rattle.rp_ops.specs.Walk.{Cursor, characters_from, elements_from, keys_from, walk_of}
-use Rattle.rp_proxy.specs.Decide.{Decision, Monitor, class_at, entry_of, go, logged, outcome}
+use Rattle.rp_proxy.specs.Decide.{Decision, Monitor}
 use Rattle.rp_proxy.specs.Taken.{taken}
 use Rattle.rp_store.specs.Heap.{content_at}
 use Rattle.rp_store.specs.Object as object
@@ -31,15 +31,15 @@ use Rattle.rp_meaning.specs.Meaning.{clause, eval}
 use Rattle.rp_meaning.specs.State.{State, Outcome, choose, heap_of, makes, monitor_of, next, plainly}
 use Rattle.rp_meaning.specs.State.{with_monitor}
 use Rattle.rp_meaning.specs.Statements.{Store}
-use Rattle.rp_meaning.specs.Unmonitored.{monitored, unmonitored}
 use Rattle.rp_meaning.specs.Walks.{next_element, on_truth, walk}
+use Rattle.rp_fixed_laws.specs.Fixed.{DecidesQuietly}
 use Rattle.rp_more_laws.proofs.Going.{Holds, HoldsOf, IsMade, bind, choose_held, found_held, held_at, lifted_held}
 use Rattle.rp_more_laws.proofs.Going.{makes_held, step_held, then_held, weaker}
 use Rattle.rp_more_laws.proofs.Filled.{rocks_of}
 use Rattle.rp_comprehension_laws.specs.Comprehensions.{put_key, put_last}
 use Rattle.rp_comprehension_laws.specs.Elements.{Gives, GivesFrom, Keeps, KeepsFrom, Same, at_end, begins, element}
 use Rattle.rp_comprehension_laws.specs.Elements.{left_out, opens, passes, selected, selects, within}
-use Rattle.rp_comprehension_laws.specs.Quiet.{AllQuiet, BothMonitorsDecideQuietly, ClausesQuiet, DecidesQuietly}
+use Rattle.rp_comprehension_laws.specs.Quiet.{AllQuiet, ClausesQuiet}
 use Rattle.rp_comprehension_laws.specs.Quiet.{EachQuietListIsLeft, EachQuietSetIsLeft, IsNoScope, IsQuiet}
 use Rattle.rp_comprehension_laws.specs.Quiet.{ObjectsStay, TurnsQuiet}
 use Rattle.rp_comprehension_laws.proofs.Contents.{Entries, IsHeld, Keyed, Listed, dict_of, follows}
@@ -268,30 +268,3 @@ quiet_set block x c cs frame s u vs at g quiet =
     (held_at (opens block (clause c) (object.dict []) frame s)
     (λ r u. content_at (heap_of u) r.2 ≡ Some (object.dict []))
     (g.walked, g.scope, at) g.before (opens_held block (clause c) (object.dict []) frame s) g.opened)
-
--- ---- the monitors
-
-pub monitors : BothMonitorsDecideQuietly
-monitors run = (monitored_quiet, unmonitored_quiet) where
-  decided_so : Bool → Decision → Monitor → Monitor → Decision × Monitor
-  decided_so b d m n = if b then (Err plain.no_cell, m) else (d, n)
-
-  cell : (b : Bool) (d : Decision) (m n : Monitor) → n.store.heap ≡ m.store.heap
-      → (decided_so b d m n).1.store.heap ≡ m.store.heap
-  cell true d m n e = refl
-  cell false d m n e = e
-
-  monitored_quiet : DecidesQuietly (monitored run)
-  monitored_quiet (value.Rock r) op m = refl
-  monitored_quiet (value.Ref at) op m = refl
-  monitored_quiet (value.Prox at) op m =
-      cell (nat_lt m.store.limit (m.store.used + 1))
-      (outcome (entry_of m op (class_at m.store.heap at)).name (entry_of m op (class_at m.store.heap at)).verdict) m
-      (logged m (entry_of m op (class_at m.store.heap at))) refl
-
-  unmonitored_quiet : DecidesQuietly (unmonitored run)
-  unmonitored_quiet (value.Rock r) op m = refl
-  unmonitored_quiet (value.Ref at) op m = refl
-  unmonitored_quiet (value.Prox at) op m =
-      cell (nat_lt m.store.limit (m.store.used + 1)) go m
-      (record m { store = record m.store { used = m.store.used + 1 } }) refl

@@ -1,171 +1,85 @@
 -- What only reads, and makes new objects, changes no object but scopes.
 use Rattle.std.proofs.Common.{◌≡◌, refl, sym, ap, subst, ◌∙◌, true≢false, ℕ, zero, suc, Bool, true, false, List, []}
-use Rattle.std.proofs.Common.{◌∷◌, length, Option, Some, None, if◌then◌else◌}
-use Rattle.std.specs.Prelude.{not, zip, ◌==◌}
-use Rattle.std.specs.Map.{lookup}
-use Rattle.std.specs.Option.{option_map, option_map_or}
+use Rattle.std.proofs.Common.{◌∷◌, length, Option, Some, None}
+use Rattle.std.proofs.Common.{Result, Ok, Err}
+use Rattle.std.specs.Prelude.{◌==◌}
+use Rattle.std.specs.Option.{option_map}
 use Rattle.std.proofs.lemmas.Bool.{eq-eqb, eqb-true}
 use Rattle.rp_base.specs.Names.{word_of}
 use Rattle.rp_base.specs.declared.kind.Kind.{Kind}
 use Rattle.rp_base.specs.declared.kind.Kind.TheVariants.{NameError, UnboundLocalError}
-use Rattle.rp_base.specs.declared.operator.CmpOp.{CmpOp}
-use Rattle.rp_base.specs.declared.operator.CmpOp.TheVariants as comparison
+use Rattle.rp_base.specs.declared.operator.BinOp.{BinOp}
+use Rattle.rp_base.specs.declared.operator.BinOp.TheVariants.{Pow}
+use Rattle.rp_base.specs.declared.operator.UnOp.{UnOp}
+use Rattle.rp_base.specs.declared.value.Name.{Name}
 use Rattle.rp_base.specs.declared.value.Oid.{Oid}
-use Rattle.rp_base.specs.declared.value.Rock.{Rock}
+use Rattle.rp_base.specs.declared.value.Raised.{Raised}
 use Rattle.rp_base.specs.declared.value.Rock.TheVariants as rock
 use Rattle.rp_base.specs.declared.value.Side.{Side}
 use Rattle.rp_base.specs.declared.value.Value.{Value}
 use Rattle.rp_base.specs.declared.value.Value.TheVariants as value
-use Rattle.rp_compare.specs.Equality as equality
-use Rattle.rp_compare.specs.Equality.{all_equal, contents_equal, entry_equal, equal_by, found_equal, objects_equal}
-use Rattle.rp_compare.specs.Equality.{pair_equal, within}
-use Rattle.rp_compare.specs.Order.{compare, less, ordered}
-use Rattle.rp_ops.specs.Depth.{deepest}
+use Rattle.rp_base.specs.declared.word.TheConstants.{GET_ITEM}
+use Rattle.rp_attributes.specs.Attributes as attributes
+use Rattle.rp_compare.specs.Order.{compare}
+use Rattle.rp_items.specs.Slices as slices
+use Rattle.rp_ops.specs.Binary as binary
 use Rattle.rp_ops.specs.Outcome as plain
-use Rattle.rp_ops.specs.Outcome.{gives, on_value}
+use Rattle.rp_ops.specs.Outcome.{End, gives, on_found, on_value}
 use Rattle.rp_ops.specs.Walk.{Cursor}
 use Rattle.rp_store.specs.Heap.{Owned, changed_at, content_at}
-use Rattle.rp_store.specs.Key.{same_key}
 use Rattle.rp_store.specs.Object as object
 use Rattle.rp_store.specs.Object.{Content}
 use Rattle.rp_store.specs.Writers.{with_slot}
-use Rattle.rp_store.specs.declared.key.Key.{Key}
 use Rattle.rp_store.proofs.CallerLemmas.{content_at-changed_at, content_at-changed_other}
 use Rattle.rp_tree.specs.Expressions as tree
 use Rattle.rp_tree.specs.declared.parts.Test.{Test}
 use Rattle.rp_tree.specs.declared.parts.Test.TheVariants as test
 use Rattle.rp_meaning.specs.Expressions as expression
 use Rattle.rp_meaning.specs.Expressions.{Clause}
-use Rattle.rp_meaning.specs.Frame.{Frame, Meaning, asked_for, place_of, read_name, slot_of}
+use Rattle.rp_meaning.specs.Access.{get_slice}
+use Rattle.rp_meaning.specs.Frame.{Frame, Meaning, asked_for, got, place_of, read_name, slot_of, takes}
 use Rattle.rp_meaning.specs.Meaning as meaning
 use Rattle.rp_meaning.specs.Meaning.{clause, clauses, eval}
-use Rattle.rp_meaning.specs.Operators.{comparison_name, mirrored, tested}
+use Rattle.rp_meaning.specs.Operators.{comparison_name, left_name, mirrored, operate, operate_unary, right_name}
+use Rattle.rp_meaning.specs.Operators.{tested, unary_name}
 use Rattle.rp_meaning.specs.Scopes.{Place, Slot, bound_or, global, global_value, held, local, outer, value_at}
 use Rattle.rp_meaning.specs.Scopes.{with_slot_set}
-use Rattle.rp_meaning.specs.State.{State, Outcome, Flow, broke, choose, continued, heap_of, makes, next, on_flow}
+use Rattle.rp_meaning.specs.State.{State, Outcome, Flow, broke, choose, continued, heap_of, lifted, makes, next}
+use Rattle.rp_meaning.specs.State.{on_flow}
 use Rattle.rp_meaning.specs.State.{plainly, returned, stepped, with_change}
 use Rattle.rp_meaning.specs.Statements as statement
 use Rattle.rp_meaning.specs.Statements.{Store}
 use Rattle.rp_meaning.specs.Walks.{next_element, on_truth, walk}
-use Rattle.rp_more_laws.proofs.Going.{Holds, IsMade, choose_held, lifted_held, makes_held, step_heap, step_held}
+use Rattle.rp_fixed_laws.specs.Fixed.{DecidesQuietly, Placed}
+use Rattle.rp_fixed_laws.proofs.Objects.{attribute, slice}
+use Rattle.rp_fixed_laws.proofs.Operations.{binary_leaves, compare as compare_leaves}
+use Rattle.rp_fixed_laws.proofs.Plainly.{Leaves, There}
+use Rattle.rp_more_laws.proofs.Going.{HoldsOf, IsMade, choose_held, makes_held, step_heap, step_held}
 use Rattle.rp_more_laws.proofs.Going.{then_held, weaker}
 use Rattle.rp_comprehension_laws.specs.Elements.{inner_frame}
 use Rattle.rp_comprehension_laws.specs.Quiet.{AllQuiet, AllRead, AreOfNames, ClausesQuiet, ClausesRead}
-use Rattle.rp_comprehension_laws.specs.Quiet.{DecidesQuietly, EachReadingComprehensionIsQuiet, FormReads}
+use Rattle.rp_comprehension_laws.specs.Quiet.{DefaultsRead, EachReadingComprehensionIsQuiet, FormReads}
 use Rattle.rp_comprehension_laws.specs.Quiet.{IsNoMembership, IsNoScope, IsOfName, IsOfNames, ObjectsStay, Reads}
-use Rattle.rp_comprehension_laws.specs.Quiet.{TestsRead, TurnsQuiet, TurnsRead}
+use Rattle.rp_comprehension_laws.specs.Quiet.{MaybeReads, OpsRead, PairsRead, PlainRead, TestsRead, TrailerReads}
+use Rattle.rp_comprehension_laws.specs.Quiet.{TrailersRead, TurnsQuiet, TurnsRead}
 use Rattle.rp_comprehension_laws.proofs.Quiet.{Stay, asked_stay, further, is_quiet, next_stay, nothing_done, stay_same}
 use Rattle.rp_comprehension_laws.proofs.Quiet.{then_stay, truth_stay, walk_stay}
 
--- ---- equality
+-- ---- plain operations
 
--- no object is changed
-abbrev Kept : plain.State → plain.Outcome Bool → Type 0
-Kept p o = Holds o (λ b q. q.store.heap ≡ p.store.heap)
+-- an operation that leaves every object as it is
+plainly_stay : {A : Type 0} (o : plain.Outcome A) (s : State) → ((k : Placed) → There k s.plain → Leaves k o)
+    → Stay s (lifted o s)
+plainly_stay {A} o s h = by o.answer
+  where
+    by : (r : Result A End) → HoldsOf r (record s { plain = o.state }) (λ a u. ObjectsStay s u)
+    by (Ok a) = λ at c other is. (h (record { at = at; content = c }) is).there
+    by (Err e) = tt
 
-kept_then : (p : plain.State) (o : plain.Outcome Bool) (more : Bool → plain.State → plain.Outcome Bool) → Kept p o
-    → ((b : Bool) (q : plain.State) → Kept q (more b q)) → Kept p (on_value o more)
-kept_then p o more h rest =
-    then_held o more (λ b q. q.store.heap ≡ p.store.heap) (λ b q. q.store.heap ≡ p.store.heap) h (λ b q _ e.
-    weaker (more b q) (λ c r. r.store.heap ≡ q.store.heap) (λ c r. r.store.heap ≡ p.store.heap) (λ c r f. f ∙ e)
-    (rest b q))
-
-kept_step : (p : plain.State) (more : plain.State → plain.Outcome Bool)
-    → ((q : plain.State) → Kept q (more q)) → Kept p (plain.stepped p more)
-kept_step p more rest = by p.steps where
-  by : (n : ℕ) → Kept p (plain.stepped (record p { steps = n }) more)
-  by zero = tt
-  by (suc n) = rest (record p { steps = n })
-
-kept_if : (b : Bool) (p : plain.State) (this other : plain.Outcome Bool) → Kept p this → Kept p other
-    → Kept p (if b then this else other)
-kept_if true p this other h k = h
-kept_if false p this other h k = k
-
-all_kept : {A : Type 0} (one : A → plain.State → plain.Outcome Bool)
-    → ((x : A) (p : plain.State) → Kept p (one x p)) → (xs : List A) (p : plain.State) → Kept p (all_equal one xs p)
-all_kept one h [] p = refl
-all_kept one h (x ∷ xs) p =
-    kept_then p (one x p) (λ b s. if b then all_equal one xs s else gives false s) (h x p)
-    (λ b q. kept_if b q (all_equal one xs q) (gives false q) (all_kept one h xs q) refl)
-
-abbrev TestKept : equality.Test → Type 0
-TestKept same = (a b : Value) (p : plain.State) → Kept p (same a b p)
-
-abbrev InnerKept : Option equality.Test → Type 0
-InnerKept None = Unit {0}
-InnerKept (Some same) = TestKept same
-
-pair_kept : (same : equality.Test) → TestKept same → (pair : Value × Value) (p : plain.State)
-    → Kept p (pair_equal same pair p)
-pair_kept same h pair p = kept_step p (same pair.0 pair.1) (h pair.0 pair.1)
-
-found_kept : (same : equality.Test) → TestKept same → (v : Value) (found : Option (Rock × Value)) (p : plain.State)
-    → Kept p (found_equal same v found p)
-found_kept same h v None p = refl
-found_kept same h v (Some e) p = pair_kept same h (v, e.1) p
-
-entry_kept : (same : equality.Test) → TestKept same → (fs : List (Key × (Rock × Value))) (e : Key × (Rock × Value))
-    (p : plain.State) → Kept p (entry_equal same fs e p)
-entry_kept same h fs e p = found_kept same h e.1.1 (lookup (same_key e.0) fs) p
-
-contents_kept : (inner : Option equality.Test) → InnerKept inner → (c e : Content) (p : plain.State)
-    → Kept p (contents_equal inner c e p)
-contents_kept None h (object.list xs) (object.list ys) p = tt
-contents_kept None h (object.tuple xs) (object.tuple ys) p = tt
-contents_kept None h (object.dict es) (object.dict fs) p = tt
-contents_kept (Some same) h (object.list xs) (object.list ys) p =
-    kept_if (length xs == length ys) p (all_equal (pair_equal same) (zip xs ys) p) (gives false p)
-    (all_kept (pair_equal same) (pair_kept same h) (zip xs ys) p) refl
-contents_kept (Some same) h (object.tuple xs) (object.tuple ys) p =
-    kept_if (length xs == length ys) p (all_equal (pair_equal same) (zip xs ys) p) (gives false p)
-    (all_kept (pair_equal same) (pair_kept same h) (zip xs ys) p) refl
-contents_kept (Some same) h (object.dict es) (object.dict fs) p =
-    kept_if (length es == length fs) p (all_equal (entry_equal same fs) es p) (gives false p)
-    (all_kept (entry_equal same fs) (entry_kept same h fs) es p) refl
-contents_kept inner h c e p = refl
-
-objects_kept : (inner : Option equality.Test) → InnerKept inner → (x y : Oid) (p : plain.State)
-    → Kept p (objects_equal inner x y p)
-objects_kept inner h x y p = by (x.0 == y.0) (content_at p.store.heap x) (content_at p.store.heap y) where
-  of : Option Content → Option Content → plain.Outcome Bool
-  of c e = option_map_or (λ c. option_map_or (λ e. contents_equal inner c e p) e (gives false p)) c (gives false p)
-
-  by : (b : Bool) (c e : Option Content) → Kept p (if b then gives true p else of c e)
-  by true c e = refl
-  by false None e = refl
-  by false (Some c) None = refl
-  by false (Some c) (Some e) = contents_kept inner h c e p
-
-equal_kept : (inner : Option equality.Test) → InnerKept inner → TestKept (equal_by inner)
-equal_kept inner h (value.Rock q) (value.Rock r) p = refl
-equal_kept inner h (value.Ref x) (value.Ref y) p = objects_kept inner h x y p
-equal_kept inner h (value.Ref x) (value.Prox y) p = objects_kept inner h x y p
-equal_kept inner h (value.Prox x) (value.Ref y) p = objects_kept inner h x y p
-equal_kept inner h (value.Prox x) (value.Prox y) p = objects_kept inner h x y p
-equal_kept inner h (value.Rock q) (value.Ref y) p = refl
-equal_kept inner h (value.Rock q) (value.Prox y) p = refl
-equal_kept inner h (value.Ref x) (value.Rock r) p = refl
-equal_kept inner h (value.Prox x) (value.Rock r) p = refl
-
-inner_kept : (depth : ℕ) → InnerKept (within depth)
-unfolding within
-inner_kept zero = tt
-inner_kept (suc depth) = equal_kept (within depth) (inner_kept depth)
-
-ordered_kept : (o : Option Bool) (p : plain.State) → Kept p (ordered o p)
-ordered_kept None p = tt
-ordered_kept (Some b) p = refl
-
-compare_kept : (op : CmpOp) (a b : Value) (p : plain.State) → Kept p (compare op a b p)
-compare_kept comparison.Eq a b p = equal_kept (within deepest) (inner_kept deepest) a b p
-compare_kept comparison.Ne a b p =
-    kept_then p (equal_by (within deepest) a b p) (λ same s. gives (not same) s)
-    (equal_kept (within deepest) (inner_kept deepest) a b p) (λ b q. refl)
-compare_kept comparison.Lt a b p = ordered_kept (less a b) p
-compare_kept comparison.Gt a b p = ordered_kept (less b a) p
-compare_kept comparison.Le a b p = ordered_kept (option_map not (less b a)) p
-compare_kept comparison.Ge a b p = ordered_kept (option_map not (less a b)) p
+found_stay : {A B : Type 0} (r : Result A Raised) (s : State) (more : A → State → Outcome B)
+    → ((a : A) → Stay s (more a s)) → Stay s (on_found r s more)
+found_stay (Ok a) s more h = h a
+found_stay (Err e) s more h = tt
 
 -- ---- names
 
@@ -303,10 +217,7 @@ module _ (frame : Frame) (free : DecidesQuietly frame.run) where
       asked_stay frame free (comparison_name op) a s
       (λ s. asked_for frame (comparison_name (mirrored op)) b s (plainly (compare op a b)))
       (λ t. asked_stay frame free (comparison_name (mirrored op)) b t (plainly (compare op a b))
-      (λ u. lifted_held (compare op a b u.plain) u (λ r w. ObjectsStay u w)
-      (weaker (compare op a b u.plain) (λ r q. q.store.heap ≡ heap_of u)
-      (λ r q. ObjectsStay u (record u { plain = q })) (λ r q e. stay_same u (record u { plain = q }) e)
-      (compare_kept op a b u.plain))))
+      (λ u. plainly_stay (compare op a b u.plain) u (λ k h. compare_leaves op a b u.plain h)))
 
   tests_stay : (ts : List (Test × Meaning)) → TestsQuietly frame ts → (a : Value) (s : State)
       → Stay s (expression.tests ts a frame s)
@@ -328,6 +239,169 @@ module _ (frame : Frame) (free : DecidesQuietly frame.run) where
       → Quietly frame (expression.compare m ts)
   compared_stay m ts h i s =
       then_stay s (m frame s) (λ a s. expression.tests ts a frame s) (h s) (tests_stay ts i)
+
+  operated_stay : (o : BinOp) (a b : Value) (s : State) → Stay s (operate o a b frame s)
+  operated_stay o a b s =
+      asked_stay frame free (left_name o) a s (λ s. asked_for frame (right_name o) b s done)
+      (λ t. asked_stay frame free (right_name o) b t done
+      (λ u. then_stay u (plainly (binary.binary frame.side o a b) u) (λ v s. takes v frame s)
+      (plainly_stay (binary.binary frame.side o a b u.plain) u (λ k h. binary_leaves frame.side o a b u.plain h))
+      (λ v w. nothing_done w)))
+    where
+      done : State → Outcome Value
+      done s = on_value (plainly (binary.binary frame.side o a b) s) (λ v s. takes v frame s)
+
+  abbrev OpsQuietly : List (BinOp × Meaning) → Type 0
+  OpsQuietly [] = Unit {0}
+  OpsQuietly (o ∷ os) = Quietly frame o.1 × OpsQuietly os
+
+  operands_stay : (os : List (BinOp × Meaning)) → OpsQuietly os → (a : Value) (s : State)
+      → Stay s (expression.operands os a frame s)
+  operands_stay [] h a s = nothing_done s
+  operands_stay (o ∷ os) h a s =
+      stepped_stay s
+      (λ s. on_value (o.1 frame s)
+      (λ b s. on_value (operate o.0 a b frame s) (λ v s. expression.operands os v frame s)))
+      (λ t. then_stay t (o.1 frame t)
+      (λ b s. on_value (operate o.0 a b frame s) (λ v s. expression.operands os v frame s)) (h.0 t)
+      (λ b u. then_stay u (operate o.0 a b frame u) (λ v s. expression.operands os v frame s)
+      (operated_stay o.0 a b u) (operands_stay os h.1)))
+
+  chain_stay : (m : Meaning) (os : List (BinOp × Meaning)) → Quietly frame m → OpsQuietly os
+      → Quietly frame (expression.chain m os)
+  chain_stay m os h i s =
+      then_stay s (m frame s) (λ a s. expression.operands os a frame s) (h s) (operands_stay os i)
+
+  unary_stay : (o : UnOp) (m : Meaning) → Quietly frame m → Quietly frame (expression.unary o m)
+  unary_stay o m h s =
+      stepped_stay s (λ s. on_value (m frame s) (λ a s. operate_unary o a frame s))
+      (λ t. then_stay t (m frame t) (λ a s. operate_unary o a frame s) (h t)
+      (λ a u. asked_stay frame free (unary_name o) a u
+      (λ s. on_found (binary.int_value (binary.unary (heap_of s) o a)) s gives)
+      (λ w. found_stay (binary.int_value (binary.unary (heap_of w) o a)) w gives (λ v. nothing_done w))))
+
+  power_stay : (m n : Meaning) → Quietly frame m → Quietly frame n → Quietly frame (expression.power m n)
+  power_stay m n h i s =
+      stepped_stay s (λ s. on_value (m frame s) (λ a s. on_value (n frame s) (λ b s. operate Pow a b frame s)))
+      (λ t. then_stay t (m frame t) (λ a s. on_value (n frame s) (λ b s. operate Pow a b frame s)) (h t)
+      (λ a u. then_stay u (n frame u) (λ b s. operate Pow a b frame s) (i u) (λ b w. operated_stay Pow a b w)))
+
+  -- ---- trailers
+
+  abbrev TrailerQuietly : (Value → Meaning) → Type 0
+  TrailerQuietly t = (v : Value) (s : State) → Stay s (t v frame s)
+
+  abbrev TrailersQuietly : List (Value → Meaning) → Type 0
+  TrailersQuietly [] = Unit {0}
+  TrailersQuietly (t ∷ ts) = TrailerQuietly t × TrailersQuietly ts
+
+  trailers_stay : (ts : List (Value → Meaning)) → TrailersQuietly ts → (v : Value) (s : State)
+      → Stay s (expression.trailers ts v frame s)
+  trailers_stay [] h v s = nothing_done s
+  trailers_stay (t ∷ ts) h v s =
+      then_stay s (stepped s (t v frame)) (λ w s. expression.trailers ts w frame s)
+      (stepped_stay s (t v frame) (h.0 v)) (trailers_stay ts h.1)
+
+  primary_stay : (m : Meaning) (ts : List (Value → Meaning)) → Quietly frame m → TrailersQuietly ts
+      → Quietly frame (expression.primary m ts)
+  primary_stay m ts h i s =
+      then_stay s (m frame s) (λ v s. expression.trailers ts v frame s) (h s) (trailers_stay ts i)
+
+  attribute_stays : (n : Name) → TrailerQuietly (expression.attribute n)
+  attribute_stays n o s =
+      asked_stay frame free n o s read (λ t. then_stay t
+      (plainly (attributes.attribute frame.side o n (word_of t.names n)) t) (λ v s. got o v frame s)
+      (plainly_stay (attributes.attribute frame.side o n (word_of t.names n) t.plain) t
+      (λ k h. attribute frame.side o n (word_of t.names n) t.plain h)) (λ v u. nothing_done u))
+    where
+      read : State → Outcome Value
+      read s =
+          on_value (plainly (attributes.attribute frame.side o n (word_of s.names n)) s) (λ v s. got o v frame s)
+
+  abbrev MaybeQuietly : Option Meaning → Type 0
+  MaybeQuietly None = Unit {0}
+  MaybeQuietly (Some m) = Quietly frame m
+
+  part_stays : (m : Option Meaning) → MaybeQuietly m → Quietly frame (expression.part m)
+  part_stays None h s = nothing_done s
+  part_stays (Some m) h s = h s
+
+  sliced_stay : (o x y z : Value) (s : State) → Stay s (get_slice o x y z frame s)
+  sliced_stay o x y z s =
+      asked_stay frame free GET_ITEM o s read (λ t. then_stay t (plainly (slices.slice o x y z) t)
+      (λ v s. got o v frame s)
+      (plainly_stay (slices.slice o x y z t.plain) t (λ k h. slice o x y z t.plain h)) (λ v u. nothing_done u))
+    where
+      read : State → Outcome Value
+      read s = on_value (plainly (slices.slice o x y z) s) (λ v s. got o v frame s)
+
+  slice_stays : (a b c : Option Meaning) → MaybeQuietly a → MaybeQuietly b → MaybeQuietly c
+      → TrailerQuietly (expression.slice a b c)
+  slice_stays a b c h i j o s =
+      then_stay s (expression.part a frame s) first (part_stays a h s) (λ x t.
+      then_stay t (expression.part b frame t) (second x) (part_stays b i t) (λ y u.
+      then_stay u (expression.part c frame u) (third x y) (part_stays c j u) (λ z w. sliced_stay o x y z w)))
+    where
+      third : Value → Value → Value → State → Outcome Value
+      third x y z s = get_slice o x y z frame s
+
+      second : Value → Value → State → Outcome Value
+      second x y s = on_value (expression.part c frame s) (third x y)
+
+      first : Value → State → Outcome Value
+      first x s = on_value (expression.part b frame s) (second x)
+
+  -- ---- dicts and functions
+
+  abbrev PairsQuietly : List (Meaning × Meaning) → Type 0
+  PairsQuietly [] = Unit {0}
+  PairsQuietly (p ∷ ps) = Quietly frame p.0 × Quietly frame p.1 × PairsQuietly ps
+
+  pairs_stay : (ps : List (Meaning × Meaning)) → PairsQuietly ps → (s : State) → Stay s (expression.pairs ps frame s)
+  pairs_stay [] h s = nothing_done s
+  pairs_stay (p ∷ ps) h s =
+      then_stay s (p.0 frame s) key (h.0 s) (λ k t. then_stay t (p.1 frame t) (entry k) (h.1 t) (λ v u.
+      then_stay u (expression.pairs ps frame u) (all k v) (pairs_stay ps h.2 u) (λ kvs w. nothing_done w)))
+    where
+      all : Value → Value → List (Value × Value) → State → Outcome (List (Value × Value))
+      all k v kvs s = gives ((k, v) ∷ kvs) s
+
+      entry : Value → Value → State → Outcome (List (Value × Value))
+      entry k v s = on_value (expression.pairs ps frame s) (all k v)
+
+      key : Value → State → Outcome (List (Value × Value))
+      key k s = on_value (p.1 frame s) (entry k)
+
+  dict_stay : (ps : List (Meaning × Meaning)) → PairsQuietly ps → Quietly frame (expression.dict ps)
+  dict_stay ps h s =
+      stepped_stay s (λ s. on_value (expression.pairs ps frame s) made) (λ t.
+      then_stay t (expression.pairs ps frame t) made (pairs_stay ps h t) (λ kvs u.
+      found_stay (expression.dict_with (object.dict []) kvs) u (λ c s. expression.makes_own c frame s)
+      (λ c. made_stay c u)))
+    where
+      made : List (Value × Value) → State → Outcome Value
+      made kvs s = on_found (expression.dict_with (object.dict []) kvs) s (λ c s. expression.makes_own c frame s)
+
+  makes_stay : (c : Content) (s : State) → Stay s (makes frame.side c s)
+  makes_stay c s =
+      weaker (makes frame.side c s) (IsMade frame.side c s) (λ at u. ObjectsStay s u)
+      (λ at u made other d apart is. made.stay other d is) (makes_held frame.side c s)
+
+  function_stays : (n : Option Name) (block : ℕ) (ms : List Meaning) → AllQuietly frame ms → (s : State)
+      → Stay s (expression.makes_function n block ms frame s)
+  function_stays n block ms h s =
+      then_stay s (expression.values ms frame s) made (values_stay ms h s)
+      (λ vs t. makes_stay (object.function n frame.side block frame.scope vs) t)
+    where
+      made : List Value → State → Outcome Oid
+      made vs s = makes frame.side (object.function n frame.side block frame.scope vs) s
+
+  lambda_stays : (block : ℕ) (ms : List Meaning) → AllQuietly frame ms → Quietly frame (expression.lambda block ms)
+  lambda_stays block ms h s =
+      stepped_stay s
+      (λ s. on_value (expression.makes_function None block ms frame s) (λ at s. gives (value.Ref at) s))
+      (λ t. then_stay t (expression.makes_function None block ms frame t) (λ at s. gives (value.Ref at) s)
+      (function_stays None block ms h t) (λ at u. nothing_done u))
 
   -- ---- targets
 
@@ -419,14 +493,14 @@ module _ (frame : Frame) (free : DecidesQuietly frame.run) where
     form_reads (tree.and es) h = and_stay (meaning.exprs es) (all_read es h)
     form_reads (tree.not x) h = negated_stay (eval x) (reads x h)
     form_reads (tree.compare x ts) h = compared_stay (eval x) (meaning.tests ts) (reads x h.0) (tests_read ts h.1)
-    form_reads (tree.dict ps) h = elim h [ ]
+    form_reads (tree.dict ps) h = dict_stay (meaning.pairs ps) (pairs_read ps h)
     form_reads (tree.list_of n x cs) h = elim h [ ]
     form_reads (tree.dict_of n k x cs) h = elim h [ ]
-    form_reads (tree.lambda n ps x) h = elim h [ ]
-    form_reads (tree.chain x os) h = elim h [ ]
-    form_reads (tree.unary u x) h = elim h [ ]
-    form_reads (tree.power a b) h = elim h [ ]
-    form_reads (tree.primary x ts) h = elim h [ ]
+    form_reads (tree.lambda n ps x) h = lambda_stays n (meaning.defaults ps) (defaults_read ps h)
+    form_reads (tree.chain x os) h = chain_stay (eval x) (meaning.ops os) (reads x h.0) (ops_read os h.1)
+    form_reads (tree.unary u x) h = unary_stay u (eval x) (reads x h)
+    form_reads (tree.power a b) h = power_stay (eval a) (eval b) (reads a h.0) (reads b h.1)
+    form_reads (tree.primary x ts) h = primary_stay (eval x) (meaning.trailers ts) (reads x h.0) (trailers_read ts h.1)
 
     all_read : (es : tree.Exprs) → AllRead es → AllQuietly frame (meaning.exprs es)
     all_read tree.no_exprs h = tt
@@ -435,6 +509,38 @@ module _ (frame : Frame) (free : DecidesQuietly frame.run) where
     tests_read : (ts : tree.Tests) → TestsRead ts → TestsQuietly frame (meaning.tests ts)
     tests_read tree.no_tests h = tt
     tests_read (tree.test o x ts) h = (h.0, reads x h.1, tests_read ts h.2)
+
+    pairs_read : (ps : tree.Pairs) → PairsRead ps → PairsQuietly (meaning.pairs ps)
+    pairs_read tree.no_pairs h = tt
+    pairs_read (tree.pair k x ps) h = (reads k h.0, reads x h.1, pairs_read ps h.2)
+
+    ops_read : (os : tree.Ops) → OpsRead os → OpsQuietly (meaning.ops os)
+    ops_read tree.no_ops h = tt
+    ops_read (tree.op o x os) h = (reads x h.0, ops_read os h.1)
+
+    maybe_reads : (x : tree.Maybe) → MaybeReads x → MaybeQuietly (meaning.maybe x)
+    maybe_reads tree.none h = tt
+    maybe_reads (tree.some x) h = reads x h
+
+    defaults_read : (ps : tree.Params) → DefaultsRead ps → AllQuietly frame (meaning.defaults ps)
+    defaults_read (tree.params ps list dict) h = plain_read ps h
+
+    plain_read : (ps : tree.Plain) → PlainRead ps → AllQuietly frame (meaning.plain ps)
+    plain_read tree.no_plain h = tt
+    plain_read (tree.plain n tree.none ps) h = plain_read ps h.1
+    plain_read (tree.plain n (tree.some x) ps) h = (reads x h.0, plain_read ps h.1)
+
+    trailers_read : (ts : tree.Trailers) → TrailersRead ts → TrailersQuietly (meaning.trailers ts)
+    trailers_read tree.no_trailers h = tt
+    trailers_read (tree.trailer x ts) h = (trailer_reads x h.0, trailers_read ts h.1)
+
+    trailer_reads : (x : tree.Trailer) → TrailerReads x → TrailerQuietly (meaning.trailer x)
+    trailer_reads (tree.attr n g) h = attribute_stays n.name
+    trailer_reads (tree.item x g) h = elim h [ ]
+    trailer_reads (tree.slice a b c g) h =
+        slice_stays (meaning.maybe a) (meaning.maybe b) (meaning.maybe c) (maybe_reads a h.0) (maybe_reads b h.1)
+        (maybe_reads c h.2)
+    trailer_reads (tree.call as' g) h = elim h [ ]
 
   all_quiet : (ms : List Meaning) → AllQuietly frame ms → AllQuiet frame ms
   all_quiet [] h = tt

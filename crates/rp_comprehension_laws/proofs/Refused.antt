@@ -16,7 +16,7 @@ use Rattle.rp_items.specs.Items.{content_set, entry_put, no_items, set_item}
 use Rattle.rp_ops.specs.Keys.{entry_in, key_named}
 use Rattle.rp_ops.specs.Numbers.{refused}
 use Rattle.rp_ops.specs.Outcome as plain
-use Rattle.rp_ops.specs.Outcome.{ends, gives, on_found}
+use Rattle.rp_ops.specs.Outcome.{gives, on_found}
 use Rattle.rp_meaning.specs.Expressions.{nil}
 use Rattle.rp_meaning.specs.State.{State, Outcome, Flow, done, lifted, monitor_of, next, plainly_done}
 use Rattle.rp_meaning.specs.State.{stepped}

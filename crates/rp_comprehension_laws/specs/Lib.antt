@@ -1,3 +1,4 @@
 pub mod Elements
 pub mod Comprehensions
 pub mod Quiet
+pub mod Left

@@ -3,9 +3,7 @@
 use Rattle.std.specs.Prelude.{◌≡◌, ℕ, List, [], ◌∷◌, Some}
 use Rattle.rp_base.specs.declared.value.Oid.{Oid}
 use Rattle.rp_base.specs.declared.value.Value.{Value}
-use Rattle.rp_checker.specs.RowOf.{Operation}
 use Rattle.rp_ops.specs.Outcome.{gives}
-use Rattle.rp_proxy.specs.Decide.{Monitor}
 use Rattle.rp_store.specs.Heap.{content_at}
 use Rattle.rp_store.specs.Object as object
 use Rattle.rp_store.specs.Object.{Content}
@@ -13,20 +11,12 @@ use Rattle.rp_tree.specs.Expressions as tree
 use Rattle.rp_tree.specs.declared.parts.Test.{Test}
 use Rattle.rp_tree.specs.declared.parts.Test.TheVariants as test
 use Rattle.rp_meaning.specs.State.{State, Outcome, heap_of}
-use Rattle.rp_meaning.specs.Frame.{Frame, Meaning, Run}
+use Rattle.rp_meaning.specs.Frame.{Frame, Meaning}
 use Rattle.rp_meaning.specs.Expressions.{Clause}
 use Rattle.rp_meaning.specs.Meaning.{clause, clauses, eval}
-use Rattle.rp_meaning.specs.Unmonitored.{monitored, unmonitored}
+use Rattle.rp_fixed_laws.specs.Fixed.{DecidesQuietly}
 use Rattle.rp_comprehension_laws.specs.Comprehensions.{ListGathers, SetGathers}
 use Rattle.rp_comprehension_laws.specs.Elements.{KeepsFrom, inner_frame}
-
--- decisions change no object
-
-abbrev pub DecidesQuietly : Run → Type 0
-DecidesQuietly run = (v : Value) (op : Operation) (m : Monitor) → (run.decide v op m).1.store.heap ≡ m.store.heap
-
-abbrev pub BothMonitorsDecideQuietly : Type 0
-BothMonitorsDecideQuietly = (run : Run) → DecidesQuietly (monitored run) × DecidesQuietly (unmonitored run)
 
 -- what changes no object but scopes
 
@@ -77,8 +67,9 @@ EachQuietSetIsLeft =
     (at : Oid) (g : SetGathers block x c cs frame s vs at u) → IsQuietInside frame block g.scope x c cs
     → KeepsFrom at g.given
 
--- what only reads, and makes new objects: names, literals, displays of lists and tuples, conditional and Boolean
--- expressions, and comparisons other than membership tests
+-- what only reads, and makes new objects: names, literals, displays, conditional and Boolean expressions, arithmetic,
+-- comparisons other than membership tests, attributes, slices, and functions that are made; no special method is called
+-- for any of these
 
 abbrev pub IsNoMembership : Test → Type 0
 IsNoMembership test.Within = ⊥
@@ -96,11 +87,17 @@ abbrev mutual
   FormReads (tree.const c) = Unit {0}
   FormReads (tree.tuple es) = AllRead es
   FormReads (tree.list es) = AllRead es
+  FormReads (tree.dict ps) = PairsRead ps
+  FormReads (tree.lambda n ps x) = DefaultsRead ps
   FormReads (tree.cond x a b) = Reads x × Reads a × Reads b
   FormReads (tree.or es) = AllRead es
   FormReads (tree.and es) = AllRead es
   FormReads (tree.not x) = Reads x
   FormReads (tree.compare x ts) = Reads x × TestsRead ts
+  FormReads (tree.chain x os) = Reads x × OpsRead os
+  FormReads (tree.unary u x) = Reads x
+  FormReads (tree.power a b) = Reads a × Reads b
+  FormReads (tree.primary x ts) = Reads x × TrailersRead ts
   FormReads x = ⊥
 
   pub AllRead : tree.Exprs → Type 0
@@ -110,6 +107,36 @@ abbrev mutual
   pub TestsRead : tree.Tests → Type 0
   TestsRead tree.no_tests = Unit {0}
   TestsRead (tree.test o x ts) = IsNoMembership o × Reads x × TestsRead ts
+
+  pub PairsRead : tree.Pairs → Type 0
+  PairsRead tree.no_pairs = Unit {0}
+  PairsRead (tree.pair k x ps) = Reads k × Reads x × PairsRead ps
+
+  pub OpsRead : tree.Ops → Type 0
+  OpsRead tree.no_ops = Unit {0}
+  OpsRead (tree.op o x os) = Reads x × OpsRead os
+
+  pub MaybeReads : tree.Maybe → Type 0
+  MaybeReads tree.none = Unit {0}
+  MaybeReads (tree.some x) = Reads x
+
+  pub DefaultsRead : tree.Params → Type 0
+  DefaultsRead (tree.params ps list dict) = PlainRead ps
+
+  pub PlainRead : tree.Plain → Type 0
+  PlainRead tree.no_plain = Unit {0}
+  PlainRead (tree.plain n x ps) = MaybeReads x × PlainRead ps
+
+  pub TrailersRead : tree.Trailers → Type 0
+  TrailersRead tree.no_trailers = Unit {0}
+  TrailersRead (tree.trailer x ts) = TrailerReads x × TrailersRead ts
+
+  -- items and calls are left out, which may call what a class defines
+  pub TrailerReads : tree.Trailer → Type 0
+  TrailerReads (tree.attr n g) = Unit {0}
+  TrailerReads (tree.item x g) = ⊥
+  TrailerReads (tree.slice a b c g) = MaybeReads a × MaybeReads b × MaybeReads c
+  TrailerReads (tree.call as' g) = ⊥
 
 -- a name, or a group of such targets
 abbrev mutual

@@ -2,7 +2,7 @@
 use Rattle.std.proofs.Common.{◌≡◌, ◌∙◌, refl, ap, ℕ, List, [], ◌∷◌, ◌++◌, map, flat_map}
 use Rattle.std.proofs.lemmas.List.Concat.{flat_map_single}
 use Rattle.rp_base.specs.Names.{with_word, with_words}
-use Rattle.rp_base.proofs.Words.{with_words-then}
+use Rattle.rp_base.proofs.CallerLemmas.{with_words-then}
 use Rattle.rp_decl.specs.Consistency.{likes}
 use Rattle.rp_decl.specs.DeclaredWords.{class_words, declared_words, object_words}
 use Rattle.rp_decl.specs.Records.{Class, Declarations, Object}

@@ -11,7 +11,9 @@ pub mod Named
 pub mod Growth
 pub mod Interned
 pub mod Fields
+pub mod FirstNoted
 pub mod Shown
 pub mod Checked
 pub mod Placed
-pub mod Jumps
+pub mod RingWalks
+pub mod RingLinks

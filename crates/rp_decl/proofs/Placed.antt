@@ -1,5 +1,5 @@
 -- The program's records, where each is shown.
-use Rattle.std.proofs.Common.{◌≡◌, ℕ, List, [], ◌∷◌, map, length, codes, refl, sym, ap, subst, ◌∙◌}
+use Rattle.std.proofs.Common.{◌≡◌, ℕ, List, [], map, length, codes, refl, sym, ap, subst, ◌∙◌}
 use Rattle.std.specs.List.{All}
 use Rattle.std.proofs.lemmas.List.{length-map}
 use Rattle.toml.specs.Data.{Members}
@@ -12,6 +12,7 @@ use Rattle.rp_decl.specs.View.{Placed, class_view, declarations_view, group_ids 
 use Rattle.rp_decl.specs.declared.known_ids.Known.{Known}
 use Rattle.rp_decl.proofs.Growth.{Shows-All, Shows-values, Shows-view}
 use Rattle.rp_decl.proofs.Shown.{keys-at, names-shown}
+use Rattle.rp_base.proofs.CallerLemmas.{map-through}
 
 pub record IsShown (names : List (List ℕ)) (known : Known) (p : Placed) (d : Declarations) : Type 0 where
   pub permissions : p.permissions ≡ d.permissions
@@ -22,10 +23,6 @@ pub record IsShown (names : List (List ℕ)) (known : Known) (p : Placed) (d : D
   pub groups : Shows (ShowsGroup known) p.groups d.groups []
   pub principals : Shows (ShowsPrincipal known) p.principals d.principals []
   pub objects : Shows (ShowsObject names) p.objects d.objects []
-
-map_through : {A B C : Type 0} (f : A → B) (g : B → C) (xs : List A) → map g (map f xs) ≡ map (λ x. g (f x)) xs
-map_through f g [] = refl
-map_through f g (x ∷ xs) = ap (λ rest. g (f x) ∷ rest) (map_through f g xs)
 
 module _ (names : List (List ℕ)) (known : Known) (p : Placed) (d : Declarations) (by : IsKnownBy known d) (shown : IsShown names known p d) where
   permissions_are : p.permissions ≡ known.permissions
@@ -38,10 +35,10 @@ module _ (names : List (List ℕ)) (known : Known) (p : Placed) (d : Declaration
   groups_are = Shows-view (ShowsGroup known) (group_view known.permissions known.roles) (λ x y s. s.shown) p.groups d.groups shown.groups
 
   role_ids_are : role_ids_placed p ≡ known.roles
-  role_ids_are = sym (map_through (role_view known.permissions) (λ r. r.id) p.roles) ∙ ap (map (λ r. r.id)) roles_are ∙ sym by.roles
+  role_ids_are = sym (map-through (role_view known.permissions) (λ r. r.id) p.roles) ∙ ap (map (λ r. r.id)) roles_are ∙ sym by.roles
 
   group_ids_are : group_ids_placed p ≡ known.groups
-  group_ids_are = sym (map_through (group_view known.permissions known.roles) (λ g. g.id) p.groups) ∙ ap (map (λ g. g.id)) groups_are ∙ sym by.groups
+  group_ids_are = sym (map-through (group_view known.permissions known.roles) (λ g. g.id) p.groups) ∙ ap (map (λ g. g.id)) groups_are ∙ sym by.groups
 
   pub shown-view : declarations_view names p ≡ d
   shown-view =

@@ -1,7 +1,6 @@
 -- The place of a text among texts that ascend, and what a binary search finds there.
 use Rattle.std.proofs.Common.{◌≡◌, ℕ, zero, suc, ◌<◌, Bool, true, false, List, [], ◌∷◌, length, get_or, Option, Some, None, option_map, Result, Ok, Err, Ordering, Less, Equal, Greater, encode_utf8_all, is_eq, is_lt, if◌then◌else◌, inl, inr, add-one, eq-eqb, ◌==◌, refl, sym, ap, ◌∙◌, arith}
 use Rattle.std.specs.Cmp.Lexicographic.{texts_ties}
-use Rattle.std.specs.List.{AllByRecursion}
 use Rattle.std.specs.List.Sorted.{IsStrictlySortedBy, IsBinarySearchResult, IsSearchInRange, IsSortedBy}
 use Rattle.std.specs.Result.{result_ok}
 use Rattle.std.proofs.lemmas.Bool.{cases_lt, true≢false}
@@ -9,7 +8,7 @@ use Rattle.std.proofs.lemmas.Cmp.{alike_right, tied_back, tied_itself}
 use Rattle.std.proofs.lemmas.List.Sorted.{searchable_from_sorted}
 use Rattle.std.specs.Option.{option_map_or}
 use Rattle.std.proofs.lemmas.Bool.Decides.{nat_tests}
-use Rattle.rp_base.proofs.Words.{same_text-equal, same_text-refl}
+use Rattle.rp_base.proofs.CallerLemmas.{AllByRecursion-at, same_text-equal, same_text-refl}
 use Rattle.rp_base.specs.Same.{same_text}
 use Rattle.rp_decl.specs.InOrder.{AreAscending}
 use Rattle.rp_decl.specs.Order.{text_cmp, place_of}
@@ -17,11 +16,6 @@ use Rattle.rp_decl.proofs.Orders.{text_cmp_total}
 
 pub same_text-tie : (x y : List ℕ) → same_text x y ≡ is_eq (text_cmp x y)
 same_text-tie x y = texts_ties (encode_utf8_all x) (encode_utf8_all y)
-
-at_recursion : {X : Type 0} (P : X → Type 0) (xs : List X) (i : ℕ) (d : X) → AllByRecursion P xs → i < length xs → P (get_or xs i d)
-at_recursion P [] i d all h = absurd (omega arith)
-at_recursion P (x ∷ xs) zero d all h = all.0
-at_recursion P (x ∷ xs) (suc i) d all h = at_recursion P xs i d all.1 (omega arith)
 
 pub place_of-at : (xs : List (List ℕ)) → AreAscending xs → (text : List ℕ) (i : ℕ) → i < length xs → text_cmp (get_or xs i []) text ≡ Equal → place_of xs text ≡ Some i
 unfolding IsStrictlySortedBy
@@ -31,7 +25,7 @@ place_of-at (x ∷ xs) up text zero h e =
     rw same refl
 place_of-at (x ∷ xs) up text (suc i) h e =
     let y = get_or xs i [] in
-    let below : text_cmp x y ≡ Less = at_recursion (λ y. text_cmp x y ≡ Less) xs i [] up.0 (omega arith) in
+    let below : text_cmp x y ≡ Less = AllByRecursion-at (λ y. text_cmp x y ≡ Less) xs i [] up.0 (omega arith) in
     let under : text_cmp x text ≡ Less = sym (alike_right text_cmp_total y text x e) ∙ below in
     let over : text_cmp text x ≡ Greater = rw (text_cmp_total.antisymm text x, under) refl in
     let other : same_text text x ≡ false = same_text-tie text x ∙ ap is_eq over in
@@ -56,7 +50,7 @@ IsSortedBy-ascending : (xs : List (List ℕ)) → AreAscending xs → IsSortedBy
 unfolding IsStrictlySortedBy
 IsSortedBy-ascending [] up k d low h = absurd (omega arith)
 IsSortedBy-ascending (x ∷ xs) up zero d low h =
-    let below : text_cmp x (get_or xs 0 d) ≡ Less = at_recursion (λ y. text_cmp x y ≡ Less) xs 0 d up.0 (omega arith) in
+    let below : text_cmp x (get_or xs 0 d) ≡ Less = AllByRecursion-at (λ y. text_cmp x y ≡ Less) xs 0 d up.0 (omega arith) in
     rw (text_cmp_total.antisymm (get_or xs 0 d) x, below) refl
 IsSortedBy-ascending (x ∷ xs) up (suc k) d low h =
     let rest = IsSortedBy-ascending xs up.1 k d (omega arith) (omega arith) in rw add-one (rw add-one at rest)

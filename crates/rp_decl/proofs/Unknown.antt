@@ -1,15 +1,12 @@
 -- What is named and not known, of lists that are joined.
-use Rattle.std.proofs.Common.{◌≡◌, ℕ, Bool, true, false, not, ◌||◌, cond, suc, List, [], ◌∷◌, ◌++◌, Option, Some, None, is_some, option_map, refl, sym, ap, ◌∙◌}
+use Rattle.std.proofs.Common.{◌≡◌, ℕ, Bool, true, false, not, ◌||◌, cond, suc, List, [], ◌∷◌, ◌++◌, Option, Some, is_some, option_map, refl, sym, ap, ◌∙◌}
 use Rattle.std.proofs.lemmas.List.Elements.{filter-append}
 use Rattle.rp_base.specs.Same.{same_text}
 use Rattle.rp_decl.specs.Consistency.{unknown}
 use Rattle.rp_decl.specs.Order.{least, lesser_of, place_of}
 use Rattle.rp_decl.specs.Word.{is_among}
 use Rattle.rp_decl.proofs.Orders.{least-append, least-step}
-
-is_some-option_map : {A B : Type 0} (f : A → B) (o : Option A) → is_some (option_map f o) ≡ is_some o
-is_some-option_map f None = refl
-is_some-option_map f (Some x) = refl
+use Rattle.rp_base.proofs.CallerLemmas.{is_some-option_map}
 
 pub is_among-place_of : (known : List (List ℕ)) (text : List ℕ) → is_among known text ≡ is_some (place_of known text)
 is_among-place_of [] text = refl

@@ -1,6 +1,6 @@
 -- Ids, keywords and names, by their bytes and by their characters.
-use Rattle.std.proofs.Common.{◌≡◌, ℕ, ◌<◌, Bool, true, false, not, ◌&&◌, ◌||◌, List, [], ◌∷◌, length, nat_lt, nat_le, nat_eq, chars, encode_utf8_all, IsUtf8, Option, Some, None, if◌then◌else◌, arith, refl, sym, ap, ◌∙◌}
-use Rattle.std.specs.Cmp.Lexicographic.{pointwise, bytes_decides}
+use Rattle.std.proofs.Common.{◌≡◌, ℕ, ◌<◌, Bool, true, false, not, ◌&&◌, ◌||◌, List, [], ◌∷◌, length, nat_lt, nat_le, chars, encode_utf8_all, IsUtf8, Option, Some, None, if◌then◌else◌, arith, refl, sym, ap, ◌∙◌}
+use Rattle.std.specs.Cmp.Lexicographic.{bytes_decides}
 use Rattle.std.specs.List.{list_all}
 use Rattle.std.specs.Str.{IsAscii}
 use Rattle.std.proofs.lemmas.Bool.{and_parts, and_right, true≢false}
@@ -8,9 +8,9 @@ use Rattle.std.proofs.lemmas.Bool.Decides.{nat_tests}
 use Rattle.std.proofs.lemmas.Str.{chars-IsAscii, encodes-IsAscii, encodes-chars}
 use Rattle.std.proofs.lemmas.Str.Ascii.{IsAscii-nil, IsAscii-cons}
 use Rattle.unicode_normalization.specs.Forms.{nfkc, Nfkc, is_in_form}
-use Rattle.rp_base.proofs.Words.{same_text-equal, same_text-refl}
+use Rattle.rp_base.proofs.CallerLemmas.{is_keyword-chars, pointwise-chars, same_text-equal, same_text-refl}
 use Rattle.rp_base.specs.Identifier.{IsIdentifier, identifier_of, is_identifier, is_identifier_word, longest_name}
-use Rattle.rp_base.specs.Keyword.{keywords, is_keyword}
+use Rattle.rp_base.specs.Keyword.{is_keyword}
 use Rattle.rp_base.specs.Same.{same_text}
 use Rattle.rp_decl.specs.Word.{is_id, is_id_character, is_form_of, is_declared_name, is_word_of}
 
@@ -39,18 +39,6 @@ is_id-by false false word text h g = and_right _ _ h ∙ sym (and_right _ _ g)
 pub is_id-chars : (word : List ℕ) → IsUtf8 word → is_id word ≡ is_id (chars word)
 is_id-chars word text = is_id-by (list_all is_id_character word) (list_all is_id_character (chars word)) word text refl refl
 
-pub same_bool : (a b : Bool) → (a ≡ true → b ≡ true) → (b ≡ true → a ≡ true) → a ≡ b
-same_bool true b f g = sym (f refl)
-same_bool false true f g = g refl
-same_bool false false f g = refl
-
--- a word is one of ASCII by its bytes, and so by its characters
-keyword-chars : (k word : List ℕ) → IsAscii k → IsUtf8 word → pointwise nat_eq k word ≡ pointwise nat_eq k (chars word)
-keyword-chars k word ascii text =
-    same_bool _ _
-    (λ h. let same : k ≡ word = (bytes_decides k word).0 h in (bytes_decides k (chars word)).1 (sym (chars-IsAscii k ascii) ∙ ap chars same))
-    (λ h. let same : k ≡ chars word = (bytes_decides k (chars word)).0 h in (bytes_decides k word).1 (sym (encodes-IsAscii k ascii) ∙ (ap encode_utf8_all same ∙ encodes-chars word text)))
-
 abbrev pub is_ascii : List ℕ → Bool
 is_ascii = list_all (λ c. nat_lt c 128)
 
@@ -61,10 +49,7 @@ pub is_word_of-chars : (ks : List (List ℕ)) (word : List ℕ) → list_all is_
 is_word_of-chars [] word h text = refl
 is_word_of-chars (k ∷ ks) word h text =
     let (here, more) = and_parts (is_ascii k) (list_all is_ascii ks) h in
-    λ i. keyword-chars k word (IsAscii-is_ascii k here) text i || is_word_of-chars ks word more text i
-
-pub is_keyword-chars : (word : List ℕ) → IsUtf8 word → is_keyword word ≡ is_keyword (chars word)
-is_keyword-chars word text = is_word_of-chars keywords word refl text
+    λ i. pointwise-chars k word (IsAscii-is_ascii k here) text i || is_word_of-chars ks word more text i
 
 form-by : (same : Bool) (word : List ℕ) → is_in_form Nfkc word ≡ same
     → is_form_of word (identifier_of word) ≡ ((is_identifier word && nat_le (length (encode_utf8_all word)) longest_name) && same)

@@ -4,6 +4,7 @@ pub mod Declares
 pub mod DeclaredWords
 pub mod Document
 pub mod Faults
+pub mod FirstPlaces
 pub mod InOrder
 pub mod Naming
 pub mod Order
@@ -11,6 +12,7 @@ pub mod Places
 pub mod Reading
 pub mod Records
 pub mod Ring
+pub mod RingSteps
 pub mod Shape
 pub mod View
 pub mod Test

@@ -1,7 +1,8 @@
 -- The places in the records are those of something.
-use Rattle.std.specs.Prelude.{◌≡◌, ℕ, ◌<◌, List, ◌++◌, length}
+use Rattle.std.specs.Prelude.{ℕ, ◌<◌, List, length}
 use Rattle.std.specs.List.{All}
 use Rattle.std.specs.Option.{IfSome}
+pub use Rattle.rp_base.specs.Names.{GrowsTo}
 use Rattle.rp_base.specs.declared.value.Name.{Name}
 use Rattle.rp_decl.specs.declared.records.Perm.{Perm}
 use Rattle.rp_decl.specs.declared.records.ClassDecl.{ClassDecl}
@@ -67,7 +68,3 @@ pub record IsHeldBy (names : List (List ℕ)) (d : Placed) : Type 0 where
   pub expose : All (IsHeld names) d.expose
   pub classes : All (IsClassHeld names) d.classes
   pub objects : All (IsObjectHeld names) d.objects
-
--- the names with others behind them, so that each keeps its place
-abbrev pub GrowsTo : List (List ℕ) → List (List ℕ) → Type 0
-GrowsTo old new = (more : List (List ℕ)) × (new ≡ old ++ more)

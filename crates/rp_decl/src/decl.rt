@@ -1,6 +1,7 @@
 //! The records of a declaration file, whole.
 
 use crate::consistency::text_member;
+use crate::exposed::Exposed;
 use crate::known_ids::Known;
 use crate::reading::{names_at, records_at};
 use crate::records::{ClassDecl, GroupDecl, ObjectDecl, PrincipalDecl, RoleDecl};
@@ -12,16 +13,31 @@ use toml::Table;
 /// What a declaration file says. Permissions, classes, roles, groups, principals and objects stand in
 /// byte order of their ids and names, each once. Each place of a permission, role or group in it is
 /// that of a declared one.
-#[derive(Drop)]
 pub struct Decl {
     permissions: Vec<Text>,
-    expose: Vec<Name>,
+    expose: Exposed,
     module_text: Text,
     classes: Vec<ClassDecl>,
     roles: Vec<RoleDecl>,
     groups: Vec<GroupDecl>,
     principals: Vec<PrincipalDecl>,
     objects: Vec<ObjectDecl>,
+}
+
+// By hand, so that crates that drop one do not prove again how its parts are dropped.
+impl Drop for Decl {
+    fn drop(self) {
+        let Decl {
+            permissions: _,
+            expose: _,
+            module_text: _,
+            classes: _,
+            roles: _,
+            groups: _,
+            principals: _,
+            objects: _,
+        } = self;
+    }
 }
 
 impl Model for Decl {
@@ -36,7 +52,7 @@ impl Model for Decl {
 
     ghost view = { λ d. record {
       permissions = d.permissions.items;
-      expose = d.expose.items;
+      expose = d.expose;
       module_text = d.module_text;
       classes = d.classes.items;
       roles = d.roles.items;
@@ -47,7 +63,7 @@ impl Model for Decl {
 
     ghost invariant = { λ d. IsClosed (record {
       permissions = d.permissions.items;
-      expose = d.expose.items;
+      expose = d.expose;
       module_text = d.module_text;
       classes = d.classes.items;
       roles = d.roles.items;
@@ -58,7 +74,7 @@ impl Model for Decl {
 }
 
 impl Decl {
-    ghost use Rattle.std.specs.Prelude.{◌≡◌, All, IfOk, length};
+    ghost use Rattle.std.specs.Prelude.{◌≡◌, All, IfOk, length, nat_eq, position};
     ghost use Rattle.rp_base.specs.Names.{with_words};
     ghost use Rattle.toml.specs.View.{table_view};
     ghost use Rattle.rp_decl.specs.DeclaredWords.{declared_words};
@@ -86,6 +102,7 @@ impl Decl {
         ensures grown { GrowsTo names.old names.new }
     {
         let expose = names_at(alloc, names, document, "expose")?;
+        let exposed = Exposed::new(alloc, expose, names.len())?;
         let module_text = Text::new(alloc, text_member(document, "module"))?;
         let classes = records_at(alloc, names, &known, document, "class")?;
         let roles = records_at(alloc, names, &known, document, "role")?;
@@ -95,7 +112,7 @@ impl Decl {
         let permissions = known.into_permissions();
         Ok(Decl {
             permissions,
-            expose,
+            expose: exposed,
             module_text,
             classes,
             roles,
@@ -116,7 +133,14 @@ impl Decl {
     pub fn expose(&self) -> &[Name]
         ensures { result.now ≡ self.now.expose }
     {
-        self.expose.as_slice()
+        self.expose.names()
+    }
+
+    /// The first place of a name among those that scripts may use, by one look-up.
+    pub fn exposed_place(&self, name: Name) -> Option<usize>
+        ensures { result ≡ position (λ other. nat_eq name.0 other.0) self.now.expose }
+    {
+        self.expose.place(name)
     }
 
     /// The text of the trusted module, empty where there is none.

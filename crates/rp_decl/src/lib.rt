@@ -4,6 +4,7 @@
 mod consistency;
 mod decl;
 mod document;
+mod exposed;
 mod fault;
 mod field;
 mod known_ids;
@@ -23,6 +24,9 @@ mod text_set;
 mod word;
 
 pub use decl::Decl;
+// A crate can name the declarations in a contract only if the types of their fields are exported.
+#[doc(hidden)]
+pub use exposed::Exposed;
 pub use fault::{DeclFault, fault_line};
 pub use read::declarations;
 pub use records::{ClassDecl, Field, GroupDecl, ObjectDecl, Perm, PrincipalDecl, RoleDecl};

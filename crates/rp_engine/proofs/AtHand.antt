@@ -23,9 +23,9 @@ pub top_fit : (units : Units) (a : Activation) (vs : List Value) (w : World) →
 top_fit units a vs w h = fit_top w.store.heap a.side vs h.fit
 
 pub below_ready : (units : Units) (a : Activation) (vs : List Value) (w : World) → IsReady units a vs w → IsReady units a (below vs) w
-below_ready units a vs w h = record { faithful = h.faithful; block = h.block; scope = h.scope; fit = fit_below w.store.heap a.side vs h.fit; indexed = h.indexed }
+below_ready units a vs w h = record { faithful = h.faithful; scope = h.scope; fit = fit_below w.store.heap a.side vs h.fit; indexed = h.indexed }
 
 pub ruleset at_hand = (top_fit, below_ready)
 
 pub drop_ready : (units : Units) (a : Activation) (n : ℕ) (vs : List Value) (w : World) → IsReady units a vs w → IsReady units a (drop n vs) w
-drop_ready units a n vs w h = record { faithful = h.faithful; block = h.block; scope = h.scope; fit = All-drop (IsFit w.store.heap a.side) n vs h.fit; indexed = h.indexed }
+drop_ready units a n vs w h = record { faithful = h.faithful; scope = h.scope; fit = All-drop (IsFit w.store.heap a.side) n vs h.fit; indexed = h.indexed }

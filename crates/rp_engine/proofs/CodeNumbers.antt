@@ -1,17 +1,15 @@
 -- The functions of a tree stand under the numbers of its code blocks, so a table of as many places as there are code blocks has them all.
-use Rattle.std.proofs.Common.{◌≡◌, ◌⊎◌, false, inl, inr, ◌<◌, ◌≤◌, ◌+◌, ℕ, zero, suc, List, [], ◌∷◌, ◌++◌, length, cond, get_or, nat_eq, Bool, Option, Some, None, refl, sym, ap, ◌∙◌, subst, arith}
+use Rattle.std.proofs.Common.{◌≡◌, ◌⊎◌, false, inl, inr, ◌<◌, ◌≤◌, ◌+◌, ℕ, zero, suc, List, [], ◌∷◌, ◌++◌, length, cond, nat_eq, Option, Some, None, refl, sym, ap, ◌∙◌, subst, arith}
 use Rattle.std.specs.Prelude.{option_map}
 use Rattle.std.specs.List.{range_with_len}
 use Rattle.std.specs.Map.{lookup}
 use Rattle.std.proofs.lemmas.Bool.{cases_lt, ne_eqb}
 use Rattle.std.proofs.lemmas.List.{get_or_past}
-use Rattle.rp_base.specs.declared.value.Name.{Name}
 use Rattle.rp_codes.specs.CodeSteps.{shown}
 use Rattle.rp_codes.specs.Codes.{code_view}
 use Rattle.rp_meaning.specs.Blocks.{Code, Codes, code_in, of_arg, of_args, of_branches, of_clause, of_clauses, of_except, of_excepts, of_expr, of_exprs, of_form, of_maybe, of_maybe_stmts, of_ops, of_option, of_pairs, of_params, of_place, of_places, of_plain, of_stmt, of_stmt_form, of_stmts, of_target, of_targets, of_tests, of_trailer, of_trailers, of_walk}
 use Rattle.rp_scope.specs.Numbers as numbers
 use Rattle.rp_scope.specs.Numbers.{HasNumbers, block_count}
-use Rattle.rp_scope.specs.Scopes.{AreScopesOf}
 use Rattle.rp_engine.specs.Codes.{IsIndexed}
 use Rattle.rp_engine.specs.declared.units.Program.{Program}
 use Rattle.rp_tree.specs.Expressions as tree
@@ -231,15 +229,11 @@ code_beyond x n has past =
     ((stmts_under x).within (suc (block_count x)) (subst (Below (suc (block_count x))) (sym has) (range_below 1 (block_count x) (suc (block_count x)) (omega arith)))) past
 
 -- the table of a program's functions
-pub program_indexed : (p : Program) (first : List Name) → HasNumbers (view_tree p.tree.now) → AreScopesOf p.layouts first (view_tree p.tree.now) → length p.codes ≡ length p.layouts
+pub program_indexed : (p : Program) → HasNumbers (view_tree p.tree.now) → length p.layouts ≡ suc (block_count (view_tree p.tree.now)) → length p.codes ≡ length p.layouts
     → ((n : ℕ) → n < length p.layouts → shown p.codes n ≡ code_in (of_stmts (view_tree p.tree.now)) n) → IsIndexed p
-program_indexed p first has laid size codes = record { code = λ n. by n (cases_lt n (length p.layouts)); blocks = size } where
+program_indexed p has blocks size codes = record { code = λ n. by n (cases_lt n (length p.layouts)); blocks = size } where
   by : (n : ℕ) → (n < length p.layouts) ⊎ (length p.layouts ≤ n) → shown p.codes n ≡ code_in (of_stmts (view_tree p.tree.now)) n
   by n (inl within) = codes n within
   by n (inr past) =
       ap (option_map code_view) (get_or_past p.codes n None (omega (arith, size, past)))
-      ∙ sym (code_beyond (view_tree p.tree.now) n has (omega (arith, laid.blocks, past)))
-
--- and it has the program's own code block
-pub program_block : (p : Program) (first : List Name) → AreScopesOf p.layouts first (view_tree p.tree.now) → 0 < length p.layouts
-program_block p first laid = omega (arith, laid.blocks)
+      ∙ sym (code_beyond (view_tree p.tree.now) n has (omega (arith, blocks, past)))

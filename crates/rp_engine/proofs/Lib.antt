@@ -1,5 +1,7 @@
 pub mod Answering
 pub mod AtHand
+mod Beyond
+pub mod CodeCalls
 pub mod CodeNumbers
 pub mod Doings
 pub mod Equations
@@ -10,8 +12,10 @@ pub mod Going
 pub mod Lasts
 pub mod Moves
 pub mod Namings
-pub mod Occupants
+pub mod NoItems
 pub mod Passing
 pub mod Slots
+pub mod SpecialMoves
+pub mod Specials
 pub mod Unbinding
 pub mod Worlds

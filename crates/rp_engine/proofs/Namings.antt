@@ -1,6 +1,6 @@
 -- A world stays faithful where a display is made, which is fit for its side.
-use Rattle.std.proofs.Common.{◌≡◌, ℕ, ◌+◌, Bool, true, false, List, [], ◌∷◌, ◌++◌, Some, Result, Ok, Err, refl, sym, ap, subst, if◌then◌else◌, length}
-use Rattle.std.specs.Prelude.{slice_get, nat_lt, IfOk, OnOk, OnErr}
+use Rattle.std.proofs.Common.{◌≡◌, ℕ, ◌+◌, Bool, true, false, List, Some, Result, Ok, Err, refl, sym, ap, subst, if◌then◌else◌, length}
+use Rattle.std.specs.Prelude.{nat_lt, IfOk, OnOk, OnErr}
 use Rattle.std.specs.Option.{option_map}
 use Rattle.std.proofs.lemmas.List.Elements.{All-weaker}
 use Rattle.rp_base.specs.declared.value.Oid.{Oid}
@@ -28,6 +28,7 @@ use Rattle.rp_store.specs.Store.{Cells, made}
 use Rattle.rp_access.proofs.Coupled.{display_held}
 use Rattle.rp_access.proofs.Namings.{more_named, same_heap_faithful}
 use Rattle.rp_engine.specs.DisplaySteps.{displayed}
+use Rattle.rp_store.proofs.CallerLemmas.{slice_get-last}
 
 ok_same : (x : Result Content Raised) (a c : Content) → x ≡ Ok a → x ≡ Ok c → a ≡ c
 ok_same x a c this is = cc
@@ -61,10 +62,6 @@ display_faithful w store (Ok v) side d vs c fit are is same h =
 display_faithful w store (Err e) side d vs c fit are is same h = same_heap_faithful w store (ap (λ (s : Cells). s.heap) same) h
 
 -- a new object is fit for its side
-last_owned : (heap : List Owned) (o : Owned) → slice_get (heap ++ o ∷ []) (length heap) ≡ Some o
-last_owned [] o = refl
-last_owned (x ∷ xs) o = last_owned xs o
-
 new_is : (over : Bool) (v : Value) (s t x : plain.State) → on_value (if over then ends no_cell s else gives (record { 0 = length s.store.heap }) x) (λ (at : Oid) s. gives (value.Ref at) s) ≡ gives v t
     → v ≡ value.Ref (record { 0 = length s.store.heap })
 new_is true v s t x e = let a : Err no_cell ≡ Ok v = ap (λ (o : plain.Outcome Value). o.answer) e in absurd (cc)
@@ -77,6 +74,6 @@ new_fit (Ok v) side c old new is same sound =
       sound,
       subst (IsSafe new.heap side) (sym place)
           (λ _. subst (λ (cells : Cells). owner_at cells.heap (record { 0 = length old.heap }) ≡ Some side) (sym same)
-          (ap (option_map (λ (o : Owned). o.owner)) (last_owned old.heap (record { owner = side; content = c })))),
+          (ap (option_map (λ (o : Owned). o.owner)) (slice_get-last old.heap (record { owner = side; content = c })))),
     )
 new_fit (Err e) side c old new is same sound = tt

@@ -60,7 +60,11 @@ module _ (f : Frame) (vs : List Value) where
   expr_cut (expr.StarArgument n as' ts) e s = refl
   expr_cut (expr.NamedArgument n k name as' ts) e s = refl
   expr_cut (expr.StarsArgument n k as' ts) e s = refl
+  expr_cut (expr.LaterArgument n k as' ts) e s = refl
+  expr_cut (expr.LaterStar n k as' ts) e s = refl
   expr_cut (expr.Default name block n ps) e s = refl
+  expr_cut (expr.Contained t ts) e s = ap (λ vs. gave f vs (ends e s)) (below_drop vs)
+  expr_cut (expr.Length ts) e s = refl
 
   pub stmt_cut : (t : StmtTask) (e : End) (s : State) → after (task.Stmt t) (gave f vs (ends e s)) ≡ did f (drop (stmt_with t) vs) (ends e s)
   stmt_cut stmt.Evaluate e s = refl
@@ -82,6 +86,7 @@ module _ (f : Frame) (vs : List Value) where
   stmt_cut (stmt.AugmentedAttr n op) e s = ap (λ vs. did f vs (ends e s)) (below_twice vs)
   stmt_cut (stmt.AugmentItem k op x) e s = refl
   stmt_cut (stmt.AugmentKey op x) e s = ap (λ vs. did f vs (ends e s)) (below_drop vs)
+  stmt_cut (stmt.AugmentGot op x) e s = ap (λ vs. did f vs (ends e s)) (below_twice vs)
   stmt_cut (stmt.AugmentedItem op) e s = ap (λ vs. did f vs (ends e s)) (below_thrice vs)
   stmt_cut (stmt.Unpack t) e s = refl
   stmt_cut (stmt.Handler h hs) e s = ap (λ vs. did f vs (ends e s)) (below_drop vs)
@@ -123,7 +128,7 @@ module _ (m n : Machine) (k : ℕ) (is : n ≡ record m { values = drop k m.valu
   pub ready_forgot : (w : World) → IsReady m.units.now m.frame m.values w → IsReady n.units.now n.frame n.values w
   ready_forgot w h = subst (λ (z : Machine). IsReady z.units.now z.frame z.values w) (sym is) (drop_ready m.units.now m.frame k m.values w h)
 
-below_dropped : (n : ℕ) (vs : List Value) → below (drop n vs) ≡ drop (suc n) vs
+pub below_dropped : (n : ℕ) (vs : List Value) → below (drop n vs) ≡ drop (suc n) vs
 below_dropped n [] = ap below (drop-nil n)
 below_dropped zero (v ∷ vs) = refl
 below_dropped (suc n) (v ∷ vs) = below_dropped n vs

@@ -5,7 +5,7 @@ use Rattle.rp_frame.specs.declared.activation.Activation.{Activation}
 use Rattle.rp_proxy.specs.Faithful.{IsFaithful}
 use Rattle.rp_proxy.specs.declared.world.World.{World}
 use Rattle.rp_store.specs.Kept.{AreFit, IsScopeOf}
-use Rattle.rp_store.proofs.Shapes.{KeepsShape-same}
+use Rattle.rp_store.proofs.CallerLemmas.{KeepsShape-same}
 use Rattle.rp_store.specs.Shape.{KeepsShape}
 use Rattle.rp_store.specs.Store.{Cells}
 use Rattle.rp_engine.specs.Ready.{IsReady}
@@ -15,7 +15,6 @@ use Rattle.rp_engine.specs.declared.units.Units.{Units}
 pub IsReady-goes : (units : Units) (a : Activation) (vs : List Value) (w v : World) → IsReady units a vs w → KeepsShape w.store.heap v.store.heap → IsFaithful v → IsReady units a vs v
 IsReady-goes units a vs w v h shape faithful = record {
   faithful = faithful;
-  block = h.block;
   scope = shape.scope a.side a.scope h.scope;
   fit = shape.all_fit a.side vs h.fit;
   indexed = h.indexed;
@@ -25,7 +24,6 @@ IsReady-goes units a vs w v h shape faithful = record {
 pub IsReady-stored : (units : Units) (a : Activation) (vs : List Value) (w v : World) → IsReady units a vs w → v.store ≡ w.store → IsFaithful v → IsReady units a vs v
 IsReady-stored units a vs w v h same faithful = record {
   faithful = faithful;
-  block = h.block;
   scope = subst (λ (s : Cells). IsScopeOf s.heap a.side a.scope) (sym same) h.scope;
   fit = subst (λ (s : Cells). AreFit s.heap a.side vs) (sym same) h.fit;
   indexed = h.indexed;

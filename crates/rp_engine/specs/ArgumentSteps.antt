@@ -27,6 +27,10 @@ known v frame s = gives v s
 abbrev pub with_spread : List Argument → List (Value → Meaning) → Value → List Value → Value → Meaning
 with_spread as' ts f vs v frame s = with_arguments (calls.star_argument (known v) ∷ as') ts f vs frame s
 
+-- the same, behind these arguments
+abbrev pub with_spread_behind : List Argument → List (Value → Meaning) → Value → Arguments → Value → Meaning
+with_spread_behind as' ts f a v frame s = with_all (calls.star_argument (known v) ∷ as') ts f a frame s
+
 -- the same over arguments with names
 abbrev pub with_spread_named : List Argument → List (Value → Meaning) → Value → Arguments → Value → Meaning
 with_spread_named as' ts f a v frame s = with_all (calls.stars_argument (known v) ∷ as') ts f a frame s

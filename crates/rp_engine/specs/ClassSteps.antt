@@ -9,10 +9,10 @@ use Rattle.rp_base.specs.declared.value.Value.{Value}
 use Rattle.rp_base.specs.declared.value.Value.TheVariants as value
 use Rattle.rp_dict.specs.Dict.{insert_entry}
 use Rattle.rp_frame.specs.Top.{below, top}
-use Rattle.rp_meaning.specs.Classes.{Methods, Part, class_made, declared_at, method, methods_made, other, part_done}
+use Rattle.rp_meaning.specs.Classes.{Methods, Part, class_made, declared_at, functions_in, method, methods_made, other, part_done}
 use Rattle.rp_meaning.specs.Frame.{Doing, bind_name}
-use Rattle.rp_meaning.specs.State.{State, Outcome, makes}
-use Rattle.rp_ops.specs.Outcome.{gives, on_value}
+use Rattle.rp_meaning.specs.State.{State, Outcome, heap_of, makes}
+use Rattle.rp_ops.specs.Outcome.{on_value}
 use Rattle.rp_store.specs.Key.{same_name}
 use Rattle.rp_store.specs.Object as object
 use Rattle.rp_access.specs.ClassObjects.{renewed}
@@ -29,14 +29,6 @@ held_methods [] vs = []
 held_methods (method n m ∷ ps) vs = insert_entry same_name (held_methods ps (below vs)) n (place_at (top vs))
 held_methods (other d ∷ ps) vs = held_methods ps vs
 
--- the same in their order, behind some methods
-
-abbrev pub methods_by : List Part → List Value → Methods → Methods
-methods_by [] vs ms = ms
-methods_by (method n m ∷ ps) [] ms = ms
-methods_by (method n m ∷ ps) (v ∷ vs) ms = methods_by ps vs (insert_entry same_name ms n (place_at v))
-methods_by (other d ∷ ps) vs ms = methods_by ps vs ms
-
 -- how many methods these are
 abbrev pub count_of : List Part → ℕ
 count_of [] = 0
@@ -46,7 +38,8 @@ count_of (other d ∷ ps) = count_of ps
 -- the class of a name with these methods, bound to that
 abbrev pub class_bound : Name → Methods → Doing
 class_bound n ms frame s =
-    on_value (class_made (declared_at frame (word_of s.names n) s.declarations.classes) n ms frame s) (λ at s. bind_name n (value.Ref at) frame s)
+    on_value (class_made (declared_at frame (heap_of s) (word_of s.names n) s.declarations.classes) n (functions_in (heap_of s) ms) frame s)
+    (λ at s. bind_name n (value.Ref at) frame s)
 
 -- the statements that are left, behind these methods
 abbrev pub class_behind : Name → List Part → Methods → Doing

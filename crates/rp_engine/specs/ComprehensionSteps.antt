@@ -1,5 +1,5 @@
 -- What a comprehension still does once it stands in a part of it, as the code has functions for it; each is a part of its form of rp_meaning.
-use Rattle.std.specs.Prelude.{ℕ, List, [], ◌∷◌, length}
+use Rattle.std.specs.Prelude.{◌≡◌, ℕ, List, [], length}
 use Rattle.rp_base.specs.declared.value.Oid.{Oid}
 use Rattle.rp_base.specs.declared.value.Value.{Value}
 use Rattle.rp_base.specs.declared.value.Value.TheVariants as value
@@ -11,11 +11,13 @@ use Rattle.rp_frame.specs.declared.spot.Made.{Made}
 use Rattle.rp_frame.specs.declared.spot.Made.TheVariants as made
 use Rattle.rp_items.specs.Items as items
 use Rattle.rp_meaning.specs.Expressions.{Clause, adds_element, adds_entry, empty_slots, nest, new_scope, turn}
-use Rattle.rp_meaning.specs.Frame.{Frame, Doing, Meaning, layouts_of}
-use Rattle.rp_meaning.specs.State.{State, Outcome, charged, done, makes, plainly_done, with_change}
+use Rattle.rp_meaning.specs.Frame.{Doing, Meaning, layouts_of}
+use Rattle.rp_meaning.specs.State.{charged, done, makes, plainly_done, with_change}
 use Rattle.rp_meaning.specs.Walks.{each, walk}
+use Rattle.rp_ops.specs.Outcome as plain
 use Rattle.rp_ops.specs.Outcome.{gives, on_value}
 use Rattle.rp_ops.specs.Walk.{Cursor}
+use Rattle.rp_store.specs.Heap.{Owned}
 use Rattle.rp_store.specs.Object as object
 use Rattle.rp_store.specs.Object.{Content}
 use Rattle.rp_store.specs.Writers.{pushed}
@@ -51,6 +53,10 @@ element_added at v frame s = charged 1 s (λ s. done (with_change at (pushed v) 
 
 abbrev pub entry_added : Oid → Value → Value → Doing
 entry_added at k v frame s = plainly_done (items.set_item (value.Ref at) k v) s
+
+-- nothing that stands there has items that are put
+abbrev pub HasNoItems : List Owned → Oid → Type 0
+HasNoItems heap at = (k v : Value) (s : plain.State) → s.store.heap ≡ heap → items.set_item (value.Ref at) k v s ≡ items.no_items s
 
 -- the turns, in a scope of their own, and what was made then
 abbrev pub turns_within : ℕ → Clause → List Clause → (Oid → Doing) → Cursor → Oid → Oid → Meaning

@@ -8,14 +8,16 @@ use Rattle.rp_base.specs.declared.value.Value.{Value}
 use Rattle.rp_base.specs.declared.value.Value.TheVariants as value
 use Rattle.rp_meaning.specs.Binding.{Arguments, only}
 use Rattle.rp_meaning.specs.BuiltIn.{not_called}
-use Rattle.rp_meaning.specs.Calls.{found_call}
+use Rattle.rp_meaning.specs.Calls.{object_call}
 use Rattle.rp_meaning.specs.Expressions.{makes_own, trailers, values}
 use Rattle.rp_meaning.specs.Frame.{Meaning, takes}
 use Rattle.rp_meaning.specs.State.{heap_of}
 use Rattle.rp_ops.specs.Outcome.{on_value}
 use Rattle.rp_enter.specs.Entering.{lent_by}
+use Rattle.rp_store.specs.Heap.{Owned}
 use Rattle.rp_store.specs.Object as object
 use Rattle.rp_store.specs.Object.{Content}
+use Rattle.rp_store.specs.declared.object.Callee.TheVariants as callee
 
 -- a function of a side and a code block, made in a scope
 abbrev pub function_of : Option Name → Side → ℕ → Oid → List Value → Content
@@ -31,6 +33,16 @@ callee_of (value.Rock rock) = None
 callee_of (value.Ref at) = Some (at, false)
 callee_of (value.Prox at) = Some (at, true)
 
+-- a call of the object at a place, where that runs code or makes an instance; a built-in method runs none, so it is not called so
+
+abbrev pub code_of : Oid → Side → Content → Arguments → Meaning
+code_of at owner (object.method receiver (callee.Native id)) a f s = not_called s
+code_of at owner c a f s = object_call at owner c a f s
+
+abbrev pub code_call : Oid → Option Owned → Arguments → Meaning
+code_call at None a f s = not_called s
+code_call at (Some o) a f s = code_of at o.owner o.content a f s
+
 -- what was got by a call, through a proxy or not
 abbrev pub got_by : Bool → Value → Meaning
 got_by lent v f s = takes (lent_by lent v) f s
@@ -38,7 +50,7 @@ got_by lent v f s = takes (lent_by lent v) f s
 -- a call whose decision is made
 abbrev pub called_by : Option (Oid × Bool) → Arguments → Meaning
 called_by None a f s = not_called s
-called_by (Some c) a f s = on_value (found_call c.0 (slice_get (heap_of s) c.0.0) a f s) (λ r s. got_by c.1 r f s)
+called_by (Some c) a f s = on_value (code_call c.0 (slice_get (heap_of s) c.0.0) a f s) (λ r s. got_by c.1 r f s)
 
 abbrev pub called : Value → Arguments → Meaning
 called v a f s = called_by (callee_of v) a f s

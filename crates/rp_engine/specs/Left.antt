@@ -21,7 +21,10 @@ at_hand (expr.DictValue n ps) = n
 at_hand (expr.StarArgument n as' ts) = suc n
 at_hand (expr.NamedArgument n k name as' ts) = suc (2 * k + n)
 at_hand (expr.StarsArgument n k as' ts) = suc (2 * k + n)
+at_hand (expr.LaterArgument n k as' ts) = suc (2 * k + n)
+at_hand (expr.LaterStar n k as' ts) = suc (2 * k + n)
 at_hand (expr.Default name block n ps) = n
+at_hand (expr.Contained t ts) = 1
 at_hand _ = 0
 
 -- those that a statement waits with for the value of an expression
@@ -33,6 +36,7 @@ stmt_with stmt.DeleteKey = 1
 stmt_with (stmt.AugmentName n op) = 1
 stmt_with (stmt.AugmentedAttr n op) = 2
 stmt_with (stmt.AugmentKey op x) = 1
+stmt_with (stmt.AugmentGot op x) = 2
 stmt_with (stmt.AugmentedItem op) = 3
 stmt_with (stmt.Handler h hs) = 1
 stmt_with (stmt.AddEntry at) = 1

@@ -22,5 +22,6 @@ pub mod Ready
 pub mod Rest
 pub mod SliceSteps
 pub mod Slots
+pub mod SpecialSteps
 pub mod TrailerSteps
 pub mod Unpackings

@@ -20,7 +20,7 @@ use Rattle.rp_frame.specs.declared.task.Task.{Task}
 use Rattle.rp_frame.specs.declared.task.Task.TheVariants as task
 use Rattle.rp_meaning.specs.Access as access
 use Rattle.rp_base.specs.Names.{word_of}
-use Rattle.rp_meaning.specs.Calls.{with_named}
+use Rattle.rp_meaning.specs.Calls.{with_named, with_plain}
 use Rattle.rp_meaning.specs.Exceptions as exception
 use Rattle.rp_meaning.specs.Expressions as forms
 use Rattle.rp_meaning.specs.Frame.{Frame, Meaning, Doing, asked_for, bind_name}
@@ -30,21 +30,21 @@ use Rattle.rp_meaning.specs.Statements as stmt_forms
 use Rattle.rp_meaning.specs.Walks.{on_truth, on_turn, turns}
 use Rattle.rp_ops.specs.Outcome.{gives, ends, raises, on_value}
 use Rattle.rp_show.specs.Show.{show}
-use Rattle.rp_engine.specs.ArgumentSteps.{arguments_at, sum_of, with_all, with_arguments, with_spread, with_spread_named}
+use Rattle.rp_engine.specs.ArgumentSteps.{arguments_at, sum_of, with_all, with_arguments, with_spread, with_spread_behind, with_spread_named}
 use Rattle.rp_engine.specs.Augments.{attribute_augmented, attribute_from, item_augmented, item_from, key_from, name_augmented}
 use Rattle.rp_engine.specs.ClassSteps.{class_behind, held_methods}
 use Rattle.rp_engine.specs.Ends.{end_of}
 use Rattle.rp_engine.specs.ComparisonSteps.{with_test}
 use Rattle.rp_engine.specs.DefinitionSteps.{called, with_defaults}
 use Rattle.rp_engine.specs.DisplaySteps.{elements, parts}
-use Rattle.rp_base.specs.declared.value.Value.TheVariants as value
 use Rattle.rp_frame.specs.declared.spot.Inside.TheVariants as within
-use Rattle.rp_engine.specs.ComprehensionSteps.{comprehension_of, does_made, element_added, entry_added}
+use Rattle.rp_engine.specs.ComprehensionSteps.{comprehension_of, comprehension_over, does_made, element_added, entry_added}
 use Rattle.rp_engine.specs.Does as does
 use Rattle.rp_engine.specs.Handling.{handling, left, thrown_of, tried, without_as}
 use Rattle.rp_engine.specs.JoinSteps.{later}
 use Rattle.rp_engine.specs.Raising.{raised_value}
 use Rattle.rp_engine.specs.SliceSteps.{from_stride, from_upper, with_slice}
+use Rattle.rp_engine.specs.SpecialSteps.{from_got, special_called, with_contained, with_length}
 use Rattle.rp_engine.specs.TrailerSteps.{with_item}
 use Rattle.rp_engine.specs.Loops.{over, walked}
 use Rattle.rp_engine.specs.Unpackings.{store_from}
@@ -118,8 +118,15 @@ after_expr (expr.NamedArgument n k name as' ts) f vs o = gave f (drop (suc (2 * 
     (with_named (arguments_at n k vs) ((word_of s.names name, v) ∷ [])) f s))
 after_expr (expr.StarsArgument n k as' ts) f vs o = gave f (drop (suc (2 * k + n)) vs)
     (on_value o (λ v s. with_spread_named (does.args as'.now) (does.trailers ts.now) (top (drop (2 * k + n) vs)) (arguments_at n k vs) v f s))
+after_expr (expr.LaterArgument n k as' ts) f vs o = gave f (drop (suc (2 * k + n)) vs)
+    (on_value o (λ v s. with_all (does.args as'.now) (does.trailers ts.now) (top (drop (2 * k + n) vs))
+    (with_plain (arguments_at n k vs) (v ∷ [])) f s))
+after_expr (expr.LaterStar n k as' ts) f vs o = gave f (drop (suc (2 * k + n)) vs)
+    (on_value o (λ v s. with_spread_behind (does.args as'.now) (does.trailers ts.now) (top (drop (2 * k + n) vs)) (arguments_at n k vs) v f s))
 after_expr (expr.Default name block n ps) f vs o =
     gave f (drop n vs) (on_value o (λ v s. with_defaults name block (does.defaults ps.now) (reverse (take n vs) ++ v ∷ []) f s))
+after_expr (expr.Contained t ts) f vs o = gave f (below vs) (on_value o (λ r s. with_contained t (top vs) (does.tests ts.now) r f s))
+after_expr (expr.Length ts) f vs o = gave f vs (on_value o (λ r s. with_length (does.trailers ts.now) r f s))
 
 abbrev pub after_stmt : StmtTask → Frame → List Value → Outcome Value → Held
 after_stmt stmt.Evaluate f vs o = did f vs (on_value o (λ v s. done s))
@@ -144,6 +151,8 @@ after_stmt (stmt.AugmentedAttr n op) f vs o =
     did f (below (below vs)) (on_value o (λ b s. attribute_augmented (top (below vs)) n op (top vs) b f s))
 after_stmt (stmt.AugmentItem k op x) f vs o = did f vs (on_value o (λ v s. item_from (does.expr k.now) op (does.expr x.now) v f s))
 after_stmt (stmt.AugmentKey op x) f vs o = did f (below vs) (on_value o (λ i s. key_from (top vs) op (does.expr x.now) i f s))
+after_stmt (stmt.AugmentGot op x) f vs o =
+    did f (below (below vs)) (on_value o (λ a s. from_got (top (below vs)) (top vs) op (does.expr x.now) a f s))
 after_stmt (stmt.AugmentedItem op) f vs o = did f (below (below (below vs)))
     (on_value o (λ b s. item_augmented (top (below (below vs))) (top (below vs)) op (top vs) b f s))
 after_stmt (stmt.Unpack t) f vs o = did f vs (on_value o (λ v s. does.target t.now v f s))
@@ -172,7 +181,6 @@ after_flow (flow.StoreEach ts) f vs o = did f (drop (length ts.now) vs) (on_next
 after_flow (flow.Class n body i k) f vs o = did f (drop k vs) (on_value o (λ flow s. class_behind n (does.parts (drop i body.now))
     (held_methods (reverse (does.parts (take i body.now))) vs) f s))
 after_flow (flow.Clause ts cs a) f vs o = did f vs (on_next o (does.inside (within.Clause ts cs a) f))
-after_flow (flow.Comprehension b sc at) f vs o = gave (record f { block = b; scope = sc }) vs (on_value o (λ flow s. gives (value.Ref at) s))
 after_flow (flow.Try hs x) f vs o =
     did f vs (exception.otherwise o (does.block x.now f) (λ r s. exception.handle (does.handlers hs.now) r f s))
 after_flow (flow.Handled n) f vs o = did (handling (thrown_of (top vs)) f) (below vs) (exception.after o (without_as n f))
@@ -205,3 +213,6 @@ begun f control.Continued vs end s = did f vs (gives continued s)
 begun f control.CutOff vs end s = did f vs (ends (end_of end) s)
 begun f control.Returned vs end s = did f (below vs) (gives (returned (top vs)) s)
 begun f (control.Call n k) vs end s = gave f (drop (suc (sum_of n k)) vs) (called (top (drop (sum_of n k) vs)) (arguments_at n k vs) f s)
+begun f (control.Special name n) vs end s = gave f (drop (suc n) vs) (special_called name (top (drop n vs)) (reverse (take n vs)) f s)
+begun f (control.Comprehension b c cs x p) vs end s =
+    gave f (below vs) (comprehension_over b (does.clause c.now) (does.clauses cs.now) (does_made x) (cursor_at (top vs) p) f s)

@@ -1,5 +1,5 @@
 //! The objects that displays make.
-#![tactic(auto, using(rp_store::proofs::Shapes::goes_on))]
+#![tactic(auto, using(rp_store::proofs::CallerLemmas::goes_on))]
 
 ghost use Rattle.std.specs.Prelude.{IfOk};
 ghost use Rattle.rp_ops.specs.Outcome.{Answers};

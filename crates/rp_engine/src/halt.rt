@@ -5,13 +5,10 @@ use rp_base::Memory;
 /// Why a machine does not go on, of which its law says nothing.
 #[derive(Clone, Copy, Debug, PartialEq, Eq)]
 pub enum Halt {
-    /// A growth was refused.
+    /// A growth was refused: of memory, or of the parts of one form or the arguments of one call beyond 2^32 - 1.
     Memory,
-    /// The code comes to what this machine does not run yet: an item, a test by `in` or a change of an item that is for
-    /// a special method of an object, or more parts of one form or arguments of one call than it counts (2^32 - 1). So
-    /// it answers too where a form does not find what it left at hand, which does not happen.
-    NotBuilt,
-    /// The machine has made 2^64 - 1 steps.
+    /// The count of the machine's steps is full: it has made 2^64 - 1 of them. No step answers so, and nothing was
+    /// refused.
     TooLong,
 }
 

@@ -1,5 +1,5 @@
 //! Leaves: expressions that are evaluated where they are needed.
-#![tactic(auto, using(rp_store::proofs::Shapes::goes_on, crate::proofs::Worlds::shape_stored))]
+#![tactic(auto, using(rp_store::proofs::CallerLemmas::goes_on, crate::proofs::Worlds::shape_stored))]
 
 ghost use Rattle.std.specs.Prelude.{◌≡◌, ◌≢◌, Some, None, Ok, IfOk, IfSome};
 ghost use Rattle.rp_meaning.specs.State.{stepped};
@@ -106,8 +106,11 @@ impl<'u> Machine<'u> {
     }
 
     /// A name, with its step.
+    ///
+    /// # Errors
+    /// `StopSteps` where no step is left, and as `read`.
     #[inline(always)]
-    fn name(&self, world: &mut World, name: Name) -> Result<Value, OpEnd>
+    pub fn name(&self, world: &mut World, name: Name) -> Result<Value, OpEnd>
         requires ready { IsReady self.now.units.now self.now.frame self.now.values world.old }
         ensures law { (base : Run) → Comes result (state_of world.new)
             (forms.name name (frame_in base self.now) (state_of world.old)) }
@@ -122,8 +125,11 @@ impl<'u> Machine<'u> {
 }
 
 /// A literal, with its step.
+///
+/// # Errors
+/// `StopSteps` where no step is left.
 #[inline(always)]
-fn literal(world: &mut World, value: Value) -> Result<Value, OpEnd>
+pub fn literal(world: &mut World, value: Value) -> Result<Value, OpEnd>
     requires faithful { IsFaithful world.old }
     ensures law { (frame : Frame)
         → Comes result (state_of world.new) (forms.constant value frame (state_of world.old)) }
@@ -149,7 +155,7 @@ fn value_of(keyword: Const) -> Value
 
 /// The value of an integer literal.
 #[inline(always)]
-fn int_value(number: &i64) -> Value
+pub fn int_value(number: &i64) -> Value
     ensures { result ≡ Value.Rock (Rock.Int number.now) }
 {
     Value::Rock(Rock::Int(*number))

@@ -158,6 +158,23 @@ impl<'u> Machine<'u> {
         Ok(())
     }
 
+    /// The same, with one more value at hand.
+    ///
+    /// # Errors
+    /// `Memory` where a growth was refused.
+    #[inline(always)]
+    pub fn go_with(&mut self, value: Value, control: Control<'u>) -> Result<(), Halt>
+        ensures law { OnOk result ((base : Run) (s : State) → rest_of base self.new s ≡ rest self.old.tasks
+            (begun (frame_in base self.old) control.entry (value ∷ self.old.values) self.old.end s)) }
+        ensures ready { (w : World) → IsReady self.old.units.now self.old.frame self.old.values w
+            → IsFit w.store.heap self.old.frame.side value
+            → IsReady self.new.units.now self.new.frame self.new.values w }
+    {
+        self.values.push(value)?;
+        self.control = control;
+        Ok(())
+    }
+
     /// An expression has no value.
     ///
     /// # Errors

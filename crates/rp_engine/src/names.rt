@@ -23,12 +23,13 @@ ghost use Rattle.rp_engine.specs.Slots.{slot_found, slot_view, unbound_at};
 ghost use Rattle.rp_engine.specs.Ready.{IsReady};
 
 use crate::machine::Machine;
+use crate::units::{global_in, place_in};
 use rp_access::elsewhere;
-use rp_base::{Kind, Memory, Name, Names, Oid, OpEnd, Raised, Side, Text, Value};
-use rp_ops::word_of;
+use rp_attributes::word_text;
+use rp_base::{Kind, Name, Names, Oid, OpEnd, Raised, Side, Value};
 use rp_proxy::World;
 use rp_scope::Place2;
-use rp_store::{Object, Store, bytes_of};
+use rp_store::{Object, Store};
 use std::alloc::Global;
 
 /// A slot of a scope.
@@ -118,21 +119,16 @@ impl<'u> Machine<'u> {
     /// Where the code finds a name.
     #[inline(always)]
     fn place(&self, name: Name) -> Place2
-        requires { self.now.frame.block < length (program_at self.now.units.now self.now.frame.side).layouts }
         ensures { result ≡ found_from (program_at self.now.units.now self.now.frame.side).layouts
             self.now.frame.block name }
     {
-        self.units
-            .program(self.frame.side)
-            .layouts
-            .place(self.frame.block, name)
+        place_in(self.units.program(self.frame.side), self.frame.block, name)
     }
 
     /// The slot of a name that is found at a place.
     #[inline(always)]
     fn slot(&self, store: &Store, place: Place2, name: Name) -> Option<Slot>
-        requires scope { IsScopeOf store.now.heap self.now.frame.side self.now.frame.scope }
-        requires block { self.now.frame.block < length (program_at self.now.units.now self.now.frame.side).layouts }
+        requires { IsScopeOf store.now.heap self.now.frame.side self.now.frame.scope }
         ensures slot { option_map slot_view result
             ≡ slot_found (program_at self.now.units.now self.now.frame.side).layouts store.now.heap
             self.now.frame.scope place name }
@@ -146,7 +142,7 @@ impl<'u> Machine<'u> {
                 index,
             }),
             Place2::Global => {
-                let index = self.units.program(self.frame.side).layouts.global(name)?;
+                let index = global_in(self.units.program(self.frame.side), name)?;
                 let scope = outwards(store, store.len(), at, self.frame.side);
                 Some(Slot { scope, index })
             }
@@ -239,24 +235,6 @@ fn word_raised(alloc: Global, store: &mut Store, names: &Names, kind: Kind, name
         Ok(text) => OpEnd::Raised(Raised { kind, text }),
         Err(_) => OpEnd::Memory,
     }
-}
-
-/// The word of a name as a text, whose bytes the store counts.
-///
-/// # Errors
-/// `Memory` where a growth was refused, or the store holds no more bytes of such texts.
-pub fn word_text(
-    alloc: Global,
-    store: &mut Store,
-    names: &Names,
-    name: Name,
-) -> Result<Text, Memory>
-    ensures text { IfOk result (λ t. t ≡ word_of names.now name) }
-    ensures same { store.new ≡ store.old }
-{
-    let text = Text::new(alloc, word_of(names, name))?;
-    store.hold_text(bytes_of(&text))?;
-    Ok(text)
 }
 
 /// Fills a slot, or empties it.

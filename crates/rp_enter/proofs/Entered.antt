@@ -1,7 +1,7 @@
 -- What is known before the code of a function runs.
 use Rattle.std.proofs.Common.{◌≡◌, ◌≢◌, ◌<◌, ◌+◌, ◌-◌, length, replicate, ℕ, zero, suc, Bool, true, false, List, [], ◌∷◌, ◌++◌, map, take, get_or, Option, Some, None, Result, Ok, Err, refl, sym, ap, ◌∙◌, subst, nat_eq, if◌then◌else◌}
-use Rattle.std.specs.Prelude.{All, IfSome, OnErr, OnOk, nat_lt}
-use Rattle.std.specs.Option.{option_map_or}
+use Rattle.std.specs.Prelude.{All, IfSome, OnErr, OnOk}
+use Rattle.std.specs.Option.{option_map, option_map_or}
 use Rattle.rp_base.specs.declared.value.Name.{Name}
 use Rattle.rp_base.specs.declared.value.Oid.{Oid}
 use Rattle.rp_base.specs.declared.value.OpEnd.{OpEnd}
@@ -11,16 +11,15 @@ use Rattle.rp_base.specs.declared.value.Side.{Side}
 use Rattle.rp_base.specs.declared.value.Value.{Value}
 use Rattle.rp_base.specs.declared.value.Value.TheVariants as value
 use Rattle.rp_calls.specs.Binding as calls
-use Rattle.rp_calls.specs.View.{slots_of}
+use Rattle.rp_calls.specs.View.{AreSlotsSound, slots_of}
 use Rattle.std.specs.declared.alloc.Global.{Global}
 use Rattle.std.specs.declared.vec.Vec.{Vec}
 use Rattle.rp_meaning.specs.Binding.{Arguments, bind, only}
+use Rattle.rp_meaning.specs.Running.{slots_taken}
 use Rattle.rp_meaning.specs.State.{State, Outcome, heap_of, lifted, makes, plainly}
 use Rattle.rp_meaning.proofs.BindingLaws.{bind_seen}
 use Rattle.rp_ops.specs.Outcome as plain
-use Rattle.rp_ops.specs.Binary.{new_object}
-use Rattle.rp_ops.specs.Outcome.{End, Meets, ends, gives, no_cell, on_answer, on_value}
-use Rattle.rp_store.specs.Cost.{cost}
+use Rattle.rp_ops.specs.Outcome.{End, Meets, gives, on_answer, on_value}
 use Rattle.rp_proxy.proofs.LaterStores.{with_store, IsFaithful-stored}
 use Rattle.rp_proxy.specs.Faithful.{IsFaithful}
 use Rattle.rp_proxy.specs.Held.{AreNamed, IsNamed}
@@ -30,18 +29,19 @@ use Rattle.rp_store.specs.Heap.{Owned, owner_at}
 use Rattle.rp_store.specs.Kept.{AreFit, AreSound, IsFit, IsSound}
 use Rattle.rp_store.specs.declared.key.Key.{Key}
 use Rattle.rp_store.specs.Object as object
-use Rattle.rp_store.specs.Object.{Content}
+use Rattle.rp_store.specs.Object.{Content, Entries}
 use Rattle.rp_store.specs.Store.{Cells, made}
 use Rattle.rp_tree.specs.Expressions.{Params as PureParams}
 use Rattle.rp_tree.specs.declared.expr.Params.{Params}
 use Rattle.rp_tree.specs.ExpressionViews.{view_params}
-use Rattle.rp_access.specs.Comes.{Comes, ComesIfAny, IsEnd}
+use Rattle.rp_access.specs.Comes.{Comes, IsEnd}
 use Rattle.rp_enter.specs.Entering.{AreNamedSound, AreSlotsFit, entered, entered_with, filled_to, scope_made}
 use Rattle.rp_access.specs.Moment.{state_of}
 use Rattle.std.proofs.lemmas.Bool.{eq-eqb, eqb-true}
 use Rattle.std.proofs.lemmas.List.{append_assoc, map-append, replicate_more, take_more}
 use Rattle.std.proofs.lemmas.List.Elements.{All-append, All-cons, All-get_or, All-head, All-nil, All-push, All-tail, All-weaker}
-use Rattle.rp_access.proofs.Going.{Comes-lifted, Comes-same, IsEnd-same, IsEnd-then, gives-then}
+use Rattle.rp_access.proofs.Going.{Comes-lifted, Comes-same, IsEnd-then, gives-then}
+use Rattle.rp_access.proofs.Namings.{new_named}
 
 abbrev Slots : Type 0
 Slots = List (Option Value)
@@ -59,16 +59,6 @@ module _ (names : List (List ℕ)) where
   abbrev Stays : {A : Type 0} → plain.Outcome A → Type 0
   Stays o = AreNamed names o.state.store.heap
 
-  if_named : (over : Bool) (side : Side) (c : Content) (s : plain.State) → IsNamed names c → AreNamed names s.store.heap
-      → AreNamed names (on_value (if over then ends no_cell s else gives (record { 0 = length s.store.heap }) (record s { store = made s.store side c })) (λ (at : Oid) s. gives (value.Ref at) s)).state.store.heap
-  if_named true side c s is h = h
-  if_named false side c s is h =
-      All-append (λ (o : Owned). IsNamed names o.content) s.store.heap (record { owner = side; content = c } ∷ []) h
-      (All-cons (λ (o : Owned). IsNamed names o.content) (record { owner = side; content = c }) [] is (All-nil (λ (o : Owned). IsNamed names o.content)))
-
-  new_named : (side : Side) (c : Content) (s : plain.State) → IsNamed names c → AreNamed names s.store.heap → AreNamed names (new_object side c s).state.store.heap
-  new_named side c s is h = if_named (nat_lt s.store.limit (s.store.used + cost c)) side c s is h
-
   gives_named : {A B : Type 0} (o : plain.Outcome A) (f : A → B) → Stays o → Stays (on_value o (λ a s. gives (f a) s))
   gives_named o f h = by o.answer where
     by : (r : Result _ End) → AreNamed names (on_answer r o.state (λ a s. gives (f a) s)).state.store.heap
@@ -76,7 +66,7 @@ module _ (names : List (List ℕ)) where
     by (Err e) = h
 
   slot_named : (made : Bool) (side : Side) (c : Content) (slots : Slots) (s : plain.State) → IsNamed names c → AreNamed names s.store.heap → Stays (calls.slot_made made side c slots s)
-  slot_named true side c slots s is h = gives_named _ (λ v. slots ++ Some v ∷ []) (new_named side c s is h)
+  slot_named true side c slots s is h = gives_named _ (λ v. slots ++ Some v ∷ []) (new_named names side c s is h)
   slot_named false side c slots s is h = h
 
   made_named : (side : Side) (ps : Params) (slots : Slots) (rest : List Value) (es : List (Key × (Rock × Value))) (s : plain.State) → AreNamed names s.store.heap → Stays (calls.all_made side ps slots rest es s)
@@ -86,9 +76,6 @@ module _ (names : List (List ℕ)) where
       go : (r : Result Slots End) → AreNamed names (on_answer r o.state (λ slots s. calls.slot_made (calls.has_dict ps) side (object.dict es) slots s)).state.store.heap
       go (Ok slots) = slot_named (calls.has_dict ps) side (object.dict es) slots o.state tt k
       go (Err e) = k
-
-  abbrev Entries : Type 0
-  Entries = List (Key × (Rock × Value))
 
   module _ (side : Side) (ps : Params) (s : plain.State) (h : AreNamed names s.store.heap) where
     entries_named : (rest values : List Value) (es : Option Entries)
@@ -168,11 +155,21 @@ module _ (heap : List Owned) (side : Side) where
   own_all [] fit = refl
   own_all (v ∷ vs) fit = ap (λ x. x ∷ map (taken heap side) vs) (own v (All-head (IsFit heap side) v vs fit)) ∙ ap (λ xs. v ∷ xs) (own_all vs (All-tail (IsFit heap side) v vs fit))
 
-pub own_entered : (r : Result (Option Oid) OpEnd) (t s : State) (from side : Side) (number : ℕ) (within : Oid) (locals : ℕ) (ps : PureParams) (defaults vs : List Value)
+  own_slot : (slot : Option Value) → IfSome slot (IsFit heap side) → option_map (taken heap side) slot ≡ slot
+  own_slot None fit = refl
+  own_slot (Some v) fit = ap Some (own v fit)
+
+  pub own_slots : (slots : Slots) → AreSlotsFit heap side slots → slots_taken heap side slots ≡ slots
+  own_slots [] fit = refl
+  own_slots (x ∷ xs) fit =
+      ap (λ y. y ∷ map (option_map (taken heap side)) xs) (own_slot x (All-head (λ slot. IfSome slot (IsFit heap side)) x xs fit))
+      ∙ ap (λ ys. x ∷ ys) (own_slots xs (All-tail (λ slot. IfSome slot (IsFit heap side)) x xs fit))
+
+pub own_entered : (r : Result Oid OpEnd) (t s : State) (from side : Side) (number : ℕ) (within : Oid) (locals : ℕ) (ps : PureParams) (defaults vs : List Value)
     → nat_eq from.0 side.0 ≡ true → AreFit (heap_of s) from vs
-    → ComesIfAny r t (entered_with side number within locals ps defaults (only vs) s) → ComesIfAny r t (entered side number within locals ps defaults (only vs) s)
+    → Comes r t (entered_with side number within locals ps defaults (only vs) s) → Comes r t (entered side number within locals ps defaults (only vs) s)
 own_entered r t s from side number within locals ps defaults vs same fit is =
-    subst (λ (us : List Value). ComesIfAny r t (entered_with side number within locals ps defaults (only us) s))
+    subst (λ (us : List Value). Comes r t (entered_with side number within locals ps defaults (only us) s))
     (sym (own_all (heap_of s) side vs (subst (λ (side : Side). AreFit (heap_of s) side vs) (same_side same) fit))) is where
       same_side : nat_eq from.0 side.0 ≡ true → from ≡ side
       same_side e = let k : from.0 ≡ side.0 = eqb-true from.0 side.0 e in ap (λ (n : ℕ). record { 0 = n }) k
@@ -236,18 +233,36 @@ module _ (w u : World) (side : Side) (number : ℕ) (within : Oid) (locals : ℕ
   binding = plainly (bind side w.names ps defaults a) (state_of w)
 
   abbrev scoped : Slots → State → Outcome Oid
-  scoped slots s = scope_made side number within locals slots s
+  scoped slots s = scope_made side number within locals (slots_taken (heap_of s) side slots) s
 
   pub entered_fails : (e : OpEnd) → IsEnd e (state_of u) binding → IsEnd e (state_of u) (entered_with side number within locals ps defaults a (state_of w))
   entered_fails e is = IsEnd-then e (state_of u) binding scoped is
 
-  pub entered_made : (v : World) (slots : Slots) (at : Oid) → binding ≡ gives slots (state_of u) → scope_made side number within locals slots (state_of u) ≡ gives at (state_of v)
-      → entered_with side number within locals ps defaults a (state_of w) ≡ gives at (state_of v)
-  entered_made v slots at bound is = gives-then slots (state_of u) binding scoped bound ∙ is
+  pub entered_scoped : (v : World) (r : Result Oid OpEnd) (slots all : Slots) → binding ≡ gives slots (state_of u) → all ≡ slots_taken u.store.heap side slots
+      → Comes r (state_of v) (scope_made side number within locals all (state_of u))
+      → Comes r (state_of v) (entered_with side number within locals ps defaults a (state_of w))
+  entered_scoped v r slots all bound is comes =
+      Comes-same r (state_of v) _ _ (gives-then slots (state_of u) binding scoped bound)
+      (subst (λ (xs : Slots). Comes r (state_of v) (scope_made side number within locals xs (state_of u))) is comes)
 
-  pub entered_stops : (v : World) (slots : Slots) (e : OpEnd) → binding ≡ gives slots (state_of u) → IsEnd e (state_of v) (scope_made side number within locals slots (state_of u))
-      → IsEnd e (state_of v) (entered_with side number within locals ps defaults a (state_of w))
-  entered_stops v slots e bound is = IsEnd-same e (state_of v) _ _ (gives-then slots (state_of u) binding scoped bound) is
+-- what stands in slots, each taken
+module _ (heap : List Owned) (side : Side) where
+  pub slot_sound : (slots : Slots) (i : ℕ) (slot : Option Value) → slot ≡ get_or slots i slot → i < length slots → AreSlotsSound heap slots → IfSome slot (IsSound heap)
+  slot_sound slots i slot is within h =
+      subst (λ (s : Option Value). IfSome s (IsSound heap)) (sym is) (All-get_or (λ (s : Option Value). IfSome s (IsSound heap)) slots i slot within h)
+
+  pub slot_next : (slots : Slots) (i : ℕ) (slot got : Option Value) (items more : Slots) → i < length slots → slot ≡ get_or slots i slot
+      → more ≡ items ++ got ∷ [] → got ≡ option_map (taken heap side) slot → items ≡ slots_taken heap side (take i slots) → more ≡ slots_taken heap side (take (i + 1) slots)
+  slot_next slots i slot got items more within is pushed same before =
+      pushed ∙ ap (λ (xs : Slots). xs ++ got ∷ []) before
+      ∙ ap (λ (x : Option Value). map (option_map (taken heap side)) (take i slots) ++ x ∷ []) (same ∙ ap (option_map (taken heap side)) is)
+      ∙ sym (map-append (option_map (taken heap side)) (take i slots) (get_or slots i slot ∷ []))
+      ∙ sym (ap (map (option_map (taken heap side))) (take_more slots i slot within))
+
+  pub slots_pushed : (items more : Slots) (slot : Option Value) → more ≡ items ++ slot ∷ [] → IfSome slot (IsFit heap side) → AreSlotsFit heap side items
+      → AreSlotsFit heap side more
+  slots_pushed items more slot is fit are =
+      subst (AreSlotsFit heap side) (sym is) (All-push (λ (s : Option Value). IfSome s (IsFit heap side)) items slot are fit)
 
 -- the owner of an object, by its number
 pub owned_safe : (heap : List Owned) (side owner : Side) (at : Oid) → owner_at heap at ≡ Some owner → nat_eq owner.0 side.0 ≡ true → owner_at heap at ≡ Some side
@@ -261,17 +276,17 @@ other_safe heap side owner at is e h =
     absurd (cc)
 
 -- the same arguments, and those that are taken
-module _ (r : Result (Option Oid) OpEnd) (t s : State) (side : Side) (number : ℕ) (within : Oid) (locals : ℕ) (ps : PureParams) (defaults : List Value) where
-  pub entered_same : (us vs : List Value) (ns : List (List ℕ × Value)) → us ≡ vs → ComesIfAny r t (entered side number within locals ps defaults (record { plain = us; named = ns }) s)
-      → ComesIfAny r t (entered side number within locals ps defaults (record { plain = vs; named = ns }) s)
-  entered_same us vs ns same is = subst (λ (xs : List Value). ComesIfAny r t (entered side number within locals ps defaults (record { plain = xs; named = ns }) s)) same is
+module _ (r : Result Oid OpEnd) (t s : State) (side : Side) (number : ℕ) (within : Oid) (locals : ℕ) (ps : PureParams) (defaults : List Value) where
+  pub entered_same : (us vs : List Value) (ns : List (List ℕ × Value)) → us ≡ vs → Comes r t (entered side number within locals ps defaults (record { plain = us; named = ns }) s)
+      → Comes r t (entered side number within locals ps defaults (record { plain = vs; named = ns }) s)
+  entered_same us vs ns same is = subst (λ (xs : List Value). Comes r t (entered side number within locals ps defaults (record { plain = xs; named = ns }) s)) same is
 
   pub entered_taken : (vs us : List Value) (ns ms : List (List ℕ × Value)) → us ≡ map (taken (heap_of s) side) vs → ms ≡ map (λ n. (n.0, taken (heap_of s) side n.1)) ns
-      → ComesIfAny r t (entered_with side number within locals ps defaults (record { plain = us; named = ms }) s)
-      → ComesIfAny r t (entered side number within locals ps defaults (record { plain = vs; named = ns }) s)
+      → Comes r t (entered_with side number within locals ps defaults (record { plain = us; named = ms }) s)
+      → Comes r t (entered side number within locals ps defaults (record { plain = vs; named = ns }) s)
   entered_taken vs us ns ms same names is =
-      subst (λ (xs : List Value). ComesIfAny r t (entered_with side number within locals ps defaults (record { plain = xs; named = map (λ n. (n.0, taken (heap_of s) side n.1)) ns }) s)) same
-      (subst (λ (xs : List (List ℕ × Value)). ComesIfAny r t (entered_with side number within locals ps defaults (record { plain = us; named = xs }) s)) names is)
+      subst (λ (xs : List Value). Comes r t (entered_with side number within locals ps defaults (record { plain = xs; named = map (λ n. (n.0, taken (heap_of s) side n.1)) ns }) s)) same
+      (subst (λ (xs : List (List ℕ × Value)). Comes r t (entered_with side number within locals ps defaults (record { plain = us; named = xs }) s)) names is)
 
 -- one more argument with a name is taken
 module _ (heap : List Owned) (side : Side) where

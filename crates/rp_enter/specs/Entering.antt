@@ -5,7 +5,7 @@ use Rattle.rp_base.specs.declared.value.Side.{Side}
 use Rattle.rp_base.specs.declared.value.Value.{Value}
 use Rattle.rp_meaning.specs.Binding.{Arguments, behind, bind}
 use Rattle.rp_meaning.specs.Expressions.{empty_slots}
-use Rattle.rp_meaning.specs.Running.{taken_all}
+use Rattle.rp_meaning.specs.Running.{slots_taken, taken_all}
 use Rattle.rp_meaning.specs.State.{State, Outcome, heap_of, makes, plainly}
 use Rattle.rp_ops.specs.Operand.{lent}
 use Rattle.rp_ops.specs.Outcome.{on_value}
@@ -26,10 +26,11 @@ scope_made side number within locals bound s = makes side (object.scope (Some nu
 abbrev pub instance_made : Side → Oid → State → Outcome Oid
 instance_made owner class s = makes owner (object.instance class []) s
 
--- the arguments are bound, and the scope is made
+-- the arguments are bound, what they are bound to is taken for the side, and the scope is made
 abbrev pub entered_with : Side → ℕ → Oid → ℕ → tree.Params → List Value → Arguments → State → Outcome Oid
 entered_with side number within locals ps defaults a s =
-    on_value (plainly (bind side s.names ps defaults a) s) (λ bound s. scope_made side number within locals bound s)
+    on_value (plainly (bind side s.names ps defaults a) s) (λ bound s.
+    scope_made side number within locals (slots_taken (heap_of s) side bound) s)
 
 -- the same, once the arguments are taken for the side
 abbrev pub entered : Side → ℕ → Oid → ℕ → tree.Params → List Value → Arguments → State → Outcome Oid

@@ -1,16 +1,16 @@
 //! What is done before the code of a function runs.
-#![tactic(auto, using(rp_store::proofs::Shapes::goes_on))]
+#![tactic(auto, using(rp_store::proofs::CallerLemmas::goes_on))]
 
-ghost use Rattle.std.specs.Prelude.{◌≡◌, ◌≢◌, ◌∷◌, ℕ, Err, IfOk, IfSome, IsTrue, OnErr, OnOk, map};
+ghost use Rattle.std.specs.Prelude.{◌≡◌, ◌≢◌, ◌∷◌, ℕ, Err, IfOk, IfSome, IsTrue, OnErr, OnOk, map, option_map};
 ghost use Rattle.rp_calls.specs.Binding.{defaults_at};
 ghost use Rattle.rp_calls.specs.View.{AreSlotsSound, slots_of};
 ghost use Rattle.rp_meaning.specs.Binding.{bind, only};
+ghost use Rattle.rp_meaning.specs.Running.{slots_taken};
 ghost use Rattle.rp_meaning.specs.State.{plainly};
 ghost use Rattle.rp_proxy.specs.Faithful.{IsFaithful};
 ghost use Rattle.rp_proxy.specs.Taken.{taken};
 ghost use Rattle.rp_store.specs.Heap.{Names as IsAt};
 ghost use Rattle.rp_store.specs.Kept.{AreFit, AreSound, Holds, IsFit, IsSafe, IsScopeOf, IsSound};
-ghost use Rattle.rp_ops.specs.Operand.{lent};
 ghost use Rattle.rp_ops.specs.Outcome.{Meets, makes};
 ghost use Rattle.rp_ops.specs.Outcome as plain;
 ghost use Rattle.rp_store.specs.Object.{content_of};
@@ -18,14 +18,16 @@ ghost use Rattle.rp_store.specs.Parts.{IsClass, IsFunction, IsInstance, IsScope}
 ghost use Rattle.rp_store.specs.Shape.{KeepsShape};
 ghost use Rattle.rp_store.specs.Store.{made};
 ghost use Rattle.rp_tree.specs.ExpressionViews.{view_params};
-ghost use Rattle.rp_access.specs.Comes.{Comes, ComesIfAny};
+ghost use Rattle.rp_access.specs.Comes.{Comes};
 ghost use Rattle.rp_enter.specs.Entering.{AreNamedSound, AreSlotsFit, before_all, entered, entered_with, filled_to};
 ghost use Rattle.rp_enter.specs.Entering.{instance_made, lent_by, scope_made};
 ghost use Rattle.rp_access.specs.Moment.{state_of};
 
+use rp_access::taken;
 use rp_base::{Memory, Oid, OpEnd, Side, Text, Value};
 use rp_dict::Dict;
-use rp_proxy::{World, take};
+use rp_ops::lent;
+use rp_proxy::World;
 use rp_store::{Object, Store};
 use rp_tree::Params;
 use std::alloc::Global;
@@ -40,9 +42,8 @@ pub struct Entry {
 }
 
 /// Enters the code of a function, by a call from code of a side: takes the arguments for the function's side, binds
-/// them to the parameters, and makes its scope (Python Language Reference, Calls, Naming and binding; zope.security,
-/// proxies). Its code block has so many local names. None where a default is no value that code of the function's side
-/// may hold.
+/// them to the parameters, takes what these are bound to, and makes its scope (Python Language Reference, Calls, Naming
+/// and binding; zope.security, proxies). Its code block has so many local names.
 ///
 /// # Errors
 /// As `rp_calls::bind`; `StopCells` where the cells of the scope are over the limit.
@@ -54,17 +55,17 @@ pub fn enter(
     locals: usize,
     params: &Params,
     args: &[Value],
-) -> Result<Option<Oid>, OpEnd>
+) -> Result<Oid, OpEnd>
     requires faithful { IsFaithful world.old }
     requires function { IsAt world.old.store.heap IsFunction entry.function }
     requires within { IsScopeOf world.old.store.heap entry.side entry.within }
     requires args { AreFit world.old.store.heap from args.now }
-    ensures law { ComesIfAny result (state_of world.new)
+    ensures law { Comes result (state_of world.new)
         (entered entry.side entry.block entry.within locals (view_params params.now)
         (defaults_at world.old.store.heap entry.function) (only args.now) (state_of world.old)) }
     ensures faithful { (result ≢ Err OpEnd.Memory) → IsFaithful world.new }
     ensures shape { KeepsShape world.old.store.heap world.new.store.heap }
-    ensures scope { IfOk result (λ at. IfSome at (IsScopeOf world.new.store.heap entry.side)) }
+    ensures scope { IfOk result (IsScopeOf world.new.store.heap entry.side) }
 {
     if from == entry.side {
         return enter_with(alloc, world, entry, locals, params, args, &[]);
@@ -84,18 +85,18 @@ pub fn enter_bound(
     params: &Params,
     receiver: Value,
     args: &[Value],
-) -> Result<Option<Oid>, OpEnd>
+) -> Result<Oid, OpEnd>
     requires faithful { IsFaithful world.old }
     requires function { IsAt world.old.store.heap IsFunction entry.function }
     requires within { IsScopeOf world.old.store.heap entry.side entry.within }
     requires receiver { IsSound world.old.store.heap receiver }
     requires args { AreSound world.old.store.heap args.now }
-    ensures law { ComesIfAny result (state_of world.new)
+    ensures law { Comes result (state_of world.new)
         (entered entry.side entry.block entry.within locals (view_params params.now)
         (defaults_at world.old.store.heap entry.function) (only (receiver ∷ args.now)) (state_of world.old)) }
     ensures faithful { (result ≢ Err OpEnd.Memory) → IsFaithful world.new }
     ensures shape { KeepsShape world.old.store.heap world.new.store.heap }
-    ensures scope { IfOk result (λ at. IfSome at (IsScopeOf world.new.store.heap entry.side)) }
+    ensures scope { IfOk result (IsScopeOf world.new.store.heap entry.side) }
 {
     enter_behind(alloc, world, entry, locals, params, receiver, args, &[])
 }
@@ -114,20 +115,20 @@ pub fn enter_named(
     receiver: Option<Value>,
     args: &[Value],
     named: &[(Text, Value)],
-) -> Result<Option<Oid>, OpEnd>
+) -> Result<Oid, OpEnd>
     requires faithful { IsFaithful world.old }
     requires function { IsAt world.old.store.heap IsFunction entry.function }
     requires within { IsScopeOf world.old.store.heap entry.side entry.within }
     requires receiver { IfSome receiver (IsSound world.old.store.heap) }
     requires args { AreSound world.old.store.heap args.now }
     requires named { AreNamedSound world.old.store.heap named.now }
-    ensures law { ComesIfAny result (state_of world.new)
+    ensures law { Comes result (state_of world.new)
         (entered entry.side entry.block entry.within locals (view_params params.now)
         (defaults_at world.old.store.heap entry.function)
         (before_all receiver (record { plain = args.now; named = named.now })) (state_of world.old)) }
     ensures faithful { (result ≢ Err OpEnd.Memory) → IsFaithful world.new }
     ensures shape { KeepsShape world.old.store.heap world.new.store.heap }
-    ensures scope { IfOk result (λ at. IfSome at (IsScopeOf world.new.store.heap entry.side)) }
+    ensures scope { IfOk result (IsScopeOf world.new.store.heap entry.side) }
 {
     match receiver {
         None => enter_taken(alloc, world, entry, locals, params, args, named),
@@ -145,20 +146,20 @@ fn enter_behind(
     receiver: Value,
     args: &[Value],
     named: &[(Text, Value)],
-) -> Result<Option<Oid>, OpEnd>
+) -> Result<Oid, OpEnd>
     requires faithful { IsFaithful world.old }
     requires function { IsAt world.old.store.heap IsFunction entry.function }
     requires within { IsScopeOf world.old.store.heap entry.side entry.within }
     requires receiver { IsSound world.old.store.heap receiver }
     requires args { AreSound world.old.store.heap args.now }
     requires named { AreNamedSound world.old.store.heap named.now }
-    ensures law { ComesIfAny result (state_of world.new)
+    ensures law { Comes result (state_of world.new)
         (entered entry.side entry.block entry.within locals (view_params params.now)
         (defaults_at world.old.store.heap entry.function)
         (record { plain = receiver ∷ args.now; named = named.now }) (state_of world.old)) }
     ensures faithful { (result ≢ Err OpEnd.Memory) → IsFaithful world.new }
     ensures shape { KeepsShape world.old.store.heap world.new.store.heap }
-    ensures scope { IfOk result (λ at. IfSome at (IsScopeOf world.new.store.heap entry.side)) }
+    ensures scope { IfOk result (IsScopeOf world.new.store.heap entry.side) }
 {
     let all = behind(alloc, receiver, args)?;
     enter_taken(alloc, world, entry, locals, params, all.as_slice(), named)
@@ -173,19 +174,19 @@ fn enter_taken(
     params: &Params,
     args: &[Value],
     named: &[(Text, Value)],
-) -> Result<Option<Oid>, OpEnd>
+) -> Result<Oid, OpEnd>
     requires faithful { IsFaithful world.old }
     requires function { IsAt world.old.store.heap IsFunction entry.function }
     requires within { IsScopeOf world.old.store.heap entry.side entry.within }
     requires args { AreSound world.old.store.heap args.now }
     requires named { AreNamedSound world.old.store.heap named.now }
-    ensures law { ComesIfAny result (state_of world.new)
+    ensures law { Comes result (state_of world.new)
         (entered entry.side entry.block entry.within locals (view_params params.now)
         (defaults_at world.old.store.heap entry.function) (record { plain = args.now; named = named.now })
         (state_of world.old)) }
     ensures faithful { (result ≢ Err OpEnd.Memory) → IsFaithful world.new }
     ensures shape { KeepsShape world.old.store.heap world.new.store.heap }
-    ensures scope { IfOk result (λ at. IfSome at (IsScopeOf world.new.store.heap entry.side)) }
+    ensures scope { IfOk result (IsScopeOf world.new.store.heap entry.side) }
 {
     let args = taken_all(alloc, world, entry.side, args)?;
     let named = named_taken(alloc, world, entry.side, named)?;
@@ -239,26 +240,23 @@ fn enter_with(
     params: &Params,
     args: &[Value],
     named: &[(Text, Value)],
-) -> Result<Option<Oid>, OpEnd>
+) -> Result<Oid, OpEnd>
     requires faithful { IsFaithful world.old }
     requires function { IsAt world.old.store.heap IsFunction entry.function }
     requires within { IsScopeOf world.old.store.heap entry.side entry.within }
     requires args { AreSound world.old.store.heap args.now }
     requires named { AreNamedSound world.old.store.heap named.now }
-    ensures law { ComesIfAny result (state_of world.new)
+    ensures law { Comes result (state_of world.new)
         (entered_with entry.side entry.block entry.within locals (view_params params.now)
         (defaults_at world.old.store.heap entry.function) (record { plain = args.now; named = named.now })
         (state_of world.old)) }
     ensures faithful { (result ≢ Err OpEnd.Memory) → IsFaithful world.new }
     ensures shape { KeepsShape world.old.store.heap world.new.store.heap }
-    ensures scope { IfOk result (λ at. IfSome at (IsScopeOf world.new.store.heap entry.side)) }
+    ensures scope { IfOk result (IsScopeOf world.new.store.heap entry.side) }
 {
     let slots = bound(alloc, world, entry, params, args, named)?;
-    if !are_fit(&world.store, entry.side, slots.as_slice()) {
-        return Ok(None);
-    }
-    let scope = new_scope(world, entry.side, entry.block, entry.within, locals, slots)?;
-    Ok(Some(scope))
+    let all = slots_taken(alloc, world, entry.side, slots)?;
+    new_scope(world, entry.side, entry.block, entry.within, locals, all)
 }
 
 /// Values as code of a side takes them.
@@ -284,6 +282,7 @@ fn taken_copy(world: &World, side: Side, value: &Value) -> Result<Value, Memory>
     requires { IsSound world.now.store.heap value.now }
     ensures value { IfOk result (λ v. v ≡ taken world.now.store.heap side value.now) }
     ensures sound { IfOk result (IsSound world.now.store.heap) }
+    ensures fit { IfOk result (IsFit world.now.store.heap side) }
 {
     Ok(taken(world, value.copy()?, side))
 }
@@ -319,6 +318,62 @@ fn bound(
         args,
         named,
     )
+}
+
+/// What parameters are bound to, as code of a side takes it. It most often holds all of that already.
+///
+/// # Errors
+/// `Memory` where a growth was refused, or the count of a text's owners is full.
+fn slots_taken(
+    alloc: Global,
+    world: &World,
+    side: Side,
+    slots: Vec<Option<Value>>,
+) -> Result<Vec<Option<Value>>, Memory>
+    requires { AreSlotsSound world.now.store.heap slots.items }
+    ensures slots { IfOk result (λ all. all.items ≡ slots_taken world.now.store.heap side slots.items) }
+    ensures fit { IfOk result (λ all. AreSlotsFit world.now.store.heap side all.items) }
+{
+    if are_fit(&world.store, side, slots.as_slice()) {
+        return Ok(slots);
+    }
+    each_taken(alloc, world, side, slots.as_slice())
+}
+
+/// The same, each for itself.
+///
+/// # Errors
+/// As `slots_taken`.
+fn each_taken(
+    alloc: Global,
+    world: &World,
+    side: Side,
+    slots: &[Option<Value>],
+) -> Result<Vec<Option<Value>>, Memory>
+    requires { AreSlotsSound world.now.store.heap slots.now }
+    ensures slots { IfOk result (λ all. all.items ≡ slots_taken world.now.store.heap side slots.now) }
+    ensures fit { IfOk result (λ all. AreSlotsFit world.now.store.heap side all.items) }
+{
+    let mut all = Vec::with_capacity(alloc, slots.len())?;
+    for slot in slots {
+        all.push(slot_taken(world, side, slot)?)?;
+    }
+    Ok(all)
+}
+
+/// The same, of one slot.
+///
+/// # Errors
+/// `Memory` where the count of a text's owners is full.
+fn slot_taken(world: &World, side: Side, slot: &Option<Value>) -> Result<Option<Value>, Memory>
+    requires { IfSome slot.now (IsSound world.now.store.heap) }
+    ensures slot { IfOk result (λ got. got ≡ option_map (taken world.now.store.heap side) slot.now) }
+    ensures fit { IfOk result (λ got. IfSome got (IsFit world.now.store.heap side)) }
+{
+    match slot {
+        None => Ok(None),
+        Some(value) => Ok(Some(taken_copy(world, side, value)?)),
+    }
 }
 
 /// Whether code of a side may hold what stands in some slots.
@@ -456,25 +511,4 @@ pub fn given(world: &World, side: Side, is_lent: bool, value: Value) -> Value
         return taken(world, lent(value), side);
     }
     taken(world, value, side)
-}
-
-/// A value as code of a side gets it.
-#[inline(always)]
-fn taken(world: &World, value: Value, side: Side) -> Value
-    requires { IsSound world.now.store.heap value }
-    ensures value { result ≡ taken world.now.store.heap side value }
-    ensures fit { IsFit world.now.store.heap side result }
-{
-    take(&world.store, value, side)
-}
-
-/// What is got through a proxy is lent.
-#[inline(always)]
-fn lent(value: Value) -> Value
-    ensures { result ≡ lent value }
-{
-    match value {
-        Value::Ref(at) => Value::Prox(at),
-        other => other,
-    }
 }

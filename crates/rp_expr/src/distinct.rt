@@ -15,13 +15,16 @@ use std::alloc::{AllocError, Global};
 fn are_distinct(alloc: Global, names: &[Name]) -> Result<bool, Fault>
     ensures { Gives (λ b. b) result (Some (grammar.distinct names.now)) }
 {
-    let mut places = places(alloc, names)?;
+    let mut places = name_places(alloc, names)?;
     places.sort()?;
     Ok(do_rise(&places))
 }
 
-/// The places of the names.
-fn places(alloc: Global, names: &[Name]) -> Result<Vec<usize>, AllocError>
+/// The places of names, in their order.
+///
+/// # Errors
+/// `AllocError` where a growth was refused.
+pub fn name_places(alloc: Global, names: &[Name]) -> Result<Vec<usize>, AllocError>
     ensures { IfOk result (λ v. v.items ≡ map (λ n. n.0) names.now) }
 {
     let mut places = Vec::with_capacity(alloc, names.len())?;

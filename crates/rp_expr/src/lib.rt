@@ -17,7 +17,7 @@ mod text;
 mod trailers;
 
 pub use conversion::{place_of, target_of};
-pub use distinct::{has_distinct_names, parameter_names};
+pub use distinct::{has_distinct_names, name_places, parameter_names};
 pub use fault::Fault;
 pub use node::{Read, name};
 pub use readers::{expr, expr_list, params, target};

@@ -4,10 +4,15 @@ pub mod CallEquations
 pub mod Callings
 pub mod Definings
 pub mod DictDisplays
+pub mod Found
 pub mod Fronts
+pub mod LaterArguments
+pub mod NamedValues
 pub mod Operating
+pub mod Resumings
 pub mod Settling
 pub mod Slicings
+pub mod SpecialMoves
 pub mod Spreads
 pub mod Trailing
 pub mod Truths

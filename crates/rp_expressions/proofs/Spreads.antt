@@ -1,9 +1,10 @@
 -- Arguments with stars and names, from what is known of those at hand.
-use Rattle.std.proofs.Common.{◌≡◌, ◌≢◌, ◌≤◌, ℕ, zero, suc, ◌+◌, ◌*◌, List, [], ◌∷◌, ◌++◌, drop, length, map, reverse, take, Option, Some, None, Result, Ok, Err, refl, sym, ap, ◌∙◌, ◌⊎◌, inl, inr, add-zero, subst, arith}
+use Rattle.std.proofs.Common.{◌≡◌, ◌≢◌, ◌≤◌, ◌<◌, ℕ, zero, suc, ◌+◌, ◌*◌, codes, List, [], ◌∷◌, ◌++◌, drop, length, map, reverse, take, Option, Some, None, Result, Err, refl, sym, ap, ◌∙◌, ◌⊎◌, inl, inr, add-zero, subst, arith}
 use Rattle.std.specs.Prelude.{All, OnOk}
 use Rattle.std.specs.Prelude.{slice_get}
-use Rattle.std.proofs.lemmas.List.{append-nil, append_assoc, length-reverse, reverse-append, reverse-reverse}
+use Rattle.std.proofs.lemmas.List.{append-nil, append_assoc, drop_all as past_all, length-reverse, reverse-append, reverse-reverse}
 use Rattle.std.proofs.Math.Nat.{add-suc, suc-add}
+use Rattle.rp_base.specs.declared.kind.Kind.TheVariants.{TypeError}
 use Rattle.rp_base.specs.declared.value.Name.{Name}
 use Rattle.rp_base.specs.declared.value.Oid.{Oid}
 use Rattle.rp_base.specs.declared.value.OpEnd.{OpEnd}
@@ -15,12 +16,12 @@ use Rattle.rp_base.specs.declared.word.TheConstants.{CALL, ITER, ITEMS}
 use Rattle.rp_frame.specs.Top.{top}
 use Rattle.rp_meaning.specs.Binding.{Arguments, only}
 use Rattle.rp_meaning.specs.Calls as calls
-use Rattle.rp_meaning.specs.Calls.{Argument, entries_named, named_argument, star_argument, stars_argument, with_named, with_plain}
+use Rattle.rp_meaning.specs.Calls.{Argument, entries_named, named_argument, plain_argument, star_argument, stars_argument, with_named, with_plain}
 use Rattle.rp_meaning.specs.Expressions as forms
 use Rattle.rp_meaning.specs.Frame.{Frame, Meaning, Run, got}
 use Rattle.rp_meaning.specs.State.{State, Outcome, heap_of, plainly}
 use Rattle.rp_meaning.proofs.Laws.{then_then}
-use Rattle.rp_ops.specs.Outcome.{gives, on_value}
+use Rattle.rp_ops.specs.Outcome.{Raises, gives, on_value}
 use Rattle.rp_ops.specs.Walk.{elements}
 use Rattle.rp_proxy.specs.Taken.{taken}
 use Rattle.rp_proxy.specs.declared.world.World.{World}
@@ -29,13 +30,12 @@ use Rattle.rp_access.specs.Comes.{IsEnd}
 use Rattle.rp_access.specs.Moment.{state_of}
 use Rattle.rp_access.specs.Parts.{asking}
 use Rattle.rp_access.specs.Spreading.{all_got, all_taken, got_through, spread, spread_named}
-use Rattle.rp_access.proofs.Going.{IsEnd-same, IsEnd-then, gives-then, on_same}
-use Rattle.rp_engine.specs.ArgumentSteps.{arguments_at, known, named_in, sum_of, word_at, with_all, with_all_named, with_arguments, with_spread, with_spread_named}
+use Rattle.rp_access.proofs.Going.{IsEnd-same, IsEnd-then, gives-then, on_same, raises_end}
+use Rattle.rp_engine.specs.ArgumentSteps.{arguments_at, known, named_in, sum_of, word_at, with_all, with_all_named, with_arguments, with_spread, with_spread_behind, with_spread_named}
 use Rattle.rp_expressions.specs.Arguments.{Calls, NamedCalls}
 use Rattle.rp_engine.specs.DefinitionSteps.{called}
 use Rattle.rp_engine.specs.HandSteps.{held_by, size_of}
 use Rattle.rp_engine.specs.Law.{frame_in, rest_of}
-use Rattle.rp_engine.specs.Moment.{frame_of, run_of}
 use Rattle.rp_engine.specs.Ready.{IsReady}
 use Rattle.rp_engine.specs.Rest.{gave, rest}
 use Rattle.rp_engine.specs.declared.calling.Hand.{Hand}
@@ -45,6 +45,7 @@ use Rattle.rp_engine.specs.declared.units.Units.{Units}
 use Rattle.rp_frame.specs.declared.activation.Activation.{Activation}
 use Rattle.rp_store.specs.Kept.{AreFit, IsFit}
 use Rattle.std.proofs.lemmas.List.Elements.{All-append, All-head, All-tail}
+use Rattle.rp_engine.proofs.CodeCalls.{code_found}
 use Rattle.rp_engine.proofs.Going.{asked_then}
 use Rattle.rp_engine.proofs.Lasts.{fit_reversed}
 use Rattle.rp_engine.proofs.Moves.{on_ok}
@@ -85,6 +86,14 @@ stars_more as' ts f m a frame s = all_more stars_argument (λ m a frame s. refl)
 pub key_more : (name : Name) (as' : List Argument) (ts : List (Value → Meaning)) (f : Value) (m : Meaning) (a : Arguments) (frame : Frame) (s : State)
     → with_all (named_argument name m ∷ as') ts f a frame s ≡ on_value (m frame s) (λ v s. with_all (named_argument name (known v) ∷ as') ts f a frame s)
 key_more name as' ts f m a frame s = all_more (named_argument name) (λ m a frame s. refl) as' ts f m a frame s
+
+pub plain_more : (as' : List Argument) (ts : List (Value → Meaning)) (f : Value) (m : Meaning) (a : Arguments) (frame : Frame) (s : State)
+    → with_all (plain_argument m ∷ as') ts f a frame s ≡ on_value (m frame s) (λ v s. with_all (plain_argument (known v) ∷ as') ts f a frame s)
+plain_more as' ts f m a frame s = all_more plain_argument (λ m a frame s. refl) as' ts f m a frame s
+
+pub spread_more : (as' : List Argument) (ts : List (Value → Meaning)) (f : Value) (m : Meaning) (a : Arguments) (frame : Frame) (s : State)
+    → with_all (star_argument m ∷ as') ts f a frame s ≡ on_value (m frame s) (λ v s. with_spread_behind as' ts f a v frame s)
+spread_more as' ts f m a frame s = all_more star_argument (λ m a frame s. refl) as' ts f m a frame s
 
 -- what an argument adds is known
 module _ (x : Argument) (as' : List Argument) (ts : List (Value → Meaning)) (f : Value) (a : Arguments) (frame : Frame) where
@@ -135,6 +144,19 @@ module _ (m : Machine) (w u : World) (as' : List Argument) (ts : List (Value →
   spread_ends vs e is base =
       IsEnd-same e (state_of u) _ _ (added_then (star_argument (known v)) as' ts f (only vs) (frame_in base m) (state_of w) _ (star_is base m v (only vs) (state_of w)))
       (IsEnd-then e (state_of u) _ (λ a s. with_all as' ts f a (frame_in base m) s) (IsEnd-then e (state_of u) _ (λ us s. gives (with_plain (only vs) us) s) is))
+
+  -- over arguments without a name, behind some with one
+  pub behind_gives : (a : Arguments) (us : List Value) → spread m.frame.side v (state_of w) ≡ gives us (state_of u) → (base : Run)
+      → with_spread_behind as' ts f a v (frame_in base m) (state_of w) ≡ with_all as' ts f (with_plain a us) (frame_in base m) (state_of u)
+  behind_gives a us is base =
+      added_then (star_argument (known v)) as' ts f a (frame_in base m) (state_of w) _
+      (star_is base m v a (state_of w) ∙ gives-then us (state_of u) _ (λ us s. gives (with_plain a us) s) is)
+
+  pub behind_ends : (a : Arguments) (e : OpEnd) → IsEnd e (state_of u) (spread m.frame.side v (state_of w)) → (base : Run)
+      → IsEnd e (state_of u) (with_spread_behind as' ts f a v (frame_in base m) (state_of w))
+  behind_ends a e is base =
+      IsEnd-same e (state_of u) _ _ (added_then (star_argument (known v)) as' ts f a (frame_in base m) (state_of w) _ (star_is base m v a (state_of w)))
+      (IsEnd-then e (state_of u) _ (λ a s. with_all as' ts f a (frame_in base m) s) (IsEnd-then e (state_of u) _ (λ us s. gives (with_plain a us) s) is))
 
   -- over arguments with names
   pub named_gives : (a : Arguments) (ns : List (List ℕ × Value)) → spread_named m.frame.side v (state_of w) ≡ gives ns (state_of u) → (base : Run)
@@ -192,17 +214,17 @@ drop_all n k (x ∷ ns) vs =
 drop_next : (n k : ℕ) (v u : Value) (vs : List Value) → drop (sum_of n (suc k)) (v ∷ u ∷ vs) ≡ drop (sum_of n k) vs
 drop_next n k v u vs = ap (λ j. drop j (v ∷ u ∷ vs)) (sum_more n k)
 
-past : {A : Type 0} (k : ℕ) (xs : List A) → drop (suc k) xs ≡ drop 1 (drop k xs)
+pub past : {A : Type 0} (k : ℕ) (xs : List A) → drop (suc k) xs ≡ drop 1 (drop k xs)
 past zero xs = refl
 past (suc k) [] = refl
 past (suc k) (x ∷ xs) = past k xs
 
 -- values that were spread stand upon the arguments
 module _ (us vs : List Value) (i : ℕ) where
-  dropped_spread : drop (i + length us) (reverse us ++ vs) ≡ drop i vs
+  pub dropped_spread : drop (i + length us) (reverse us ++ vs) ≡ drop i vs
   dropped_spread = ap (λ k. drop (i + k) (reverse us ++ vs)) (sym (length-reverse us)) ∙ drop_front (reverse us) vs i
 
-  taken_spread : reverse (take (i + length us) (reverse us ++ vs)) ≡ reverse (take i vs) ++ us
+  pub taken_spread : reverse (take (i + length us) (reverse us ++ vs)) ≡ reverse (take i vs) ++ us
   taken_spread =
       ap (λ k. reverse (take (i + k) (reverse us ++ vs))) (sym (length-reverse us)) ∙ ap reverse (take_front (reverse us) vs i)
       ∙ reverse-append (reverse us) (take i vs) ∙ ap (λ ys. reverse (take i vs) ++ ys) (reverse-reverse us)
@@ -257,6 +279,24 @@ module _ (m n : Machine) (r : Result (Unit {0}) Halt) (as' : List Argument) (ts 
         (on_ok r (Waits (size_of h) (λ f s. on_value (x f s) (λ v s. with_spread_named as' ts callee hand v f s))) ((w : World) → NamedCalls h (stars_argument x ∷ as') ts m w n w)
         (λ law w base. law base (state_of w) ∙ ap (λ o. rest m.tasks (gave (frame_in base m) (drop (suc (size_of h)) m.values) o))
         (sym (stars_more as' ts callee x hand (frame_in base m) (state_of w)))) law)
+
+    -- one without a name
+    pub plain_waits : (x : Meaning) (a : Argument) → a ≡ plain_argument x
+        → OnOk r (Waits (size_of h) (λ f s. on_value (x f s) (λ v s. with_all (plain_argument (known v) ∷ as') ts callee hand f s)))
+        → OnOk r ((w : World) → NamedCalls h (a ∷ as') ts m w n w)
+    plain_waits x a is law = subst (λ (a : Argument). OnOk r ((w : World) → NamedCalls h (a ∷ as') ts m w n w)) (sym is)
+        (on_ok r (Waits (size_of h) (λ f s. on_value (x f s) (λ v s. with_all (plain_argument (known v) ∷ as') ts callee hand f s))) ((w : World) → NamedCalls h (plain_argument x ∷ as') ts m w n w)
+        (λ law w base. law base (state_of w) ∙ ap (λ o. rest m.tasks (gave (frame_in base m) (drop (suc (size_of h)) m.values) o))
+        (sym (plain_more as' ts callee x hand (frame_in base m) (state_of w)))) law)
+
+    -- one with a star
+    pub behind_waits : (x : Meaning) (a : Argument) → a ≡ star_argument x
+        → OnOk r (Waits (size_of h) (λ f s. on_value (x f s) (λ v s. with_spread_behind as' ts callee hand v f s)))
+        → OnOk r ((w : World) → NamedCalls h (a ∷ as') ts m w n w)
+    behind_waits x a is law = subst (λ (a : Argument). OnOk r ((w : World) → NamedCalls h (a ∷ as') ts m w n w)) (sym is)
+        (on_ok r (Waits (size_of h) (λ f s. on_value (x f s) (λ v s. with_spread_behind as' ts callee hand v f s))) ((w : World) → NamedCalls h (star_argument x ∷ as') ts m w n w)
+        (λ law w base. law base (state_of w) ∙ ap (λ o. rest m.tasks (gave (frame_in base m) (drop (suc (size_of h)) m.values) o))
+        (sym (spread_more as' ts callee x hand (frame_in base m) (state_of w)))) law)
 
 -- no argument at hand has a name
 
@@ -325,7 +365,9 @@ module _ (base : Run) (m : Machine) where
   unfolding found
   decided_named (value.Rock r) a s t left = absurd left
   decided_named (value.Ref at) a s t left = asked_then base m.units.now m.frame CALL (value.Ref at) s (found (value.Ref at) at a) ∙ gives-then (tt {0}) t _ (λ _ s. found (value.Ref at) at a s) left.0
+      ∙ ap (λ o. on_value o (λ r s. got (value.Ref at) r (frame_in base m) s)) (code_found (heap_of t) at a (frame_in base m) t (slice_get (heap_of t) at.0) left.1)
   decided_named (value.Prox at) a s t left = asked_then base m.units.now m.frame CALL (value.Prox at) s (found (value.Prox at) at a) ∙ gives-then (tt {0}) t _ (λ _ s. found (value.Prox at) at a s) left.0
+      ∙ ap (λ o. on_value o (λ r s. got (value.Prox at) r (frame_in base m) s)) (code_found (heap_of t) at a (frame_in base m) t (slice_get (heap_of t) at.0) left.1)
 
 module _ (m n : Machine) (w u : World) (r : Result (Unit {0}) Halt) (h : Hand) (ts : List (Value → Meaning)) where
   abbrev called_at : Value
@@ -371,11 +413,29 @@ some_of (suc k) (v ∷ u ∷ vs) other two = two_named k v u vs
 pub some_named : (h : Hand) (vs : List Value) → h.named ≢ 0 → 2 ≤ length (reverse (take 2 vs)) → (held_by h vs).named ≢ []
 some_named h vs other two = some_of h.named vs other (subst (λ (k : ℕ). 2 ≤ k) (length-reverse (take 2 vs)) two)
 
+-- where no two values are at hand there is no callee
+
+nothing_under : (vs : List Value) (k : ℕ) → length (reverse (take 2 vs)) < 2 → 2 ≤ k → drop k vs ≡ []
+nothing_under [] k few some = past_all k [] (omega arith)
+nothing_under (v ∷ []) k few some = past_all k (v ∷ []) (omega (arith, some))
+nothing_under (v ∷ u ∷ vs) k few some = absurd (omega (arith, few, length-reverse (v ∷ u ∷ [])))
+
+pub nothing_called : (m n : Machine) (w : World) (r : Result (Unit {0}) Halt) (h : Hand) (ts : List (Value → Meaning)) (e : OpEnd) → h.named ≢ 0 → length (reverse (take 2 m.values)) < 2
+    → Raises e (record { kind = TypeError; text = codes "call" })
+    → OnOk r ((base : Run) (s : State) (o : Outcome Value) → IsEnd e s o → rest_of base n s ≡ rest m.tasks (gave (frame_in base m) (drop (suc (size_of h)) m.values) o))
+    → OnOk r (NamedCalls h [] ts m w n w)
+nothing_called m n w r h ts e other few raised law =
+    let some : 1 ≤ h.named = omega (arith, other) in
+    let size : 2 ≤ size_of h = omega (arith, some) in
+    let nil : top (drop (size_of h) m.values) ≡ value.Rock rock.Nil = ap top (nothing_under m.values (size_of h) few size) in
+    on_ok r ((base : Run) (s : State) (o : Outcome Value) → IsEnd e s o → rest_of base n s ≡ rest m.tasks (gave (frame_in base m) (drop (suc (size_of h)) m.values) o)) (NamedCalls h [] ts m w n w)
+    (λ law base. law base (state_of w) _ (IsEnd-same e (state_of w) _ _ (ap (λ f. with_all [] ts f (held_by h m.values) (frame_in base m) (state_of w)) nil)
+    (raises_end Value e (record { kind = TypeError; text = codes "call" }) (state_of w) raised))) law
+
 -- values that are fit are put upon others
 pub fit_added : (units : Units) (a : Activation) (vs us : List Value) (w : World) → AreFit w.store.heap a.side us → IsReady units a vs w → IsReady units a (reverse us ++ vs) w
 fit_added units a vs us w fit h = record {
   faithful = h.faithful;
-  block = h.block;
   scope = h.scope;
   fit = All-append (IsFit w.store.heap a.side) (reverse us) vs (fit_reversed w.store.heap a.side us fit) h.fit;
   indexed = h.indexed;

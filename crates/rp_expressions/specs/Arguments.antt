@@ -4,9 +4,11 @@ use Rattle.rp_base.specs.declared.value.Value.{Value}
 use Rattle.rp_frame.specs.Top.{top}
 use Rattle.rp_meaning.specs.Calls.{Argument}
 use Rattle.rp_meaning.specs.Frame.{Meaning, Run}
+use Rattle.rp_meaning.specs.State.{State}
 use Rattle.rp_proxy.specs.declared.world.World.{World}
-use Rattle.rp_engine.specs.ArgumentSteps.{with_all, with_arguments}
+use Rattle.rp_engine.specs.ArgumentSteps.{with_all, with_arguments, with_call}
 use Rattle.rp_engine.specs.HandSteps.{held_by, size_of}
+use Rattle.rp_access.specs.Calling.{IsCallLeft}
 use Rattle.rp_engine.specs.Law.{frame_in, rest_of}
 use Rattle.rp_access.specs.Moment.{state_of}
 use Rattle.rp_engine.specs.Rest.{gave, rest}
@@ -21,3 +23,9 @@ Calls n as' ts m w new v = (base : Run) → rest_of base new (state_of v) ≡ re
 abbrev pub NamedCalls : Hand → List Argument → List (Value → Meaning) → Machine → World → Machine → World → Type 0
 NamedCalls h as' ts m w new v = (base : Run) → rest_of base new (state_of v) ≡ rest m.tasks (gave (frame_in base m) (drop (suc (size_of h)) m.values)
     (with_all as' ts (top (drop (size_of h) m.values)) (held_by h m.values) (frame_in base m) (state_of w)))
+
+-- the same of a call that was left undone, once it was decided
+abbrev pub AsksLeft : ℕ → List (Value → Meaning) → Machine → Machine → Type 0
+AsksLeft n ts m new = (base : Run) (s t : State) → IsCallLeft (top (drop n m.values)) (reverse (take n m.values)) s t
+    → rest_of base new t ≡ rest m.tasks (gave (frame_in base m) (drop (suc n) m.values)
+    (with_call ts (top (drop n m.values)) (reverse (take n m.values)) (frame_in base m) s))

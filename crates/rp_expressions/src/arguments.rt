@@ -1,8 +1,8 @@
 //! Calls: the arguments, and what is done once they are at hand (Python Language Reference, Calls).
-#![tactic(auto, using(rp_store::proofs::Shapes::goes_on))]
+#![tactic(auto, using(rp_store::proofs::CallerLemmas::goes_on))]
 
-ghost use Rattle.std.specs.Prelude.{◌≡◌, ◌≢◌, ◌∷◌, [], false, suc, IfNone, IfOk, IfSome, None, OnOk};
-ghost use Rattle.std.specs.Prelude.{◌++◌, drop, reverse, take};
+ghost use Rattle.std.specs.Prelude.{◌≡◌, ◌∷◌, [], suc, IfNone, IfOk, IfSome, OnOk};
+ghost use Rattle.std.specs.Prelude.{◌++◌, drop, is_some, not, reverse, take};
 ghost use Rattle.rp_base.specs.declared.value.Value.{Value as TheValue};
 ghost use Rattle.rp_frame.specs.Top.{top};
 ghost use Rattle.rp_meaning.specs.Expressions as forms;
@@ -13,7 +13,7 @@ ghost use Rattle.rp_proxy.specs.declared.world.World.{World as TheWorld};
 ghost use Rattle.rp_store.specs.Kept.{AreFit, IsFit};
 ghost use Rattle.rp_store.specs.Shape.{KeepsShape};
 ghost use Rattle.rp_engine.specs.ArgumentSteps.{with_arguments};
-ghost use Rattle.rp_expressions.specs.Arguments.{Calls};
+ghost use Rattle.rp_expressions.specs.Arguments.{AsksLeft, Calls};
 ghost use Rattle.rp_access.specs.Calling.{CallComes, IsCallLeft};
 ghost use Rattle.rp_access.specs.Comes.{IsEnd};
 ghost use Rattle.rp_engine.specs.DefinitionSteps.{callee_of, with_called};
@@ -25,6 +25,7 @@ ghost use Rattle.rp_engine.specs.Rest.{gave, rest};
 ghost use Rattle.rp_engine.specs.TrailerSteps.{next_trailer};
 
 use crate::primaries::more_trailers;
+use crate::special_methods::length_by_method;
 use rp_access::{call, spread, take_step};
 use rp_base::{OpEnd, Rock, Value};
 use rp_engine::{Halt, Machine, more_by, one_more};
@@ -35,10 +36,9 @@ use rp_tree::{Arg, Expr, Trailer};
 /// Goes on with a call, with its step.
 ///
 /// # Errors
-/// `Memory` where a growth was refused, `NotBuilt` at an argument without a name behind one with a name, at more
-/// than 2^32 - 1 arguments, and where `call` does not know the callee, as all that follow.
+/// `Memory` where a growth was refused, and at more than 2^32 - 1 arguments, as all that follow.
 #[inline(always)]
-#[tactic(auto, using(rp_store::proofs::Shapes::goes_on, rp_engine::proofs::Worlds::shape_stored))]
+#[tactic(auto, using(rp_store::proofs::CallerLemmas::goes_on, rp_engine::proofs::Worlds::shape_stored))]
 pub(crate) fn begin_call<'u>(
     machine: &mut Machine<'u>,
     world: &mut World,
@@ -220,26 +220,36 @@ pub(crate) fn call_at_hand<'u>(
 {
     match called(machine, world, count as usize) {
         Ok(Some(value)) => with_result(machine, count, value, rest),
-        Ok(None) => ask_call(machine, count, rest),
+        Ok(None) => ask_left(machine, count, rest),
         Err(end) => without_result(machine, count, end),
     }
 }
 
-/// Asks for the call of what is at hand, whose decision is made; it is code of the store.
+/// Asks for the call of what is at hand, whose decision is made: of code of the store, or of `len` of an instance whose
+/// class has a method for it.
+#[inline(always)]
+fn ask_left<'u>(machine: &mut Machine<'u>, count: u32, trailers: &'u [Trailer]) -> Result<(), Halt>
+    ensures law { OnOk result (AsksLeft count (does.trailers trailers.now) machine.old machine.new) }
+    ensures ready { (w : TheWorld) → IsReady machine.old.units.now machine.old.frame machine.old.values w
+        → IsReady machine.new.units.now machine.new.frame machine.new.values w }
+{
+    let nil = Value::Rock(Rock::Nil);
+    if is_rock(machine.values.under(count as usize, &nil)) {
+        return length_by_method(machine, count, trailers);
+    }
+    ask_call(machine, count, trailers)
+}
+
+/// Asks for the call of what is at hand, which is code of the store.
 #[inline(always)]
 fn ask_call<'u>(machine: &mut Machine<'u>, count: u32, trailers: &'u [Trailer]) -> Result<(), Halt>
     ensures law { OnOk result ((base : Run) (s : State) → rest_of base machine.new s
         ≡ rest machine.old.tasks (gave (frame_in base machine.old) (drop (suc count) machine.old.values)
         (with_called (does.trailers trailers.now) (top (drop count machine.old.values))
         (reverse (take count machine.old.values)) (frame_in base machine.old) s))) }
-    ensures reference { OnOk result (callee_of (top (drop count machine.old.values)) ≢ None) }
     ensures ready { (w : TheWorld) → IsReady machine.old.units.now machine.old.frame machine.old.values w
         → IsReady machine.new.units.now machine.new.frame machine.new.values w }
 {
-    let nil = Value::Rock(Rock::Nil);
-    if is_rock(machine.values.under(count as usize, &nil)) {
-        return Err(Halt::NotBuilt);
-    }
     machine.wait(
         Task::Expr(ExprTask::Trailers(trailers)),
         Control::Call(count, 0),
@@ -306,7 +316,7 @@ fn called<'u>(
 
 /// Whether it is a rock, and no reference.
 fn is_rock(value: &Value) -> bool
-    ensures { result ≡ false → callee_of value.now ≢ None }
+    ensures { result ≡ not (is_some (callee_of value.now)) }
 {
     match value {
         Value::Rock(_) => true,

@@ -1,5 +1,5 @@
 //! Chains of operators of one level.
-#![tactic(auto, using(rp_store::proofs::Shapes::goes_on))]
+#![tactic(auto, using(rp_store::proofs::CallerLemmas::goes_on))]
 
 ghost use Rattle.std.specs.Prelude.{OnOk};
 ghost use Rattle.rp_meaning.specs.Expressions as forms;

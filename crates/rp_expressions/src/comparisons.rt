@@ -1,5 +1,5 @@
 //! Comparisons (Python Language Reference, Comparisons).
-#![tactic(auto, using(rp_store::proofs::Shapes::goes_on))]
+#![tactic(auto, using(rp_store::proofs::CallerLemmas::goes_on))]
 
 ghost use Rattle.std.specs.Prelude.{OnOk};
 ghost use Rattle.rp_meaning.specs.Expressions as forms;
@@ -12,6 +12,7 @@ ghost use Rattle.rp_engine.specs.ExpressionSteps.{step_to};
 ghost use Rattle.rp_engine.specs.Law.{Evaluates, Resumes};
 ghost use Rattle.rp_engine.specs.Ready.{IsReady};
 
+use crate::special_methods::test_by_method;
 use rp_access::holds;
 use rp_base::{Rock, Value};
 use rp_engine::{Halt, Machine};
@@ -22,7 +23,7 @@ use rp_tree::{Expr, Test};
 /// A chain of comparisons.
 ///
 /// # Errors
-/// `Memory` where a growth was refused, `NotBuilt` where a test would call a special method, as all that follow.
+/// `Memory` where a growth was refused, as all that follow.
 #[inline(never)]
 pub fn comparison<'u>(
     machine: &mut Machine<'u>,
@@ -115,14 +116,14 @@ fn compared<'u>(
 {
     match holds(machine.alloc, world, test, &a, &b) {
         Ok(Some(holds)) => by_test(machine, holds, b, rest),
-        Ok(None) => Err(Halt::NotBuilt),
+        Ok(None) => test_by_method(machine, test, a, b, rest),
         Err(end) => machine.no_value(end),
     }
 }
 
 /// Goes on with the tests that are left, where the one before holds.
 #[inline(always)]
-fn by_test<'u>(
+pub(crate) fn by_test<'u>(
     machine: &mut Machine<'u>,
     holds: bool,
     b: Value,

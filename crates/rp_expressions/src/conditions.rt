@@ -1,6 +1,5 @@
-//! Conditions: what goes on by the truth of a value (Python Language Reference, Boolean operations, Conditional
-//! expressions).
-#![tactic(auto, using(rp_store::proofs::Shapes::goes_on))]
+//! What goes on by the truth of a value (Python Language Reference, Boolean operations, Conditional expressions).
+#![tactic(auto, using(rp_store::proofs::CallerLemmas::goes_on))]
 
 ghost use Rattle.std.specs.Prelude.{OnOk};
 ghost use Rattle.rp_meaning.specs.Expressions as forms;

@@ -1,5 +1,5 @@
 //! Definitions of functions (Python Language Reference, Function definitions, Lambdas).
-#![tactic(auto, using(rp_store::proofs::Shapes::goes_on))]
+#![tactic(auto, using(rp_store::proofs::CallerLemmas::goes_on))]
 
 ghost use Rattle.std.specs.Prelude.{◌≡◌, ◌∷◌, [], IfOk, MatchOption, OnOk};
 ghost use Rattle.rp_meaning.specs.Expressions as forms;
@@ -29,7 +29,7 @@ use rp_tree::{Expr, Named, Params};
 /// A `def`: the defaults of its parameters, then the function, which is bound to the name.
 ///
 /// # Errors
-/// `Memory` where a growth was refused, `NotBuilt` at more than 2^32 - 1 defaults, as all that follow.
+/// `Memory` where a growth was refused, and at more than 2^32 - 1 defaults, as all that follow.
 #[inline(never)]
 pub fn definition<'u>(
     machine: &mut Machine<'u>,
@@ -51,7 +51,7 @@ pub fn definition<'u>(
 
 /// A lambda, with its step.
 #[inline(never)]
-#[tactic(auto, using(rp_store::proofs::Shapes::goes_on, rp_engine::proofs::Worlds::shape_stored))]
+#[tactic(auto, using(rp_store::proofs::CallerLemmas::goes_on, rp_engine::proofs::Worlds::shape_stored))]
 pub fn lambda<'u>(
     machine: &mut Machine<'u>,
     world: &mut World,

@@ -1,5 +1,5 @@
 //! Displays of dicts (Python Language Reference, Dictionary displays).
-#![tactic(auto, using(rp_store::proofs::Shapes::goes_on))]
+#![tactic(auto, using(rp_store::proofs::CallerLemmas::goes_on))]
 
 ghost use Rattle.std.specs.Prelude.{◌∷◌, OnOk};
 ghost use Rattle.rp_meaning.specs.Expressions as forms;
@@ -22,9 +22,9 @@ use rp_tree::Expr;
 /// A dict display.
 ///
 /// # Errors
-/// `Memory` where a growth was refused, `NotBuilt` at 2^32 - 1 keys and values, as all that follow.
+/// `Memory` where a growth was refused, and at 2^32 - 1 keys and values, as all that follow.
 #[inline(never)]
-#[tactic(auto, using(rp_store::proofs::Shapes::goes_on, rp_engine::proofs::Worlds::shape_stored))]
+#[tactic(auto, using(rp_store::proofs::CallerLemmas::goes_on, rp_engine::proofs::Worlds::shape_stored))]
 pub fn dict_display<'u>(
     machine: &mut Machine<'u>,
     world: &mut World,

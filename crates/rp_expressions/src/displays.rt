@@ -1,5 +1,5 @@
 //! Displays, and the objects that they make (Python Language Reference, Displays for lists, sets and dictionaries).
-#![tactic(auto, using(rp_store::proofs::Shapes::goes_on))]
+#![tactic(auto, using(rp_store::proofs::CallerLemmas::goes_on))]
 
 ghost use Rattle.std.specs.Prelude.{◌≡◌, ◌∷◌, [], OnOk, drop};
 ghost use Rattle.rp_base.specs.declared.value.Value.{Value as TheValue};
@@ -26,9 +26,9 @@ use rp_tree::Expr;
 /// A display.
 ///
 /// # Errors
-/// `Memory` where a growth was refused, `NotBuilt` at more than 2^32 - 1 elements, as all that follow.
+/// `Memory` where a growth was refused, and at more than 2^32 - 1 elements, as all that follow.
 #[inline(never)]
-#[tactic(auto, using(rp_store::proofs::Shapes::goes_on, rp_engine::proofs::Worlds::shape_stored))]
+#[tactic(auto, using(rp_store::proofs::CallerLemmas::goes_on, rp_engine::proofs::Worlds::shape_stored))]
 pub fn display<'u>(
     machine: &mut Machine<'u>,
     world: &mut World,

@@ -1,5 +1,5 @@
 //! Boolean operations: `and` and `or` (Python Language Reference, Boolean operations).
-#![tactic(auto, using(rp_store::proofs::Shapes::goes_on))]
+#![tactic(auto, using(rp_store::proofs::CallerLemmas::goes_on))]
 
 ghost use Rattle.std.specs.Prelude.{◌∷◌, OnOk};
 ghost use Rattle.rp_proxy.specs.declared.world.World.{World as TheWorld};

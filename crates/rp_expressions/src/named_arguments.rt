@@ -1,5 +1,5 @@
 //! Calls with named arguments (Python Language Reference, Calls).
-#![tactic(auto, using(rp_store::proofs::Shapes::goes_on))]
+#![tactic(auto, using(rp_store::proofs::CallerLemmas::goes_on))]
 
 ghost use Rattle.std.specs.Prelude.{◌≡◌, ◌≢◌, ◌∷◌, [], All, IfOk, OnOk, drop, suc};
 ghost use Rattle.rp_access.specs.Moment.{state_of};
@@ -23,9 +23,11 @@ ghost use Rattle.rp_engine.specs.Rest.{gave, rest};
 
 use crate::arguments::call_at_hand;
 use rp_access::{ask_named, spread_named};
-use rp_base::{Memory, Name, OpEnd, Rock, Text, Value};
-use rp_engine::{Halt, Hand, Machine, more_by, one_more, word_text};
+use rp_attributes::word_text;
+use rp_base::{Kind, Memory, Name, OpEnd, Rock, Text, Value};
+use rp_engine::{Halt, Hand, Machine, more_by, one_more};
 use rp_frame::{Control, ExprTask, Task};
+use rp_ops::raised;
 use rp_proxy::World;
 use rp_tree::{Arg, Trailer};
 use std::alloc::Global;
@@ -33,8 +35,7 @@ use std::alloc::Global;
 /// With an argument with a name; the callee and these arguments before it are at hand.
 ///
 /// # Errors
-/// `Memory` where a growth was refused, `NotBuilt` at an argument without a name behind one with a name and at more
-/// than 2^32 - 1 arguments, as all that follow.
+/// `Memory` where a growth was refused, and at more than 2^32 - 1 arguments, as all that follow.
 #[inline(never)]
 pub fn after_named<'u>(
     machine: &mut Machine<'u>,
@@ -83,9 +84,9 @@ fn with_word<'u>(
     named_arguments(machine, world, Hand { plain, named }, args, trailers)
 }
 
-/// Goes on with the arguments that are left, which have names.
+/// Goes on with the arguments that are left, behind one with a name.
 #[inline(always)]
-fn named_arguments<'u>(
+pub(crate) fn named_arguments<'u>(
     machine: &mut Machine<'u>,
     world: &mut World,
     hand: Hand,
@@ -104,7 +105,7 @@ fn named_arguments<'u>(
     }
 }
 
-/// Goes on with the next argument, which has a name.
+/// Goes on with the next argument, which stands behind one with a name.
 #[inline(always)]
 fn named_argument<'u>(
     machine: &mut Machine<'u>,
@@ -127,7 +128,14 @@ fn named_argument<'u>(
             Task::Expr(ExprTask::StarsArgument(hand.plain, hand.named, args, rest)),
             Control::Expression(x),
         ),
-        Arg::Plain(_) | Arg::Star(_) => Err(Halt::NotBuilt),
+        Arg::Plain(x) => machine.wait(
+            Task::Expr(ExprTask::LaterArgument(hand.plain, hand.named, args, rest)),
+            Control::Expression(x),
+        ),
+        Arg::Star(x) => machine.wait(
+            Task::Expr(ExprTask::LaterStar(hand.plain, hand.named, args, rest)),
+            Control::Expression(x),
+        ),
     }
 }
 
@@ -192,7 +200,10 @@ fn named_over<'u>(
 ///
 /// # Errors
 /// `Memory` where a growth was refused.
-fn hold_named<'u>(machine: &mut Machine<'u>, named: Vec<(Text, Value)>) -> Result<(), Memory>
+pub(crate) fn hold_named<'u>(
+    machine: &mut Machine<'u>,
+    named: Vec<(Text, Value)>,
+) -> Result<(), Memory>
     ensures held { OnOk result (machine.new ≡ record machine.old {
       values = with_all_named named.items machine.old.values;
     }) }
@@ -222,10 +233,7 @@ fn hold_pair<'u>(machine: &mut Machine<'u>, word: Text, value: Value) -> Result<
     machine.hold(value)
 }
 
-/// Calls what is at hand, with names or without.
-///
-/// # Errors
-/// `NotBuilt` where the arguments are not at hand, as no call comes to.
+/// Calls what is at hand, with names or without; nothing is called where no name and value are at hand.
 #[inline(always)]
 fn call_hand<'u>(
     machine: &mut Machine<'u>,
@@ -243,7 +251,8 @@ fn call_hand<'u>(
         return call_at_hand(machine, world, hand.plain, rest);
     }
     if machine.values.last(2).len() < 2 {
-        return Err(Halt::NotBuilt);
+        let end = raised(machine.alloc, Kind::TypeError, "call");
+        return without_hand(machine, hand, end);
     }
     call_named(machine, world, hand, rest)
 }

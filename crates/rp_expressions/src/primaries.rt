@@ -1,5 +1,5 @@
 //! Primaries: what trails an atom (Python Language Reference, Primaries).
-#![tactic(auto, using(rp_store::proofs::Shapes::goes_on))]
+#![tactic(auto, using(rp_store::proofs::CallerLemmas::goes_on))]
 
 ghost use Rattle.std.specs.Prelude.{OnOk};
 ghost use Rattle.rp_meaning.specs.Expressions as forms;
@@ -14,6 +14,7 @@ ghost use Rattle.rp_engine.specs.TrailerSteps.{next_trailer, with_attribute, wit
 
 use crate::arguments::begin_call;
 use crate::slices::sliced;
+use crate::special_methods::item_by_method;
 use rp_access::{get_attribute, get_item, take_step};
 use rp_base::{Name, Value};
 use rp_engine::{Halt, Machine};
@@ -24,8 +25,7 @@ use rp_tree::{Expr, Trailer};
 /// A primary.
 ///
 /// # Errors
-/// `Memory` where a growth was refused, `NotBuilt` where an item would call a special method, and as
-/// `begin_call`, as all that follow.
+/// `Memory` where a growth was refused, and as `begin_call`, as all that follow.
 #[inline(never)]
 pub fn primary<'u>(
     machine: &mut Machine<'u>,
@@ -96,7 +96,7 @@ fn trailer<'u>(
 
 /// Goes on with an attribute, with its step.
 #[inline(always)]
-#[tactic(auto, using(rp_store::proofs::Shapes::goes_on, rp_engine::proofs::Worlds::shape_stored))]
+#[tactic(auto, using(rp_store::proofs::CallerLemmas::goes_on, rp_engine::proofs::Worlds::shape_stored))]
 fn attribute<'u>(
     machine: &mut Machine<'u>,
     world: &mut World,
@@ -184,7 +184,7 @@ fn item_at<'u>(
 {
     match get_item(machine.alloc, world, machine.frame.side, &value, &key) {
         Ok(Some(value)) => more_trailers(machine, value, rest),
-        Ok(None) => Err(Halt::NotBuilt),
+        Ok(None) => item_by_method(machine, value, key, rest),
         Err(end) => machine.no_value(end),
     }
 }

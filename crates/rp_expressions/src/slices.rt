@@ -1,5 +1,5 @@
 //! Slices (Python Language Reference, Slicings).
-#![tactic(auto, using(rp_store::proofs::Shapes::goes_on))]
+#![tactic(auto, using(rp_store::proofs::CallerLemmas::goes_on))]
 
 ghost use Rattle.std.specs.Prelude.{OnOk};
 ghost use Rattle.rp_meaning.specs.Expressions as forms;
@@ -55,7 +55,7 @@ pub(crate) fn sliced<'u>(
 
 /// The same, by its parts.
 #[inline(always)]
-#[tactic(auto, using(rp_store::proofs::Shapes::goes_on, rp_engine::proofs::Worlds::shape_stored))]
+#[tactic(auto, using(rp_store::proofs::CallerLemmas::goes_on, rp_engine::proofs::Worlds::shape_stored))]
 fn slice<'u>(
     machine: &mut Machine<'u>,
     world: &mut World,

@@ -60,9 +60,19 @@ pub enum ExprTask<'u> {
     /// With what is spread over arguments with names; the callee and, upon it, so many arguments without a name and so
     /// many with one are at hand.
     StarsArgument(u32, u32, &'u [Arg], &'u [Trailer]),
+    /// With an argument without a name behind some with one; the callee and, upon it, so many arguments without a name
+    /// and so many with one are at hand.
+    LaterArgument(u32, u32, &'u [Arg], &'u [Trailer]),
+    /// With what is spread over arguments without a name behind some with one; the callee and, upon it, so many
+    /// arguments without a name and so many with one are at hand.
+    LaterStar(u32, u32, &'u [Arg], &'u [Trailer]),
     /// With a default of a function of this code block, with a name or, for a lambda, without; so many before it are at
     /// hand, and these parameters are behind.
     Default(Option<Name>, usize, u32, &'u [(Named, Option<Expr>)]),
+    /// With what `__contains__` gave for a test; the container is at hand, and these tests are behind.
+    Contained(Test, &'u [(Test, Expr)]),
+    /// With what `__len__` gave for `len`; these trailers are behind.
+    Length(&'u [Trailer]),
 }
 
 /// What a statement does with the value of an expression.
@@ -106,6 +116,9 @@ pub enum StmtTask<'u> {
     AugmentItem(&'u Expr, BinOp, &'u Expr),
     /// With the key of the item that is augmented; the container is at hand.
     AugmentKey(BinOp, &'u Expr),
+    /// With the item that is augmented, which `__getitem__` gave; the container and, upon it, the key are at hand: the
+    /// operator and the right side.
+    AugmentGot(BinOp, &'u Expr),
     /// With the right side of an augmented assignment to an item; the container and, upon it, the key and the item are
     /// at hand.
     AugmentedItem(BinOp),
@@ -149,8 +162,6 @@ pub enum FlowTask<'u> {
     Class(Name, &'u [Stmt], u32, u32),
     /// The tests of a clause of a comprehension, and the clauses behind it.
     Clause(&'u [Expr], &'u [Clause], Adds<'u>),
-    /// A comprehension, which makes the list or dict at a place; the code block and the scope around it.
-    Comprehension(usize, Oid, Oid),
     /// The `except` clauses of a `try` statement, and its block of `else`.
     Try(&'u [Except], &'u [Stmt]),
     /// A handler, whose exception is bound to the name; what was handled before, or None, is at hand.

@@ -1,13 +1,8 @@
 -- Texts that are made of pieces, one for each number.
-use Rattle.std.proofs.Common.{◌≡◌, ℕ, zero, suc, ◌+◌, List, [], ◌∷◌, ◌++◌, flat_map, append_assoc, append-nil}
+use Rattle.std.proofs.Common.{◌≡◌, ℕ, suc, ◌+◌, List, [], ◌∷◌, ◌++◌, flat_map, append_assoc, append-nil}
 use Rattle.std.proofs.Common.{arith, ap, sym, ◌∙◌}
 use Rattle.std.specs.List.{range_with_len}
-
-range-last : (a k : ℕ) → range_with_len a (suc k) ≡ range_with_len a k ++ (a + k) ∷ []
-range-last a zero = ap (λ (n : ℕ). n ∷ []) (omega arith)
-range-last a (suc k) =
-    let next : (a + 1) + k ≡ a + suc k = omega arith in
-    ap (λ (ns : List ℕ). a ∷ ns) (range-last (a + 1) k ∙ ap (λ (n : ℕ). range_with_len (a + 1) k ++ n ∷ []) next)
+use Rattle.rp_base.proofs.CallerLemmas.{range-last}
 
 flat_map-last : (piece : ℕ → List ℕ) (ns : List ℕ) (n : ℕ)
     → flat_map piece (ns ++ n ∷ []) ≡ flat_map piece ns ++ piece n

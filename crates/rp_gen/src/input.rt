@@ -1,5 +1,4 @@
-//! The large input: declarations of objects with a number each, and a script that adds up the numbers through their
-//! proxies.
+//! The large input: declared objects with a number each, and a script that adds these up through their proxies.
 
 ghost use Rattle.std.specs.Prelude.{◌≡◌, ◌≤◌, ◌++◌, IfOk, OnOk, flat_map, string_bytes};
 ghost use Rattle.rp_gen.specs.Large.{below, declarations, names, object_lines, quoted_name, script, sum_line};

@@ -4,7 +4,7 @@ use Rattle.rp_token.specs.declared.token.TokenKind.{TokenKind}
 use Rattle.rp_token.specs.declared.token.TokenKind.TheVariants as kind
 use Rattle.rp_grammar.specs.Kinds.{Tokens, first, skip}
 use Rattle.rp_grammar.specs.Front.{is_comma}
-use Rattle.rp_grammar.specs.ExpressionReading.{Read, ◌>>=◌, after, many, listed}
+use Rattle.rp_grammar.specs.ExpressionReading.{Read, ◌>>=◌, after, alike, many, listed}
 use Rattle.rp_grammar.proofs.ExpressionMarks.{comma_is}
 
 pub bind_some : {A B : Type 0} (o : Option A) (f : A → Option B) (y : B) → (o >>= f) ≡ Some y → (x : A) × (o ≡ Some x) × (f x ≡ Some y)
@@ -21,6 +21,9 @@ chosen false x y z e = inr (refl, e)
 pub guarded : {A : Type 0} (b : Bool) (x y : A) → cond b (Some x) None ≡ Some y → (b ≡ true) × (x ≡ y)
 guarded true x y e = (refl, cc)
 guarded false x y e = absurd cc
+
+pub alike_reads : {A : Type 0} (read : Tokens → Read A) (ts us : Tokens) (x : A) → read ts ≡ Some (x, us) → alike read tt ts ≡ Some ((x, tt), us)
+alike_reads read ts us x is = rw is refl
 
 -- what is read only where a test holds
 pub tested : {A : Type 0} (b : Bool) (o : Option A) (y : A) → cond b o None ≡ Some y → (b ≡ true) × (o ≡ Some y)

@@ -12,16 +12,16 @@ use Rattle.rp_tree.specs.Expressions as tree
 use Rattle.rp_tree.specs.Expressions.{Named, Expr, Exprs, Maybe, Pairs, Tests, Ops, Clause, Clauses, Place, Target, Targets, Params, Plain, Trailer, Trailers, Arg, Args}
 use Rattle.rp_grammar.specs.Kinds.{Tokens, first, line_at, skip, binary_of, looseness, loosest, order_of}
 use Rattle.rp_grammar.specs.Expressions as grammar
-use Rattle.rp_grammar.specs.Expressions.{line_of, place_line, named, distinct, key_names, parameter_names, Stage, any, defaults, stars, star, closed, place_of}
+use Rattle.rp_grammar.specs.Expressions.{line_of, place_line, named, Stage, any, stars, star, closed, place_of}
 use Rattle.rp_grammar.specs.Conversion.{with_trailers, before_last, last_of, trailed_place, as_place, group_of, one_more, as_target, as_targets}
 use Rattle.rp_grammar.specs.Front as token_tests
 use Rattle.rp_grammar.specs.Front.{is_comma, is_equal, is_name, is_star, is_double_star, starts, starts_arg}
 use Rattle.rp_grammar.specs.ExpressionReading as reading
-use Rattle.rp_grammar.specs.ExpressionReading.{Read, Readers, ◌>>=◌, after, many, listed, before}
+use Rattle.rp_grammar.specs.ExpressionReading.{Read, Readers, ◌>>=◌, many, listed, before}
 use Rattle.rp_grammar.proofs.Follow.{binds, at, binary_binds, order_binds, no_text, no_trailer, no_power, no_test, no_and, no_or, no_if, no_for, no_comma, starts_none, primary_begins, power_begins, compare_begins, or_begins, expr_starts, expr_begins}
 use Rattle.rp_grammar.proofs.Nest.{nest_atom, nest_listed, nest_paired, nest_clause, nest_clauses, nest_ifs, nest_place, nest_group, nest_part, nest_targeted, nest_parts, nest_target, nest_maybe, nest_trailer, nest_arg, nest_args, nest_params, nest_trail, nest_primary, nest_power, nest_unary, nest_chain, nest_chained, nest_compare, nest_tested, nest_compared, nest_not, nest_and, nest_ands, nest_or, nest_ors, nest_expr, nest_exprs}
 use Rattle.rp_grammar.proofs.ExpressionMarks.{equal_is}
-use Rattle.rp_grammar.proofs.Basics.{some_is, bind_some}
+use Rattle.rp_grammar.proofs.Basics.{alike_reads, bind_some, some_is}
 use Rattle.rp_grammar.proofs.Targets.{target_of_place}
 use Rattle.rp_grammar.proofs.ExpressionTakes.{skip_within, takes, clause_takes, part_takes, trailer_takes, arg_takes, chain_takes, tested_takes, not_takes, and_takes, or_takes, expr_takes}
 
@@ -66,9 +66,6 @@ listed_goes : {S A L : Type 0} (open_end shut_end : L) (cons : A → L → L) (b
 unfolding listed
 listed_goes open_end shut_end cons begins read zero s s' ts us vs x xs begun is comma lt less more = absurd (omega arith)
 listed_goes open_end shut_end cons begins read (suc n) s s' ts us vs x xs begun is comma lt less more = let c : is_comma (first us) ≡ true = ap is_comma comma in rw (begun, is, c, more n (omega (arith, skip_within us))) refl
-
-alike_is : {A : Type 0} (read : Tokens → Read A) (ts us : Tokens) (x : A) → read ts ≡ Some (x, us) → reading.alike read tt ts ≡ Some ((x, tt), us)
-alike_is read ts us x is = rw is refl
 
 -- ---- texts
 
@@ -256,7 +253,7 @@ paren_ends us h = subst EndsParams (sym h) (record { binds = omega arith; comma 
 pub colon_ends : (us : Tokens) → first us ≡ kind.Colon → EndsParams (first us)
 colon_ends us h = subst EndsParams (sym h) (record { binds = omega arith; comma = refl; name = refl; star = refl; stars = refl; equal = refl })
 
-name_is : (n : Name) (ts : Tokens) → first ts ≡ kind.Name n → reading.name_by (first ts) ts ≡ Some (named n ts, skip ts)
+pub name_is : (n : Name) (ts : Tokens) → first ts ≡ kind.Name n → reading.name_by (first ts) ts ≡ Some (named n ts, skip ts)
 name_is n ts h = ap (λ k. reading.name_by k ts) h
 
 abbrev named_read : Named → Tokens → Read (Option Named)
@@ -322,9 +319,9 @@ module _ (d : ℕ) (rs : Readers) (inner : AreComplete d rs) where
   listed_complete : {es : Exprs} {ts us : Tokens} (p : grammar.Listed es ts us) → nest_listed p < d → 12 < binds (first us) → is_comma (first us) ≡ false → starts (first us) ≡ false → (n : ℕ) → length ts < n → listed tree.no_exprs tree.no_exprs tree.expr starts (reading.alike rs.expr) n tt ts ≡ Some (es, us)
   listed_complete {ts = ts} grammar.nothing small ends shut none n lt = listed_ends tree.no_exprs tree.no_exprs tree.expr starts (reading.alike rs.expr) n tt ts none lt
   listed_complete {ts = ts} {us = us} (grammar.last {e = e} p) small ends shut none n lt =
-      listed_shuts tree.no_exprs tree.no_exprs tree.expr starts (reading.alike rs.expr) n tt tt ts us e (expr_starts p) (alike_is rs.expr ts us e (inner.expr p small ends)) shut lt
+      listed_shuts tree.no_exprs tree.no_exprs tree.expr starts (reading.alike rs.expr) n tt tt ts us e (expr_starts p) (alike_reads rs.expr ts us e (inner.expr p small ends)) shut lt
   listed_complete {ts = ts} {us = vs} (grammar.more {e = e} {es = es} {us = us} p h q) small ends shut none n lt =
-      listed_goes tree.no_exprs tree.no_exprs tree.expr starts (reading.alike rs.expr) n tt tt ts us vs e es (expr_starts p) (alike_is rs.expr ts us e (inner.expr p (omega arith) (at 12 kind.Comma us h (omega arith)))) h lt (expr_takes p)
+      listed_goes tree.no_exprs tree.no_exprs tree.expr starts (reading.alike rs.expr) n tt tt ts us vs e es (expr_starts p) (alike_reads rs.expr ts us e (inner.expr p (omega arith) (at 12 kind.Comma us h (omega arith)))) h lt (expr_takes p)
       (λ m lt. listed_complete q (omega arith) ends shut none m lt)
 
   pub exprs_complete : (e : Expr) {es : Exprs} {ts us : Tokens} (p : grammar.Listed es ts us) → nest_listed p < d → 12 < binds (first us) → is_comma (first us) ≡ false → starts (first us) ≡ false → reading.exprs rs e ts ≡ Some (tree.expr e es, us)
@@ -342,9 +339,9 @@ module _ (d : ℕ) (rs : Readers) (inner : AreComplete d rs) where
       → listed tree.no_targets tree.no_targets tree.target starts (reading.alike (reading.part rs)) n tt ts ≡ Some (qs, us)
   targeted_complete {ts = ts} grammar.no_part small ends shut none n lt = listed_ends tree.no_targets tree.no_targets tree.target starts (reading.alike (reading.part rs)) n tt ts none lt
   targeted_complete {ts = ts} {us = us} (grammar.last_part {p = q} p) small ends shut none n lt =
-      listed_shuts tree.no_targets tree.no_targets tree.target starts (reading.alike (reading.part rs)) n tt tt ts us q (part_starts p) (alike_is (reading.part rs) ts us q (part_complete p small ends)) shut lt
+      listed_shuts tree.no_targets tree.no_targets tree.target starts (reading.alike (reading.part rs)) n tt tt ts us q (part_starts p) (alike_reads (reading.part rs) ts us q (part_complete p small ends)) shut lt
   targeted_complete {ts = ts} {us = vs} (grammar.more_parts {p = q} {ps = qs} {us = us} p h ps) small ends shut none n lt =
-      listed_goes tree.no_targets tree.no_targets tree.target starts (reading.alike (reading.part rs)) n tt tt ts us vs q qs (part_starts p) (alike_is (reading.part rs) ts us q (part_complete p (omega arith) (at 1 kind.Comma us h (omega arith)))) h lt (part_takes p)
+      listed_goes tree.no_targets tree.no_targets tree.target starts (reading.alike (reading.part rs)) n tt tt ts us vs q qs (part_starts p) (alike_reads (reading.part rs) ts us q (part_complete p (omega arith) (at 1 kind.Comma us h (omega arith)))) h lt (part_takes p)
       (λ m lt. targeted_complete ps (omega arith) ends shut none m lt)
 
   pub target_complete : {q : Target} {l : Line} {ts us : Tokens} (p : grammar.IsTarget q l ts us) → nest_target p < d → 1 < binds (first us) → is_comma (first us) ≡ false → starts (first us) ≡ false → reading.target rs ts ≡ Some (q, us)
@@ -393,9 +390,9 @@ module _ (d : ℕ) (rs : Readers) (inner : AreComplete d rs) where
   paired_complete : {ps : Pairs} {ts us : Tokens} (p : grammar.Paired ps ts us) → nest_paired p < d → 20 < binds (first us) → (n : ℕ) → length ts < n → listed tree.no_pairs tree.no_pairs reading.with_pair starts (reading.alike (reading.pair rs)) n tt ts ≡ Some (ps, us)
   paired_complete {ts = ts} grammar.no_pair small ends n lt = listed_ends tree.no_pairs tree.no_pairs reading.with_pair starts (reading.alike (reading.pair rs)) n tt ts (starts_none (first ts) ends) lt
   paired_complete {ts = ts} {us = vs} (grammar.last_pair {k = k} {e = e} {us = us} p h q) small ends n lt =
-      listed_shuts tree.no_pairs tree.no_pairs reading.with_pair starts (reading.alike (reading.pair rs)) n tt tt ts vs (k, e) (expr_starts p) (alike_is (reading.pair rs) ts vs (k, e) (pair_complete p h q (omega arith) (omega arith) (omega arith))) (no_comma (first vs) ends) lt
+      listed_shuts tree.no_pairs tree.no_pairs reading.with_pair starts (reading.alike (reading.pair rs)) n tt tt ts vs (k, e) (expr_starts p) (alike_reads (reading.pair rs) ts vs (k, e) (pair_complete p h q (omega arith) (omega arith) (omega arith))) (no_comma (first vs) ends) lt
   paired_complete {ts = ts} {us = ws} (grammar.more_pairs {k = k} {e = e} {ps = ps} {us = us} {vs = vs} p h q i s) small ends n lt =
-      listed_goes tree.no_pairs tree.no_pairs reading.with_pair starts (reading.alike (reading.pair rs)) n tt tt ts vs ws (k, e) ps (expr_starts p) (alike_is (reading.pair rs) ts vs (k, e) (pair_complete p h q (omega arith) (omega arith) (at 12 kind.Comma vs i (omega arith)))) i lt
+      listed_goes tree.no_pairs tree.no_pairs reading.with_pair starts (reading.alike (reading.pair rs)) n tt tt ts vs ws (k, e) ps (expr_starts p) (alike_reads (reading.pair rs) ts vs (k, e) (pair_complete p h q (omega arith) (omega arith) (at 12 kind.Comma vs i (omega arith)))) i lt
       (omega (arith, expr_takes p, skip_within us, expr_takes q)) (λ m lt. paired_complete s (omega arith) ends m lt)
 
   dict_display : {ps : Pairs} {ts us : Tokens} → (line : Line) (p : grammar.Paired ps ts us) → nest_paired p < d → first us ≡ kind.RightBrace → reading.braced rs line ts ≡ Some (tree.node line (tree.dict ps), skip us)

@@ -1,6 +1,7 @@
 -- The laws of reading: what is read is spelled so, what is spelled is read where its tokens are not too deep and its tree not
 -- too high, and no tokens have two trees.
-use Rattle.std.proofs.Common.{◌≡◌, ℕ, ◌+◌, ◌<◌, ◌≤◌, max, Bool, true, false, ◌||◌, Option, Some, Result, Ok, Err, IfOk, refl, sym, ap, subst, ◌∙◌, arith}
+use Rattle.std.proofs.Common.{◌≡◌, ℕ, ◌+◌, ◌<◌, ◌≤◌, max, false, ◌||◌, Option, Some, refl, sym, ap, ◌∙◌, arith}
+use Rattle.std.proofs.lemmas.Bool.{or_parts}
 use Rattle.rp_base.specs.declared.value.Line.{Line}
 use Rattle.rp_token.specs.declared.token.TokenKind.{TokenKind}
 use Rattle.rp_token.specs.declared.token.TokenKind.TheVariants as kind
@@ -12,7 +13,6 @@ use Rattle.rp_grammar.specs.Expressions.{any}
 use Rattle.rp_grammar.specs.Front.{goes_on, goes_on_list, goes_on_target, goes_on_params, is_comma, is_name, is_star, is_double_star, is_equal, starts, starts_trailer}
 use Rattle.rp_grammar.specs.Kinds.{Tokens, first}
 use Rattle.rp_grammar.specs.ExpressionReading as reading
-use Rattle.rp_grammar.specs.ExpressionReading.{Read}
 use Rattle.rp_grammar.proofs.Follow.{binds, ends_by}
 use Rattle.rp_grammar.proofs.Nest.{nest_expr}
 use Rattle.rp_grammar.proofs.ExpressionSound.{readers_sound, expr_sound, expr_list_sound, target_sound, params_sound}
@@ -35,10 +35,6 @@ params_spelled d ts x h = params_sound (reading.readers d) (readers_sound d) ts 
 
 -- ---- brackets and height together bound the depth
 
-neither : (a b : Bool) → (a || b) ≡ false → (a ≡ false) × (b ≡ false)
-neither false b h = (refl, h)
-neither true b h = absurd cc
-
 pub expr_read : (most height d : ℕ) → most + height ≤ d → {e : Expr} {ts us : Tokens} → grammar.IsExpr e ts us → goes_on (first us) ≡ false → expr_height e ≤ height → IsShallow most 0 ts → reading.expr (reading.readers d) ts ≡ Some (e, us)
 expr_read most height d enough {us = us} p ends low shallow =
     let within = expr_bound most p 0 shallow in
@@ -48,8 +44,8 @@ pub list_read : (most height d : ℕ) → most + height ≤ d → {e : Expr} {ts
 list_read most height d enough {us = us} p ends low shallow =
     let k = first us in
     let within = exprs_bound most p 0 shallow in
-    let (more, none) = neither (goes_on k || is_comma k) (starts k) ends in
-    let (over, shut) = neither (goes_on k) (is_comma k) more in
+    let (more, none) = or_parts (goes_on k || is_comma k) (starts k) ends in
+    let (over, shut) = or_parts (goes_on k) (is_comma k) more in
     expr_list_complete d (reading.readers d) (readers_complete d) p (omega arith) (ends_by k over) shut none
 
 untrailed : (k : TokenKind) → starts k ≡ false → starts_trailer k ≡ false → 1 < binds k
@@ -64,8 +60,8 @@ pub target_read : (most height d : ℕ) → most + height ≤ d → {p : Target}
 target_read most height d enough {us = us} p ends low shallow =
     let k = first us in
     let within = target_bound most p 0 shallow in
-    let (more, bare) = neither (is_comma k || starts k) (starts_trailer k) ends in
-    let (shut, none) = neither (is_comma k) (starts k) more in
+    let (more, bare) = or_parts (is_comma k || starts k) (starts_trailer k) ends in
+    let (shut, none) = or_parts (is_comma k) (starts k) more in
     target_complete d (reading.readers d) (readers_complete d) p (omega arith) (untrailed k none bare) shut none
 
 unstarred : (k : TokenKind) → goes_on k ≡ false → (is_star k ≡ false) × (is_double_star k ≡ false)
@@ -75,9 +71,9 @@ unstarred _ h = (refl, refl)
 
 ends_params : (k : TokenKind) → goes_on_params k ≡ false → EndsParams k
 ends_params k ends =
-    let (more, equal) = neither (goes_on k || is_comma k || is_name k) (is_equal k) ends in
-    let (more, name) = neither (goes_on k || is_comma k) (is_name k) more in
-    let (over, shut) = neither (goes_on k) (is_comma k) more in
+    let (more, equal) = or_parts (goes_on k || is_comma k || is_name k) (is_equal k) ends in
+    let (more, name) = or_parts (goes_on k || is_comma k) (is_name k) more in
+    let (over, shut) = or_parts (goes_on k) (is_comma k) more in
     let (star, stars) = unstarred k over in
     record { binds = ends_by k over; comma = shut; name = name; star = star; stars = stars; equal = equal }
 

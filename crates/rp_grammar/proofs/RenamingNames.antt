@@ -2,22 +2,19 @@
 use Rattle.std.proofs.Common.{◌≡◌, ℕ, Bool, true, false, List, [], ◌∷◌, ◌++◌, map, Option, Some, None, option_map, refl, sym, ap, ◌∙◌}
 use Rattle.std.proofs.lemmas.Bool.{eqb-true, eq-eqb}
 use Rattle.std.specs.List.{list_any}
+use Rattle.std.proofs.lemmas.List.{map-append}
 use Rattle.rp_base.specs.declared.value.Name.{Name}
 use Rattle.rp_base.specs.declared.value.Line.{Line}
 use Rattle.rp_token.specs.declared.token.TokenKind.{TokenKind}
 use Rattle.rp_token.specs.declared.token.TokenKind.TheVariants as kind
 use Rattle.rp_tree.specs.Expressions as tree
-use Rattle.rp_tree.specs.Expressions.{Named, Expr, Form, Exprs, Maybe, Pairs, Tests, Ops, Clause, Clauses, Walk, Target, Targets, Place, Params, Plain, Trailer, Trailers, Arg, Args}
+use Rattle.rp_tree.specs.Expressions.{Named, Expr, Form, Exprs, Target, Targets, Place, Params, Plain, Trailer, Trailers, Arg, Args}
 use Rattle.rp_grammar.specs.Kinds.{Tokens, first}
 use Rattle.rp_grammar.specs.Expressions.{line_of, distinct, same_name, key_name, key_names, named_names, plain_names, parameter_names}
 use Rattle.rp_grammar.specs.Conversion as conversion
 use Rattle.rp_grammar.specs.ExpressionReading as reading
 use Rattle.rp_grammar.proofs.Renamed.{IsInjective, renamed_kind, renamed_tokens, renamed_named, renamed_expr, renamed_form, renamed_exprs, renamed_params, renamed_plain, renamed_trailer, renamed_trailers, renamed_arg, renamed_args, renamed_place, renamed_target, renamed_targets}
 use Rattle.rp_grammar.proofs.RenamingBasics.{first_renamed, line_at_renamed, skip_renamed, moved}
-
-map_append : {A B : Type 0} (g : A → B) (xs ys : List A) → map g (xs ++ ys) ≡ map g xs ++ map g ys
-map_append g [] ys = refl
-map_append g (x ∷ xs) ys = ap (λ (zs : List _). g x ∷ zs) (map_append g xs ys)
 
 module _ (f : Name → Name) where
   pub line_of_renamed : (e : Expr) → line_of (renamed_expr f e) ≡ line_of e
@@ -37,7 +34,7 @@ module _ (f : Name → Name) where
 
   pub key_names_renamed : (xs : Args) → key_names (renamed_args f xs) ≡ map f (key_names xs)
   key_names_renamed tree.no_args = refl
-  key_names_renamed (tree.arg x xs) = rw (key_name_renamed x, key_names_renamed xs, map_append f (key_name x) (key_names xs)) refl
+  key_names_renamed (tree.arg x xs) = rw (key_name_renamed x, key_names_renamed xs, map-append f (key_name x) (key_names xs)) refl
 
   named_names_renamed : (n : Option Named) → named_names (option_map (renamed_named f) n) ≡ map f (named_names n)
   named_names_renamed None = refl
@@ -49,7 +46,7 @@ module _ (f : Name → Name) where
 
   pub parameter_names_renamed : (ps : Params) → parameter_names (renamed_params f ps) ≡ map f (parameter_names ps)
   parameter_names_renamed (tree.params ps l d) =
-      rw (plain_names_renamed ps, named_names_renamed l, named_names_renamed d, map_append f (plain_names ps ++ named_names l) (named_names d), map_append f (plain_names ps) (named_names l)) refl
+      rw (plain_names_renamed ps, named_names_renamed l, named_names_renamed d, map-append f (plain_names ps ++ named_names l) (named_names d), map-append f (plain_names ps) (named_names l)) refl
 
   with_trailers_renamed : (e : Expr) (xs : Trailers) → conversion.with_trailers (renamed_expr f e) (renamed_trailers f xs) ≡ renamed_expr f (conversion.with_trailers e xs)
   with_trailers_renamed e tree.no_trailers = refl

@@ -2,7 +2,6 @@
 use Rattle.std.proofs.Common.{◌≡◌, ℕ, zero, suc, ◌+◌, ◌<◌, ◌≤◌, max, false, List, [], ◌∷◌, length, Option, Some, None, refl, sym, ap, subst, ◌∙◌, arith}
 use Rattle.rp_base.specs.declared.operator.BinOp.{BinOp}
 use Rattle.rp_base.specs.declared.value.Line.{Line}
-use Rattle.rp_base.specs.declared.value.Name.{Name}
 use Rattle.rp_token.specs.declared.token.TokenKind.TheVariants as kind
 use Rattle.rp_tree.specs.Expressions as tree
 use Rattle.rp_tree.specs.Expressions.{Named, Expr, Place, Target, Targets, Params}
@@ -28,15 +27,13 @@ use Rattle.rp_grammar.specs.Statements.{Context}
 use Rattle.rp_grammar.specs.StatementReading as stmt_reading
 use Rattle.rp_grammar.proofs.Begins.{Closes, mark_binds, exprs_start, place_starts, assigned_starts, unpacked_starts, simple_by_kind, behind_by_kind}
 use Rattle.rp_grammar.proofs.Low.{down, expr_low, place_low, unpacked_low}
+use Rattle.rp_grammar.proofs.ExpressionComplete.{name_is}
 
 -- a primary is an expression
 abbrev whole : {e : Expr} {ts us : Tokens} → grammar.Primary e ts us → grammar.IsExpr e ts us
 whole q = grammar.unconditional (grammar.or_single (grammar.and_single (grammar.asserted (grammar.single (grammar.tighter (grammar.tighter (grammar.tighter (grammar.tighter (grammar.tighter (grammar.tighter (grammar.operand (grammar.unsigned (grammar.base q)))))))))))))
 
 -- ---- names
-
-name_is : (n : Name) (ts : Tokens) → first ts ≡ kind.Name n → reading.name_by (first ts) ts ≡ Some (named n ts, skip ts)
-name_is n ts h = ap (λ k. reading.name_by k ts) h
 
 -- names from the first on, in at most so many turns
 abbrev names_by : ℕ → Tokens → Read (List Named)

@@ -1,6 +1,6 @@
 -- What is spelled as statements is read, where it is not too high and its tokens do not stand in too many brackets.
 use Rattle.std.proofs.Common.{◌≡◌, ℕ, zero, suc, ◌+◌, ◌<◌, ◌≤◌, ◌==◌, Bool, true, false, not, ◌&&◌, length, Option, Some, None, Ok, Err, refl, sym, ap, ◌∙◌, arith}
-use Rattle.std.proofs.lemmas.Bool.{le-leb}
+use Rattle.std.proofs.lemmas.Bool.{and_parts, le-leb}
 use Rattle.rp_base.specs.declared.value.Line.{Line}
 use Rattle.rp_base.specs.declared.value.Name.{Name}
 use Rattle.rp_token.specs.declared.token.TokenKind.{TokenKind}
@@ -16,13 +16,13 @@ use Rattle.rp_grammar.specs.Expressions as grammar
 use Rattle.rp_grammar.specs.Expressions.{named, distinct, parameter_names, any}
 use Rattle.rp_grammar.specs.Front.{is_colon}
 use Rattle.rp_grammar.specs.ExpressionReading as reading
-use Rattle.rp_grammar.specs.ExpressionReading.{Read, Readers, ◌>>=◌}
+use Rattle.rp_grammar.specs.ExpressionReading.{Read, Readers}
 use Rattle.rp_grammar.proofs.Follow.{at, expr_begins}
 use Rattle.rp_grammar.proofs.ExpressionTakes.{skip_within, expr_takes}
-use Rattle.rp_grammar.proofs.ExpressionComplete.{AreComplete, readers_complete}
+use Rattle.rp_grammar.proofs.ExpressionComplete.{AreComplete, name_is, readers_complete}
 use Rattle.rp_grammar.proofs.Depth.{target_stays, params_stays}
 use Rattle.rp_grammar.specs.Statements as stmt_grammar
-use Rattle.rp_grammar.specs.Statements.{Context, in_loop, in_handler, in_class, in_function, is_member, are_members, joined, one, top}
+use Rattle.rp_grammar.specs.Statements.{Context, in_loop, in_handler, in_class, in_function, is_member, are_members, joined, one}
 use Rattle.rp_grammar.specs.StatementReading as stmt_reading
 use Rattle.rp_grammar.specs.StatementReading.{Found, ◌>>>◌, Blocks, from, within, ends}
 use Rattle.rp_grammar.proofs.Begins.{Rests, newline_closes, semicolon_closes, Closes, line_begins, statement_begins, begun_no_newline, begun_rests, statements_rest, line_by_kind, block_by_kind}
@@ -48,14 +48,10 @@ none_wanted : (members : Bool) → (members ≡ true → false ≡ true) → mem
 none_wanted true h = absurd (let e = h refl in cc)
 none_wanted false h = refl
 
-both_held : (a b : Bool) → (a && b) ≡ true → (a ≡ true) × (b ≡ true)
-both_held true b h = (refl, h)
-both_held false b h = absurd cc
-
 pub split_members : (xs ys : Stmts) → are_members (joined xs ys) ≡ true → (are_members xs ≡ true) × (are_members ys ≡ true)
 split_members stmt_tree.no_stmts ys h = (refl, h)
 split_members (stmt_tree.stmt x xs) ys h =
-    let (head, tail) = both_held (is_member x) (are_members (joined xs ys)) h in
+    let (head, tail) = and_parts (is_member x) (are_members (joined xs ys)) h in
     let (left, right) = split_members xs ys tail in
     (rw (head, left) refl, right)
 
@@ -81,12 +77,12 @@ module _ (most d : ℕ) (rs : Readers) (inner : AreComplete d rs) (h : ℕ) (eno
   unfolding stmt_reading.line_by stmt_reading.item_at
   line_complete members l low member w zero lt = absurd (omega arith)
   line_complete members (stmt_grammar.line_end {x = x} {us = us} q newline) low member w (suc n) lt =
-      rw (simple_at_complete members q (newline_closes us newline) (omega arith) (λ m. (both_held (is_member x) true (member m)).0) w, newline) refl
+      rw (simple_at_complete members q (newline_closes us newline) (omega arith) (λ m. (and_parts (is_member x) true (member m)).0) w, newline) refl
   line_complete members (stmt_grammar.line_semicolon {x = x} {us = us} q semicolon newline) low member w (suc n) lt =
-      rw (simple_at_complete members q (semicolon_closes us semicolon) (omega arith) (λ m. (both_held (is_member x) true (member m)).0) w, semicolon, newline) refl
+      rw (simple_at_complete members q (semicolon_closes us semicolon) (omega arith) (λ m. (and_parts (is_member x) true (member m)).0) w, semicolon, newline) refl
   line_complete members (stmt_grammar.line_more {x = x} {xs = xs} {us = us} q semicolon l) low member w (suc n) lt =
-      let more = line_complete members l (omega arith) (λ m. (both_held (is_member x) (are_members xs) (member m)).1) (down most us (simple_low most q w)) n (omega (arith, simple_takes q, skip_within us)) in
-      rw (simple_at_complete members q (semicolon_closes us semicolon) (omega arith) (λ m. (both_held (is_member x) (are_members xs) (member m)).0) w, semicolon, begun_no_newline (first (skip us)) (line_begins l), more) refl
+      let more = line_complete members l (omega arith) (λ m. (and_parts (is_member x) (are_members xs) (member m)).1) (down most us (simple_low most q w)) n (omega (arith, simple_takes q, skip_within us)) in
+      rw (simple_at_complete members q (semicolon_closes us semicolon) (omega arith) (λ m. (and_parts (is_member x) (are_members xs) (member m)).0) w, semicolon, begun_no_newline (first (skip us)) (line_begins l), more) refl
 
 -- ---- what stands behind the parts of a compound statement
 
@@ -110,9 +106,6 @@ handler_by_kind : (k : TokenKind) (rs : Readers) (h : ℕ) (block : Tokens → F
     → stmt_reading.handler_by k rs h block ts ≡ (within expr_height h (reading.expr rs ts) >>> λ e. stmt_reading.named_handler (first e.1) (first (skip e.1)) block e.0 e.1)
 handler_by_kind kind.Colon rs h block ts e = absurd cc
 handler_by_kind _ rs h block ts e = refl
-
-name_is : (n : Name) (ts : Tokens) → first ts ≡ kind.Name n → reading.name_by (first ts) ts ≡ Some (named n ts, skip ts)
-name_is n ts h = ap (λ k. reading.name_by k ts) h
 
 bases_complete : {ts us : Tokens} → stmt_grammar.IsEmptyBases ts us → first us ≡ kind.Colon → stmt_reading.bases ts ≡ Ok (tt, us)
 unfolding stmt_reading.bases
@@ -324,7 +317,7 @@ module _ (most d : ℕ) (rs : Readers) (inner : AreComplete d rs) (h : ℕ) (eno
   statement_complete {c} {ts = ts} members (stmt_grammar.a_line l) rests low member w =
       line_by_kind (first ts) rs h c members block ts (line_begins l) ∙ line_complete most d rs inner h enough members l low member w (suc (length ts)) (omega arith)
   statement_complete {ts = ts} members (stmt_grammar.a_compound {form = form} q) rests low member w =
-      compound_complete members q rests (omega arith) (λ m. (both_held (is_member (stmt_tree.a_stmt (line_at ts) form)) true (member m)).0) w
+      compound_complete members q rests (omega arith) (λ m. (and_parts (is_member (stmt_tree.a_stmt (line_at ts) form)) true (member m)).0) w
 
   pub statements_complete : {c : Context} {xs : Stmts} {ts us : Tokens} (members : Bool) → stmt_grammar.IsStatements c xs ts us → ends (first us) ≡ true → stmts_height xs ≤ suc h → (members ≡ true → are_members xs ≡ true) → IsShallow most 0 ts → (n : ℕ) → length ts < n
       → stmt_reading.statements_by n rs h c members block ts ≡ Ok (xs, us)

@@ -1,11 +1,11 @@
 -- What is read of statements is spelled so, within the height and, in a class, by members alone.
 use Rattle.std.proofs.Common.{◌≡◌, ℕ, zero, suc, ◌≤◌, ◌==◌, max, Bool, true, false, ◌&&◌, length, Some, None, Ok, refl, sym, ap, subst, ◌∙◌, inl, inr, arith}
-use Rattle.std.proofs.lemmas.Bool.{eqb-true}
+use Rattle.std.proofs.lemmas.Bool.{and_parts, eqb-true}
 use Rattle.rp_base.specs.declared.value.Line.{Line}
 use Rattle.rp_token.specs.declared.token.TokenKind.{TokenKind}
 use Rattle.rp_token.specs.declared.token.TokenKind.TheVariants as kind
 use Rattle.rp_tree.specs.Expressions as tree
-use Rattle.rp_tree.specs.Expressions.{Named, Expr, Target, Params}
+use Rattle.rp_tree.specs.Expressions.{Named, Expr, Params}
 use Rattle.rp_tree.specs.Heights.{expr_height, target_height, params_height, stmt_height, stmt_form_height, stmts_height, maybe_stmts_height, branches_height, except_height, excepts_height}
 use Rattle.rp_tree.specs.Statements as stmt_tree
 use Rattle.rp_tree.specs.Statements.{Stmt, StmtForm, Stmts, MaybeStmts, Branches, Except, Excepts}
@@ -22,7 +22,7 @@ use Rattle.rp_grammar.specs.Statements as stmt_grammar
 use Rattle.rp_grammar.specs.Statements.{Context, in_loop, in_handler, in_class, in_function, is_member, are_members, joined, one, top}
 use Rattle.rp_grammar.specs.Program.{Spells}
 use Rattle.rp_grammar.specs.StatementReading as stmt_reading
-use Rattle.rp_grammar.specs.StatementReading.{Found, ◌>>>◌, Blocks, from, within, hidden, expected, ends}
+use Rattle.rp_grammar.specs.StatementReading.{Found, ◌>>>◌, Blocks, within, expected, ends}
 use Rattle.rp_grammar.proofs.StatementMarks.{newline_is, elif_is, else_is, finally_is, except_is, indent_is, left_paren_is}
 use Rattle.rp_grammar.proofs.Founds.{ok_is, bind_ok, from_ok, hidden_ok, within_ok, expected_ok, no_member_ok, got_ok, member_ok}
 pub use Rattle.rp_grammar.proofs.Simple.{simple_sound, name_sound}
@@ -54,13 +54,9 @@ both_hold true true h k = refl
 both_hold true false h k = absurd cc
 both_hold false b h k = absurd cc
 
-both_held : (a b : Bool) → (a && b) ≡ true → (a ≡ true) × (b ≡ true)
-both_held true b h = (refl, h)
-both_held false b h = absurd cc
-
 pub joined_members : (xs ys : Stmts) → are_members xs ≡ true → are_members ys ≡ true → are_members (joined xs ys) ≡ true
 joined_members stmt_tree.no_stmts ys h k = k
-joined_members (stmt_tree.stmt x xs) ys h k = let (head, tail) = both_held (is_member x) (are_members xs) h in both_hold (is_member x) (are_members (joined xs ys)) head (joined_members xs ys tail k)
+joined_members (stmt_tree.stmt x xs) ys h k = let (head, tail) = and_parts (is_member x) (are_members xs) h in both_hold (is_member x) (are_members (joined xs ys)) head (joined_members xs ys tail k)
 
 pub one_member : (x : Stmt) → is_member x ≡ true → are_members (one x) ≡ true
 one_member x h = both_hold (is_member x) true h refl

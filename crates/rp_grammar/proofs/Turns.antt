@@ -88,9 +88,6 @@ plains_short d b ts x h =
 
 -- ---- what an item is read to be
 
-pub alike_reads : {A : Type 0} (read : Tokens → Read A) (ts us : Tokens) (x : A) → read ts ≡ Some (x, us) → reading.alike read tt ts ≡ Some ((x, tt), us)
-alike_reads read ts us x is = rw is refl
-
 pub operation_begins : (o : Option BinOp) (x : BinOp) → o ≡ Some x → reading.is_some o ≡ true
 operation_begins o x h = ap reading.is_some h
 

@@ -17,7 +17,7 @@ is_none None = true
 is_none (Some g) = false
 
 -- any name and any number, and no mark
-abbrev unmarked : LeafTest Name
+abbrev pub unmarked : LeafTest Name
 unmarked = record { name = λ n. true; number = λ n. true; block = λ b. true; mark = is_none }
 
 kind_fits : (k : TokenKind) → kind_passes unmarked k ≡ true
@@ -25,11 +25,11 @@ kind_fits (kind.Name n) = refl
 kind_fits (kind.Int n) = refl
 kind_fits _ = refl
 
-all_fit : (ts : Tokens) → tokens_pass unmarked ts ≡ true
+pub all_fit : (ts : Tokens) → tokens_pass unmarked ts ≡ true
 all_fit [] = refl
 all_fit (t ∷ ts) = rw (kind_fits t.kind, all_fit ts) refl
 
-taken_off : (g : Option Guard) → is_none g ≡ true → None ≡ g
+pub taken_off : (g : Option Guard) → is_none g ≡ true → None ≡ g
 taken_off None ok = refl
 taken_off (Some g) ok = absurd cc
 

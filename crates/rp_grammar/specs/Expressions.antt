@@ -1,7 +1,8 @@
 -- The grammar of expressions, a constructor for each production (Python Language Reference, Expressions). `Or e ts us` says that the
 -- expression e is spelled as an `or` by the tokens from ts up to us, and so for each family. No mark of a guard is spelled.
-use Rattle.std.specs.Prelude.{◌≡◌, ℕ, zero, suc, ℤ, Bool, true, false, ◌≤◌, ◌==◌, ◌&&◌, not, List, [], ◌∷◌, ◌++◌, Option, None, Some}
+use Rattle.std.specs.Prelude.{◌≡◌, ℕ, zero, suc, ℤ, Bool, true, false, ◌≤◌, ◌&&◌, not, List, [], ◌∷◌, ◌++◌, Option, None, Some}
 use Rattle.std.specs.List.{list_any}
+pub use Rattle.rp_base.specs.Names.{same_name}
 use Rattle.rp_base.specs.declared.operator.BinOp.{BinOp}
 use Rattle.rp_base.specs.declared.operator.UnOp.{UnOp}
 use Rattle.rp_base.specs.declared.operator.CmpOp.{CmpOp}
@@ -51,9 +52,6 @@ key_name x = []
 abbrev pub key_names : Args → List Name
 key_names tree.no_args = []
 key_names (tree.arg x xs) = key_name x ++ key_names xs
-
-abbrev pub same_name : Name → Name → Bool
-same_name m n = m.0 == n.0
 
 -- no name stands twice
 abbrev pub distinct : List Name → Bool

@@ -18,6 +18,8 @@ use Rattle.rp_grammar.specs.Kinds.{Tokens, first, line_at, skip, augmented_of}
 use Rattle.rp_grammar.specs.Expressions.{line_of, named, distinct, parameter_names}
 use Rattle.rp_grammar.specs.Conversion.{as_place, as_target}
 use Rattle.rp_grammar.specs.Front.{is_comma, is_colon, is_equal, is_in, is_right_paren, starts}
+pub use Rattle.rp_grammar.specs.Front.{is_else}
+pub use Rattle.rp_token.specs.Laws.{is_indent}
 use Rattle.rp_grammar.specs.ExpressionReading as read
 use Rattle.rp_grammar.specs.ExpressionReading.{Read, Readers, after, at, behind, before, alike, all_many, all_listed, name_by, ◌>>=◌}
 use Rattle.rp_grammar.specs.Statements.{Context, in_loop, in_handler, in_class, in_function, is_in_function, is_free, is_member, joined, one, top}
@@ -202,10 +204,6 @@ elifs r h block ts = elifs_by (suc (length ts)) r h block ts
 unfoldable pub maybe_suite : (TokenKind → Bool) → (Tokens → Found Stmts) → Tokens → Found MaybeStmts
 maybe_suite is block ts = if is (first ts) then (from ts (suite block (skip ts)) >>> λ b. Ok (stmt_tree.some b.0, b.1)) else Ok (stmt_tree.none, ts)
 
-abbrev pub is_else : TokenKind → Bool
-is_else kind.Else = true
-is_else _ = false
-
 abbrev pub is_finally : TokenKind → Bool
 is_finally kind.Finally = true
 is_finally _ = false
@@ -336,10 +334,6 @@ dedented _ xs ts = Err (Some ts)
 unfoldable pub indented : Readers → ℕ → Context → Bool → Blocks → Tokens → Found Stmts
 indented r h c members block ts = from ts (statement_at r h c members block ts) >>> λ xs. statements r h c members block xs.1 >>> λ ys.
     dedented (first ys.1) (joined xs.0 ys.0) ys.1
-
-abbrev pub is_indent : TokenKind → Bool
-is_indent kind.Indent = true
-is_indent _ = false
 
 abbrev pub block_by : TokenKind → Readers → ℕ → Context → Bool → Blocks → Tokens → Found Stmts
 block_by kind.Newline r h c members block ts = expected is_indent (indented r h c members block) (skip ts)

@@ -5,6 +5,7 @@ use Rattle.std.specs.Option.{ForSome, option_and_then, option_map, option_map_or
 use Rattle.std.proofs.lemmas.List.{get_or-map, length-map}
 use Rattle.std.proofs.lemmas.List.Elements.{All-cons, All-head, All-nil, All-tail}
 use Rattle.std.proofs.lemmas.Option.{get_or_from_slice_get, slice_get_within}
+use Rattle.std.proofs.Math.Bool.{or-true}
 use Rattle.rp_base.specs.Same.{same_text}
 use Rattle.rp_decl.specs.InOrder.{AreAscending, AreInOrder}
 use Rattle.rp_decl.specs.Order.{least}
@@ -24,6 +25,7 @@ use Rattle.rp_interact.proofs.Keeping.{one_place}
 use Rattle.rp_interact.proofs.Leasts.{nat_eq-swap}
 use Rattle.rp_interact.proofs.Naming.{find-map}
 use Rattle.rp_interact.proofs.Orders.{find-at, least-places, same_text-places}
+use Rattle.rp_base.proofs.CallerLemmas.{is_some-option_map}
 
 one-more : {X : Type 0} (ids : List (List ℕ)) (made : ℕ → X) (place : X → ℕ) (q : ℕ) (texts : List (List ℕ)) (xs : List X) (b : Bool) → place (made q) ≡ q → q < length ids
     → (texts ≡ map (text_at ids) (map place xs)) × All (λ q. q < length ids) (map place xs)
@@ -73,17 +75,13 @@ group-ids permissions ids (g ∷ groups) = ap (λ ids. g.id ∷ ids) (group-ids 
 pub stands-all : {X : Type 0} (P : X → Type 0) (xs : List X) (k : ℕ) (x : X) → All P xs → slice_get xs k ≡ Some x → P x
 stands-all P xs k x all e = rw (get_or_from_slice_get xs k x x e) at (all k x (slice_get_within xs k x e))
 
-or_true : (b : Bool) → (b || true) ≡ true
-or_true true = refl
-or_true false = refl
-
 -- the least place that passes is that of an element
 pub least-among : {X : Type 0} (test : X → Bool) (place : X → ℕ) (xs : List X) (q : ℕ) → least_of test place xs ≡ Some q → list_any (λ x. nat_eq (place x) q) xs ≡ true
 least-among test place [] q e = cc
 least-among {X} test place (x ∷ xs) q e = by (test x) (least-among test place xs q) e
   where
     last : (b : Bool) → b ≡ true → (nat_eq (place x) q || b) ≡ true
-    last b t = ap (λ b. nat_eq (place x) q || b) t ∙ or_true (nat_eq (place x) q)
+    last b t = ap (λ b. nat_eq (place x) q || b) t ∙ or-true (nat_eq (place x) q)
 
     pick : (o : Option ℕ) → least_of test place xs ≡ o → (least_of test place xs ≡ Some q → list_any (λ x. nat_eq (place x) q) xs ≡ true) → Some (lower o (place x)) ≡ Some q → (nat_eq (place x) q || list_any (λ x. nat_eq (place x) q) xs) ≡ true
     pick None none later e = let same : place x ≡ q = cc in ap (λ b. b || list_any (λ x. nat_eq (place x) q) xs) (eq-eqb (place x) q same)
@@ -193,16 +191,12 @@ module _ (names : List (List ℕ)) (d : Placed) (ordered : AreInOrder (declarati
   allowing-agrees places within =
       (least-agrees (group_ids d) (text.group_allows (declarations_view names d) asked) (group_granted d.roles d.groups) (λ g. g.place) (λ g. is_in g.allow p) places groups_ascending (λ q. refl) group-allows (below-groups places within)).0
 
-  some-mapped : {X Y : Type 0} (f : X → Y) (o : Option X) → is_some (option_map f o) ≡ is_some o
-  some-mapped f None = refl
-  some-mapped f (Some x) = refl
-
   -- the least group with a role, and the role
   pub with-role-agrees : (places : List ℕ) → AreBelow (length d.groups) places
       → text.group_with_role (declarations_view names d) asked (map (text_at (group_ids d)) places) ≡ option_map (reason_view d) (group_role (granted places) p)
   with-role-agrees places within =
       let found = least-agrees (group_ids d) (λ g. is_some (text.role_of_group (declarations_view names d) asked g)) (group_granted d.roles d.groups) (λ g. g.place) (λ g. is_some (least_role g.roles p)) places groups_ascending (λ q. refl)
-      (λ q inside. ap is_some (group-role q inside) ∙ some-mapped (text_at (role_ids d)) (least_role (group_granted d.roles d.groups q).roles p)) (below-groups places within) in
+      (λ q inside. ap is_some (group-role q inside) ∙ is_some-option_map (text_at (role_ids d)) (least_role (group_granted d.roles d.groups q).roles p)) (below-groups places within) in
       ap (option_and_then (λ g. option_map (text.group_role g) (text.role_of_group (declarations_view names d) asked g))) found.0 ∙ by (least_with_role (granted places) p) refl found.1
     where
       roles : (q : ℕ) (o : Option ℕ) → option_map (text.group_role (text_at (group_ids d) q)) (option_map (text_at (role_ids d)) o) ≡ option_map (reason_view d) (option_map (GroupRole q) o)

@@ -6,7 +6,7 @@ use Rattle.std.proofs.lemmas.List.FromFn.{get_or-map-range_with_len}
 use Rattle.std.proofs.lemmas.Iterator.Adapters.{position_from-zero}
 use Rattle.std.proofs.lemmas.List.Quantifiers.{position-Some}
 use Rattle.rp_base.specs.Same.{same_text}
-use Rattle.rp_base.proofs.Words.{same_text-equal}
+use Rattle.rp_base.proofs.CallerLemmas.{same_text-equal}
 use Rattle.rp_decl.specs.Document.{public as zope_public}
 use Rattle.rp_decl.specs.InOrder.{AreInOrder}
 use Rattle.rp_decl.specs.Places.{IsGroupWithin, IsPrincipalWithin, IsRoleWithin}
@@ -15,7 +15,7 @@ use Rattle.rp_decl.specs.View.{Placed, declarations_view, group_ids, perm_text, 
 use Rattle.rp_decl.specs.declared.records.Perm.{Perm}
 use Rattle.rp_decl.specs.declared.records.PrincipalDecl.{PrincipalDecl}
 use Rattle.rp_interact.specs.Answers.{reason_view}
-use Rattle.rp_interact.specs.Granted.{first_rule, granted_of, is_in, least_allowing, least_denying, least_role, reason, rule, rules}
+use Rattle.rp_interact.specs.Granted.{first_rule, granted_of, is_in, least_allowing, least_denying, least_role, reason, rules}
 use Rattle.rp_interact.specs.Interacting.{is_everybody, is_yes, reason_at, why_in}
 use Rattle.rp_interact.specs.Why as text
 use Rattle.rp_interact.specs.declared.reason.Reason.{Reason}
@@ -23,6 +23,7 @@ use Rattle.rp_interact.specs.declared.reason.Reason.TheVariants.{Public, Own, Ro
 use Rattle.rp_interact.proofs.Agreeing.{allowing-agrees, denying-agrees, is_among-places, roles-agree, with-role-agrees}
 use Rattle.rp_interact.proofs.Naming.{AreNamed, find-within, principal-named, principal_of, table_of, view_of}
 use Rattle.rp_interact.proofs.Orders.{same_text-places}
+use Rattle.rp_interact.specs.Why.{rule}
 
 position_from-none : {X : Type 0} (test : X → Bool) (first : ℕ) (xs : List X) → position_from test first xs ≡ None → (k : ℕ) (d : X) → k < length xs → test (get_or xs k d) ≡ false
 position_from-none test first [] e k d inside = absurd (omega arith)

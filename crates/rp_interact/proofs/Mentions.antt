@@ -10,6 +10,7 @@ use Rattle.rp_interact.specs.ReasonsSteps.{Mention, each, first_of, goes_before,
 use Rattle.rp_interact.specs.declared.reason.Reason.{Reason}
 use Rattle.rp_interact.specs.declared.reason.Reason.TheVariants.{Public, Own, Role, Group, GroupRole, Nothing}
 use Rattle.rp_interact.proofs.Keeping.{one_place}
+use Rattle.std.proofs.Math.Bool.{or-true}
 
 -- the first reason does not come after the second
 abbrev pub IsAtMost : Reason → Reason → Type 0
@@ -213,10 +214,6 @@ each-says {X} gives place (x ∷ xs) p r says = by (each-says gives (place + 1) 
     by rest (inl here) = record { behind = zero; element = x; stands = refl; says = let same : place + zero ≡ place = omega arith in rw same here }
     by rest (inr later) = more (rest later)
 
-or_true : (b : Bool) → (b || true) ≡ true
-or_true true = refl
-or_true false = refl
-
 -- a permission that is granted
 pub says-granting : (reason : Reason) (ps : List Perm) (p : Perm) → is_in ps p ≡ true → Says (granting reason ps) p.0 reason
 says-granting reason [] p granted = cc
@@ -231,7 +228,7 @@ granting-says reason [] p r says = absurd says
 granting-says reason (q ∷ ps) p r (inl here) = (here.1, ap (λ b. b || is_in ps p) (eq-eqb q.0 p.0 here.0))
 granting-says reason (q ∷ ps) p r (inr later) =
     let rest = granting-says reason ps p r later in
-    (rest.0, ap (λ b. nat_eq q.0 p.0 || b) rest.1 ∙ or_true (nat_eq q.0 p.0))
+    (rest.0, ap (λ b. nat_eq q.0 p.0 || b) rest.1 ∙ or-true (nat_eq q.0 p.0))
 
 -- one turn of a loop over elements, with what is left of them
 pub lowered-turn : {X : Type 0} (gives : ℕ → X → List Mention) (xs : List X) (i : ℕ) (x : X) (t : List Reason) → i < length xs → x ≡ get_or xs i x

@@ -12,6 +12,7 @@ use Rattle.rp_interact.specs.Granted.{granted_of, reasons_of}
 use Rattle.rp_interact.specs.declared.reason.Reason.{Reason}
 use Rattle.rp_interact.specs.Why.{first_unknown, principal_named}
 use Rattle.rp_interact.proofs.Leasts.{find-first}
+use Rattle.rp_base.proofs.CallerLemmas.{is_some-option_map}
 
 -- the principal with an id, as the code looks for it
 abbrev pub principal_of : Placed → List ℕ → Option PrincipalDecl
@@ -58,12 +59,8 @@ find-map {X} {Y} f test (x ∷ xs) = by (test (f x)) (find-map f test xs)
 pub principal-named : (names : List (List ℕ)) (d : Placed) (id : List ℕ) → principal_named (declarations_view names d) id ≡ option_map (view_of d) (principal_of d id)
 principal-named names d id = find-map (view_of d) (λ p. same_text id p.id) d.principals
 
-some-mapped : {X Y : Type 0} (f : X → Y) (o : Option X) → is_some (option_map f o) ≡ is_some o
-some-mapped f None = refl
-some-mapped f (Some x) = refl
-
 is-named : (names : List (List ℕ)) (d : Placed) (id : List ℕ) → is_some (principal_named (declarations_view names d) id) ≡ is_some (principal_of d id)
-is-named names d id = ap is_some (principal-named names d id) ∙ some-mapped (view_of d) (principal_of d id)
+is-named names d id = ap is_some (principal-named names d id) ∙ is_some-option_map (view_of d) (principal_of d id)
 
 -- where each names a principal, none is unknown
 pub none-unknown : (names : List (List ℕ)) (d : Placed) (ids : List (List ℕ)) (reasons : List (List Reason)) → AreNamed d ids reasons → first_unknown (declarations_view names d) ids ≡ None
@@ -72,7 +69,7 @@ none-unknown names d (id ∷ ids) [] named = cc
 none-unknown names d (id ∷ ids) (g ∷ reasons) named =
     let first : Some g ≡ option_map (table_of d) (principal_of d id) = cc in
     let rest : map Some reasons ≡ map (λ id. option_map (table_of d) (principal_of d id)) ids = cc in
-    let known : is_some (principal_named (declarations_view names d) id) ≡ true = is-named names d id ∙ sym (some-mapped (table_of d) (principal_of d id)) ∙ sym (ap is_some first) in
+    let known : is_some (principal_named (declarations_view names d) id) ≡ true = is-named names d id ∙ sym (is_some-option_map (table_of d) (principal_of d id)) ∙ sym (ap is_some first) in
     ap (λ b. cond (not b) (Some id) (first_unknown (declarations_view names d) ids)) known ∙ none-unknown names d ids reasons rest
 
 -- the first id that names none

@@ -1,6 +1,6 @@
 -- Texts in byte order: to compare them is to compare their places.
 use Rattle.std.proofs.Common.{◌≡◌, refl, sym, ap, ◌∙◌, ℕ, zero, suc, ◌<◌, ◌≤◌, ◌⊎◌, inl, inr, Bool, true, false, true≢false, cond, List, [], ◌∷◌, map, length, get_or, Option, Some, None, arith, nat_eq, nat_lt, encode_utf8_all, Less, Equal, Greater, find, eq-eqb}
-use Rattle.std.specs.List.{All, AllByRecursion, slice_get}
+use Rattle.std.specs.List.{All, slice_get}
 use Rattle.std.specs.List.Sorted.{IsStrictlySortedBy}
 use Rattle.std.specs.Cmp.Lexicographic.{nat_list_cmp_total}
 use Rattle.std.specs.Option.{ForSome, option_map, option_map_or}
@@ -12,7 +12,7 @@ use Rattle.std.proofs.lemmas.List.{get_or-map, length-map}
 use Rattle.std.proofs.lemmas.Option.{get_or_from_slice_get, slice_get_within}
 use Rattle.std.proofs.lemmas.List.Elements.{All-head, All-tail}
 use Rattle.rp_base.specs.Same.{same_text}
-use Rattle.rp_base.proofs.Words.{same_text-equal, same_text-refl}
+use Rattle.rp_base.proofs.CallerLemmas.{AllByRecursion-at, same_text-equal, same_text-refl}
 use Rattle.rp_decl.specs.InOrder.{AreAscending}
 use Rattle.rp_decl.specs.Order.{least, lesser, lesser_by, text_cmp}
 use Rattle.rp_decl.specs.View.{text_at}
@@ -29,18 +29,12 @@ same_text-swap x y other = by (same_text y x) refl
 not_below : (a b : ℕ) → b ≤ a → nat_lt a b ≡ false
 not_below a b high = grind (arith, nat_tests)
 
--- what holds of all by recursion holds at each place
-at_place : {X : Type 0} (P : X → Type 0) (xs : List X) (k : ℕ) (d : X) → AllByRecursion P xs → k < length xs → P (get_or xs k d)
-at_place P [] k d all inside = absurd (omega arith)
-at_place P (x ∷ xs) zero d all inside = all.0
-at_place P (x ∷ xs) (suc k) d all inside = at_place P xs k d all.1 (omega arith)
-
 -- a text comes before those at higher places
 pub before : (ids : List (List ℕ)) (i j : ℕ) → AreAscending ids → i < j → j < length ids → text_cmp (text_at ids i) (text_at ids j) ≡ Less
 unfolding IsStrictlySortedBy
 before [] i j ascending low inside = absurd (omega arith)
 before (x ∷ ids) zero zero ascending low inside = absurd (omega arith)
-before (x ∷ ids) zero (suc j) ascending low inside = at_place (λ y. text_cmp x y ≡ Less) ids j [] ascending.0 (omega arith)
+before (x ∷ ids) zero (suc j) ascending low inside = AllByRecursion-at (λ y. text_cmp x y ≡ Less) ids j [] ascending.0 (omega arith)
 before (x ∷ ids) (suc i) zero ascending low inside = absurd (omega arith)
 before (x ∷ ids) (suc i) (suc j) ascending low inside = before ids i j ascending.1 (omega arith) (omega arith)
 
@@ -118,7 +112,7 @@ find-at id (y ∷ xs) zero x ascending e = let same : y ≡ x = cc in rw same (a
 find-at id (y ∷ xs) (suc place) x ascending e =
     let inside : place < length xs = slice_get_within xs place x e in
     let as_many : length (map id xs) ≡ length xs = length-map xs id in
-    let low : text_cmp (id y) (get_or (map id xs) place []) ≡ Less = at_place (λ t. text_cmp (id y) t ≡ Less) (map id xs) place [] ascending.0 (omega arith) in
+    let low : text_cmp (id y) (get_or (map id xs) place []) ≡ Less = AllByRecursion-at (λ t. text_cmp (id y) t ≡ Less) (map id xs) place [] ascending.0 (omega arith) in
     let its : get_or (map id xs) place [] ≡ id x = get_or-map id xs place x [] inside ∙ ap id (get_or_from_slice_get xs place x x e) in
     let other : same_text (id x) (id y) ≡ false = less-differs (id y) (id x) (ap (text_cmp (id y)) (sym its) ∙ low) in
     ap (λ b. cond b (Some y) (find (λ r. same_text (id x) (id r)) xs)) other ∙ find-at id xs place x ascending.1 e

@@ -6,7 +6,7 @@ use Rattle.rp_decl.specs.declared.records.GroupDecl.{GroupDecl}
 use Rattle.rp_decl.specs.declared.records.Perm.{Perm}
 use Rattle.rp_decl.specs.declared.records.PrincipalDecl.{PrincipalDecl}
 use Rattle.rp_decl.specs.declared.records.RoleDecl.{RoleDecl}
-use Rattle.rp_interact.specs.Granted.{Granted, granted_of, group_granted, group_role, group_roles, is_in, least_allowing, least_denying, least_role, least_with_role, permissions_of, reason, role_at, role_granted, rule}
+use Rattle.rp_interact.specs.Granted.{Granted, granted_of, group_granted, group_role, group_roles, is_in, least_allowing, least_denying, least_role, least_with_role, permissions_of, reason, role_at, role_granted}
 use Rattle.rp_interact.specs.Least.{least_of, least_place, lower}
 use Rattle.rp_interact.specs.ReasonsSteps.{has_place}
 use Rattle.rp_interact.specs.declared.reason.Reason.{Reason}
@@ -14,17 +14,15 @@ use Rattle.rp_interact.specs.declared.reason.Reason.TheVariants.{Public, Own, Ro
 use Rattle.rp_interact.proofs.Agreeing.{find-made, least-among}
 use Rattle.rp_interact.proofs.Keeping.{one_place}
 use Rattle.rp_interact.proofs.Mentions.{IsAtMost}
+use Rattle.std.proofs.Math.Bool.{or-true}
+use Rattle.rp_interact.specs.Why.{rule}
 
 -- a place among others, and one that passes
 abbrev Passes : {X : Type 0} → (X → Bool) → (ℕ → X) → List ℕ → ℕ → Type 0
 Passes test made places q = (has_place places q ≡ true) × (test (made q) ≡ true)
 
-or_true : (b : Bool) → (b || true) ≡ true
-or_true true = refl
-or_true false = refl
-
 passes-later : {X : Type 0} (test : X → Bool) (made : ℕ → X) (x : ℕ) (places : List ℕ) (q : ℕ) → Passes test made places q → Passes test made (x ∷ places) q
-passes-later test made x places q rest = (ap (λ b. nat_eq x q || b) rest.0 ∙ or_true (nat_eq x q), rest.1)
+passes-later test made x places q rest = (ap (λ b. nat_eq x q || b) rest.0 ∙ or-true (nat_eq x q), rest.1)
 
 passes-here : {X : Type 0} (test : X → Bool) (made : ℕ → X) (x : ℕ) (places : List ℕ) (q : ℕ) → test (made x) ≡ true → x ≡ q → Passes test made (x ∷ places) q
 passes-here test made x places q passes same = (ap (λ b. b || has_place places q) (eq-eqb x q same), ap (λ y. test (made y)) (sym same) ∙ passes)

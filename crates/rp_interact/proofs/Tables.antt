@@ -19,10 +19,7 @@ use Rattle.rp_interact.proofs.Agreeing.{stands-all}
 use Rattle.rp_interact.proofs.Rules.{Applies, IsFirst, first-unique, reason-is-first}
 use Rattle.rp_interact.proofs.Keeping.{one_place}
 use Rattle.rp_interact.proofs.Mentions.{IsAtMost, IsLowered, Says, at_most-antisym, at_most-self, at_most-trans, each-says, granting-says, length-lowered, lowered-append, lowered-at, says-each, says-granting, says-left, says-one, says-right}
-
-or_true : (b : Bool) → (b || true) ≡ true
-or_true true = refl
-or_true false = refl
+use Rattle.std.proofs.Math.Bool.{or-true}
 
 -- places that are given reasons of their own
 says-places : (f : ℕ → Reason) (places : List ℕ) (q : ℕ) → has_place places q ≡ true → Says (map (λ r. (r, f r)) places) q (f q)
@@ -36,7 +33,7 @@ says-places f (x ∷ places) q among = by (nat_eq x q) refl (says-places f place
 places-say : (f : ℕ → Reason) (places : List ℕ) (q : ℕ) (r : Reason) → Says (map (λ r. (r, f r)) places) q r → (f q ≡ r) × (has_place places q ≡ true)
 places-say f [] q r says = absurd says
 places-say f (x ∷ places) q r (inl here) = (ap f (sym here.0) ∙ here.1, ap (λ b. b || has_place places q) (eq-eqb x q here.0))
-places-say f (x ∷ places) q r (inr later) = let rest = places-say f places q r later in (rest.0, ap (λ b. nat_eq x q || b) rest.1 ∙ or_true (nat_eq x q))
+places-say f (x ∷ places) q r (inr later) = let rest = places-say f places q r later in (rest.0, ap (λ b. nat_eq x q || b) rest.1 ∙ or-true (nat_eq x q))
 
 -- a place among some stands below what all of them stand below
 below : (n : ℕ) (places : List ℕ) (q : ℕ) → All (λ p. p < n) places → has_place places q ≡ true → q < n

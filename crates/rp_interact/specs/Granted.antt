@@ -1,5 +1,5 @@
 -- The rules for what a principal is granted and denied, with permissions, roles and groups as places.
-use Rattle.std.specs.Prelude.{ℕ, Bool, true, false, nat_eq, List, [], ◌∷◌, find, map, Option, Some, None, option_map, option_and_then, is_some, unwrap_or, if◌then◌else◌}
+use Rattle.std.specs.Prelude.{ℕ, Bool, true, false, nat_eq, List, [], ◌∷◌, find, map, Option, option_map, option_and_then, is_some, unwrap_or}
 use Rattle.std.specs.List.{list_any, range_with_len, slice_get}
 use Rattle.std.specs.Option.{option_map_or}
 use Rattle.rp_decl.specs.declared.records.Perm.{Perm}
@@ -9,6 +9,7 @@ use Rattle.rp_decl.specs.declared.records.PrincipalDecl.{PrincipalDecl}
 use Rattle.rp_interact.specs.Least.{least_of}
 use Rattle.rp_interact.specs.declared.reason.Reason.{Reason}
 use Rattle.rp_interact.specs.declared.reason.Reason.TheVariants.{Own, Role, Group, GroupRole, Nothing}
+use Rattle.rp_interact.specs.Why.{rule}
 
 -- a role's place, and its permissions
 pub record RoleGranted : Type 0 where
@@ -76,9 +77,6 @@ role_at groups permission place = option_and_then (λ g. least_role g.roles perm
 
 abbrev pub group_role : List GroupGranted → Perm → Option Reason
 group_role groups permission = option_and_then (λ g. option_map (GroupRole g) (role_at groups permission g)) (least_with_role groups permission)
-
-abbrev pub rule : Bool → Reason → Option Reason
-rule applies reason = if applies then Some reason else None
 
 abbrev pub first_rule : List (Option Reason) → Reason
 first_rule [] = Nothing

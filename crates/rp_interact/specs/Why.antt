@@ -58,7 +58,7 @@ group_with_role d permission ids =
     option_and_then (λ g. option_map (group_role g) (role_of_group d permission g)) (least (filter (λ g. is_some (role_of_group d permission g)) ids))
 
 -- a rule, where it applies
-abbrev pub rule : Bool → Reason → Option Reason
+abbrev pub rule : {A : Type 0} → Bool → A → Option A
 rule applies reason = if applies then Some reason else None
 
 -- the first rule that applies

@@ -1,5 +1,5 @@
 -- What reading and deleting at a key come to.
-use Rattle.std.proofs.Common.{◌≡◌, ℕ, zero, suc, Bool, true, false, true≢false, cond, not, List, [], ◌∷◌, codes, Option, Some, None, is_some, Result, Ok, Err, IsErrAnd, slice_get, refl, sym, ap, subst, ◌∙◌}
+use Rattle.std.proofs.Common.{◌≡◌, ℕ, zero, suc, Bool, true, false, cond, List, [], ◌∷◌, codes, Option, Some, None, is_some, Result, Ok, Err, IsErrAnd, slice_get, refl, sym, ap, subst, ◌∙◌}
 use Rattle.std.specs.Map.{lookup, remove_entry}
 use Rattle.std.specs.Option.{option_and_then, option_map, option_map_or}
 use Rattle.rp_base.specs.declared.kind.Kind.TheVariants.{TypeError}
@@ -13,18 +13,15 @@ use Rattle.rp_base.specs.declared.value.Value.TheVariants as value
 use Rattle.rp_store.specs.Heap.{Owned, changed_from, content_at, entry_at, entry_of}
 use Rattle.rp_store.specs.Key.{key_form, same_key}
 use Rattle.rp_store.specs.Object as object
-use Rattle.rp_store.specs.Object.{Content}
+use Rattle.rp_store.specs.Object.{Content, Entry}
 use Rattle.rp_store.specs.Parts.{entries}
 use Rattle.rp_store.specs.Store.{Cells, written}
 use Rattle.rp_store.specs.Writers.{without_entry}
 use Rattle.rp_store.specs.declared.key.Key.{Key}
 use Rattle.rp_ops.specs.Keys.{key_named}
 use Rattle.rp_ops.specs.Numbers.{refused}
-use Rattle.rp_ops.specs.Outcome.{Meets, Outcome, Raises, State, ends, gives, on_found, raised, state_of}
+use Rattle.rp_ops.specs.Outcome.{Meets, Outcome, State, gives, on_found, state_of}
 use Rattle.rp_items.specs.Items.{changed, content_del, content_item, lent_out, missing_key, no_items, without_rock}
-
-abbrev Entry : Type 0
-Entry = Key × (Rock × Value)
 
 -- a rock with a key form is a key
 key-found : {B : Type 0} (r : Rock) (key : Key) (s : State) (go : Rock → State → Outcome B) → Some key ≡ key_form r → on_found (key_named (value.Rock r)) s go ≡ go r s
@@ -37,10 +34,6 @@ some_by (Some a) f y z e = refl
 none_by : {A B : Type 0} (x : Option A) (f : A → Value) (y z : B) → option_map f x ≡ None → option_map_or (λ _. y) x z ≡ z
 none_by None f y z e = refl
 none_by (Some a) f y z e = absurd (cc)
-
-pub none_of : {A : Type 0} (x : Option A) (b : Bool) → is_some x ≡ not b → b ≡ true → x ≡ None
-none_of None b e none = refl
-none_of (Some a) b e none = absurd (true≢false (e ∙ ap not none))
 
 -- a dict without the key of a rock
 without_rock-entry : (r : Rock) (key : Key) → Some key ≡ key_form r → without_rock r ≡ without_entry key
@@ -121,15 +114,6 @@ entries-found heap at es i s e =
     ap (λ (x : Option Content). option_map_or (λ c. content_item c i s) x (no_items s)) e
     ∙ sym (ap (λ (x : Option Content). on_found (key_named i) s (λ r s. option_map_or (λ e. gives e.1 s)
     (option_and_then (λ key. option_map_or (λ c. lookup (same_key key) (entries c)) x None) (key_form r)) (missing_key r s))) e)
-
--- an exception is raised where the store is as before, or there was no memory for its text
-pub Meets-raised : {A : Type 0} (e : OpEnd) (r : Raised) (old new : Cells) (steps : ℕ) (o : Outcome A) → Raises e r → new ≡ old → o ≡ ends (raised r) (state_of old steps)
-    → Meets (Err e) (state_of new steps) o
-Meets-raised (end.Raised x) r old new steps o h same is =
-    is ∙ ap (λ (s : Cells). ends (raised r) (state_of s steps)) (sym same) ∙ ap (λ (r : Raised). ends (raised r) (state_of new steps)) (sym h)
-Meets-raised end.StopSteps r old new steps o h same is = absurd h
-Meets-raised end.StopCells r old new steps o h same is = absurd h
-Meets-raised end.Memory r old new steps o h same is = tt
 
 -- what ends through a proxy ends as it does without one
 pub lent-ends : (r : Result Value OpEnd) (e : OpEnd) (t : State) (o : Outcome Value) → IsErrAnd r (λ f. f ≡ e) → Meets {A = Value} (Err e) t o → Meets r t (lent_out o)

@@ -1,5 +1,6 @@
+pub mod CallerLemmas
 mod Found
 mod ItemExamples
 mod Runs
-mod SlicePlaces
-mod Sliced
+pub mod SlicePlaces
+pub mod Sliced

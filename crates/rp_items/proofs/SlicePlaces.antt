@@ -6,14 +6,15 @@ use Rattle.std.specs.Option.{IfSome}
 use Rattle.std.proofs.Math.Nat.{mul-le-mul_right}
 use Rattle.std.proofs.lemmas.Grind.{div_ceil_times}
 use Rattle.std.proofs.lemmas.Int.{ints}
-use Rattle.std.proofs.lemmas.List.Elements.{All-cons, All-head, All-nil, All-tail, filter_map-append}
+use Rattle.std.proofs.lemmas.List.Elements.{All-cons, All-nil, filter_map-append}
 use Rattle.rp_ops.specs.Binary.{times}
 use Rattle.rp_items.specs.Slices.{Span, bound, count, distance, first, last, place, sliced, span_of}
 use Rattle.rp_items.specs.SliceView.{AreOf, AreWithin, place_at, taken}
 use Rattle.rp_items.specs.declared.spans.Places.{Places}
+use Rattle.rp_base.proofs.CallerLemmas.{IfSome-slice_get, range-last}
 
 -- so many strides stay within the distance
-strides : (d k m : ℕ) → 0 < k → m < div_ceil d k → m * k < d
+pub strides : (d k m : ℕ) → 0 < k → m < div_ceil d k → m * k < d
 strides d k m some within =
     let most = (div_ceil_times d k some).1 in
     let up : suc m * k ≤ div_ceil d k * k = mul-le-mul_right {m = suc m} {n = div_ceil d k} k within in
@@ -100,19 +101,13 @@ backward_within n (negsuc k) b c s on e most = subst (λ (t : ℕ). AreWithin n 
 
 -- the elements at places
 
-range-push : (a n : ℕ) → range_with_len a (suc n) ≡ range_with_len a n ++ (a + n) ∷ []
-range-push a zero = let same : a ≡ a + 0 = omega arith in ap (λ (b : ℕ). b ∷ []) same
-range-push a (suc n) =
-    let same : a + 1 + n ≡ a + suc n = omega arith in
-    ap (λ (t : List ℕ). a ∷ t) (range-push (a + 1) n) ∙ ap (λ (b : ℕ). a ∷ (range_with_len (a + 1) n ++ b ∷ [])) same
-
 -- one place more
 pub taken-more : {A : Type 0} (h : ℕ → Option A) (m : ℕ) (v : A) → h m ≡ Some v
     → filter_map h (range_with_len 0 (m + 1)) ≡ filter_map h (range_with_len 0 m) ++ v ∷ []
 taken-more h m v e =
     let next : m + 1 ≡ suc m = omega arith in
     let place : 0 + m ≡ m = omega arith in
-    ap (λ (k : ℕ). filter_map h (range_with_len 0 k)) next ∙ ap (filter_map h) (range-push 0 m)
+    ap (λ (k : ℕ). filter_map h (range_with_len 0 k)) next ∙ ap (filter_map h) (range-last 0 m)
     ∙ ap (λ (k : ℕ). filter_map h (range_with_len 0 m ++ k ∷ [])) place ∙ filter_map-append h (range_with_len 0 m) (m ∷ [])
     ∙ ap (λ x. filter_map h (range_with_len 0 m) ++ cons_option x []) e
 
@@ -157,18 +152,13 @@ pub length-taken : {A : Type 0} (p : Places) (xs : List A) → AreWithin (length
 length-taken p xs within =
     length-taken_by (λ m. slice_get xs (place_at p m)) 0 p.count (λ m low high. slice_get-is_some xs (place_at p m) (within m (omega arith)).1)
 
-pub slice_get-each : {A : Type 0} (P : A → Type 0) (xs : List A) (i : ℕ) → All P xs → IfSome (slice_get xs i) P
-slice_get-each P [] i h = tt
-slice_get-each P (x ∷ xs) zero h = All-head P x xs h
-slice_get-each P (x ∷ xs) (suc i) h = slice_get-each P xs i (All-tail P x xs h)
-
 cons-each : {A : Type 0} (P : A → Type 0) (x : Option A) (ys : List A) → IfSome x P → All P ys → All P (cons_option x ys)
 cons-each P None ys is h = h
 cons-each P (Some x) ys is h = All-cons P x ys is h
 
 each_by : {A : Type 0} (P : A → Type 0) (xs : List A) (at : ℕ → ℕ) (ms : List ℕ) → All P xs → All P (filter_map (λ m. slice_get xs (at m)) ms)
 each_by P xs at [] h = All-nil P
-each_by P xs at (m ∷ ms) h = cons-each P (slice_get xs (at m)) _ (slice_get-each P xs (at m) h) (each_by P xs at ms h)
+each_by P xs at (m ∷ ms) h = cons-each P (slice_get xs (at m)) _ (IfSome-slice_get P xs (at m) h) (each_by P xs at ms h)
 
 -- what holds of all elements holds of those of a slice
 pub All-sliced : {A : Type 0} (P : A → Type 0) (s : Span) (xs : List A) → All P xs → All P (sliced s xs)

@@ -1,5 +1,5 @@
 //! Setting and deleting items.
-#![tactic(auto, using(rp_store::proofs::Shapes::goes_on))]
+#![tactic(auto, using(rp_store::proofs::CallerLemmas::goes_on))]
 
 ghost use Rattle.std.specs.Prelude.{◌≡◌, ℕ, is_some, length, IsSome, OnErr};
 ghost use Rattle.std.specs.Option.{option_map_or};

@@ -1,5 +1,5 @@
 //! Reading items.
-#![tactic(auto, using(rp_store::proofs::Shapes::goes_on))]
+#![tactic(auto, using(rp_store::proofs::CallerLemmas::goes_on))]
 
 ghost use Rattle.std.specs.Prelude.{◌≡◌, ℕ, List, length, IfOk};
 ghost use Rattle.std.specs.Option.{option_map_or};
@@ -12,11 +12,10 @@ ghost use Rattle.rp_items.specs.Items.{character_at, content_item, elements_item
 ghost use Rattle.rp_items.specs.Items.{place_named, rock_item};
 
 use crate::key_error::missing_key;
-use crate::lending::lent;
 use crate::letters::character_of;
 use crate::places::place_named;
 use rp_base::{Oid, OpEnd, Rock, Text, Value};
-use rp_ops::{Refusal, new_character};
+use rp_ops::{Refusal, lent, new_character};
 use rp_store::{Object, Store, key_of};
 use std::alloc::Global;
 

@@ -1,5 +1,5 @@
 //! The end of an operation on a key that is missing.
-#![tactic(auto, using(rp_store::proofs::Shapes::goes_on))]
+#![tactic(auto, using(rp_store::proofs::CallerLemmas::goes_on))]
 
 ghost use Rattle.std.specs.Prelude.{◌≡◌, IfOk};
 ghost use Rattle.rp_store.specs.Counters.{KeepsCounters};

@@ -4,7 +4,6 @@
 mod item_writers;
 mod items;
 mod key_error;
-mod lending;
 mod letters;
 mod places;
 mod slices;
@@ -13,5 +12,6 @@ mod spans;
 pub use item_writers::{del_item, set_item};
 pub use items::item;
 pub use key_error::missing_key;
+pub use places::{index_number, place_within};
 pub use slices::slice;
 pub use spans::SliceParts;

@@ -8,9 +8,9 @@ ghost use Rattle.rp_items.specs.Items.{from_end, place_named, place_within};
 use rp_base::{Rock, Value};
 use rp_ops::Refusal;
 
-/// The number that a value is as an index; True and False count as 1 and 0.
+/// The number that a value is as an index (Python Language Reference, Sequences); True and False count as 1 and 0.
 #[inline(always)]
-pub(crate) fn index_number(value: &Value) -> Option<i64>
+pub fn index_number(value: &Value) -> Option<i64>
     ensures { result ≡ index_number value.now }
 {
     match value {
@@ -28,13 +28,18 @@ pub(crate) fn place_named(len: usize, i: &Value) -> Result<usize, Refusal>
     ensures within { IfOk result (λ p. p < len) }
 {
     match index_number(i) {
-        Some(n) => place(len, n),
+        Some(n) => place_within(len, n),
         None => Err(Refusal::Index),
     }
 }
 
+/// The place that a number names in so many elements (Python Language Reference, Sequences). One below 0 counts from
+/// the end.
+///
+/// # Errors
+/// `Outside` where there is no such place.
 #[inline(always)]
-fn place(len: usize, i: i64) -> Result<usize, Refusal>
+pub fn place_within(len: usize, i: i64) -> Result<usize, Refusal>
     ensures named { described result ≡ place_within len (from_end len i) }
     ensures within { IfOk result (λ p. p < len) }
 {

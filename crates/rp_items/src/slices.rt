@@ -1,5 +1,5 @@
 //! Slices.
-#![tactic(auto, using(rp_store::proofs::Shapes::goes_on))]
+#![tactic(auto, using(rp_store::proofs::CallerLemmas::goes_on))]
 
 ghost use Rattle.std.specs.Prelude.{◌≡◌, ◌≢◌, ◌+◌, ◌<◌, ◌≤◌, ◌^◌, ℕ, List, [], length, pos, IfOk, OnErr};
 ghost use Rattle.std.specs.Option.{option_map_or};
@@ -16,11 +16,10 @@ ghost use Rattle.rp_ops.specs.View.{held_by, sequence_of};
 ghost use Rattle.rp_items.specs.Slices.{object_slice, owner_of, rock_slice, slice, sliced, span_named};
 ghost use Rattle.rp_items.specs.SliceView.{AreWithin, span_seen, taken};
 
-use crate::lending::lent;
 use crate::letters::{letters_at, run_of};
 use crate::spans::{Places, SliceParts, Span, places_of, span_named};
 use rp_base::{Memory, Oid, OpEnd, Rock, Text, Value};
-use rp_ops::{Refusal, Sequence, check_room, elements_at, new_object, new_text};
+use rp_ops::{Refusal, Sequence, check_room, elements_at, lent, new_object, new_text};
 use rp_store::{Object, Store};
 use std::alloc::Global;
 

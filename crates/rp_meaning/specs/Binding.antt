@@ -2,13 +2,12 @@
 -- put together once more, as the parameters are no vector.
 use Rattle.std.specs.Prelude.{ℕ, Bool, true, false, List, [], ◌∷◌, map, drop, length, is_some, Option, Some, None}
 use Rattle.std.specs.Option.{option_map_or}
-use Rattle.rp_base.specs.declared.value.Rock.{Rock}
 use Rattle.rp_base.specs.declared.value.Side.{Side}
 use Rattle.rp_base.specs.declared.value.Value.{Value}
 use Rattle.rp_calls.specs.Binding.{Parameter, parameter, defaults_after, filled, entries_for, elements_for, slot_made, no_binding}
 use Rattle.rp_ops.specs.Outcome.{State, Outcome, on_value}
 use Rattle.rp_store.specs.Object as object
-use Rattle.rp_store.specs.declared.key.Key.{Key}
+use Rattle.rp_store.specs.Object.{Entries}
 use Rattle.rp_tree.specs.declared.expr.Expr.{Expr}
 use Rattle.rp_tree.specs.Expressions.{Named}
 use Rattle.rp_tree.specs.Expressions as tree
@@ -42,9 +41,6 @@ offered names (tree.plain n x ps) args defaults =
 abbrev pub plain_names : tree.Plain → List (Named × Option Expr)
 plain_names tree.no_plain = []
 plain_names (tree.plain n x ps) = (n, None) ∷ plain_names ps
-
-abbrev pub Entries : Type 0
-Entries = List (Key × (Rock × Value))
 
 -- the tuple is made, then the dict
 abbrev pub all_made : Side → Bool → Bool → List Value → List Value → Entries → State → Outcome (List (Option Value))

@@ -1,6 +1,6 @@
 -- What a call of a function does: it runs the function's code in a scope of its own, with the side of the function's owner (Python Language
 -- Reference, Calls). How many calls may stand within one another is a rule of our own.
-use Rattle.std.specs.Prelude.{ℕ, zero, suc, ◌-◌, List, ◌++◌, map, length, codes, Option, Some, None}
+use Rattle.std.specs.Prelude.{ℕ, zero, suc, ◌-◌, List, ◌++◌, map, length, codes, option_map, Option, Some, None}
 use Rattle.rp_base.specs.declared.kind.Kind.TheVariants.{RecursionError}
 use Rattle.rp_base.specs.declared.value.Name.{Name}
 use Rattle.rp_base.specs.declared.value.Oid.{Oid}
@@ -37,6 +37,10 @@ value_of_code (lambda ps x) frame s = eval x frame s
 abbrev pub taken_all : List Owned → Side → Arguments → Arguments
 taken_all heap side a = record { plain = map (taken heap side) a.plain; named = map (λ n. (n.0, taken heap side n.1)) a.named }
 
+-- what parameters are bound to, as code of a side takes it: so it gets its defaults, too, as it gets arguments
+abbrev pub slots_taken : List Owned → Side → List (Option Value) → List (Option Value)
+slots_taken heap side bound = map (option_map (taken heap side)) bound
+
 -- the slots of a new scope: those of the parameters, and an empty one for each other local name
 abbrev pub slots_for : List Name → List (Option Value) → List (Option Value)
 slots_for locals bound = bound ++ empty_slots (length locals - length bound)
@@ -50,7 +54,7 @@ abbrev pub code_called : Run → Calls → Side → ℕ → Oid → List Value �
 code_called run calls side number within defaults None a s = not_called s
 code_called run calls side number within defaults (Some code) a s =
     on_value (plainly (bind side s.names (params_of code) defaults (taken_all (heap_of s) side a)) s) (λ bound s.
-    on_value (makes side (object.scope (Some number) (Some within) (slots_for ((run.programs side).layouts.locals number) bound)) s) (λ scope s.
+    on_value (makes side (object.scope (Some number) (Some within) (slots_for ((run.programs side).layouts.locals number) (slots_taken (heap_of s) side bound))) s) (λ scope s.
     value_of_code code (frame_in run calls side number scope) s))
 
 abbrev pub function_called : Run → Calls → Option Content → Arguments → State → Outcome Value

@@ -10,6 +10,8 @@ use Rattle.rp_tree.specs.declared.parts.Test.{Test}
 use Rattle.rp_tree.specs.Expressions as tree
 use Rattle.rp_tree.specs.Statements as stmt_tree
 use Rattle.rp_meaning_examples.proofs.Words.{print'}
+use Rattle.rp_tree.specs.ExpressionViews.{args_of, clauses_of, exprs_of, maybe_of, ops_of, pairs_of, targets_of, tests_of, trailers_of}
+use Rattle.rp_tree.specs.StatementViews.{excepts_of}
 
 abbrev pub line : Line
 line = record { 0 = 1 }
@@ -37,28 +39,20 @@ nil = e (tree.const const.Nil)
 abbrev pub truth : Bool → tree.Expr
 truth b = e (tree.const (const.Truth b))
 
-abbrev pub exprs : List tree.Expr → tree.Exprs
-exprs [] = tree.no_exprs
-exprs (x ∷ xs) = tree.expr x (exprs xs)
-
 abbrev pub tuple : List tree.Expr → tree.Expr
-tuple xs = e (tree.tuple (exprs xs))
+tuple xs = e (tree.tuple (exprs_of xs))
 
 abbrev pub list : List tree.Expr → tree.Expr
-list xs = e (tree.list (exprs xs))
-
-abbrev pub pairs : List (tree.Expr × tree.Expr) → tree.Pairs
-pairs [] = tree.no_pairs
-pairs (p ∷ ps) = tree.pair p.0 p.1 (pairs ps)
+list xs = e (tree.list (exprs_of xs))
 
 abbrev pub dict : List (tree.Expr × tree.Expr) → tree.Expr
-dict ps = e (tree.dict (pairs ps))
+dict ps = e (tree.dict (pairs_of ps))
 
 abbrev pub or : List tree.Expr → tree.Expr
-or xs = e (tree.or (exprs xs))
+or xs = e (tree.or (exprs_of xs))
 
 abbrev pub and : List tree.Expr → tree.Expr
-and xs = e (tree.and (exprs xs))
+and xs = e (tree.and (exprs_of xs))
 
 abbrev pub negated : tree.Expr → tree.Expr
 negated x = e (tree.not x)
@@ -66,19 +60,11 @@ negated x = e (tree.not x)
 abbrev pub cond : tree.Expr → tree.Expr → tree.Expr → tree.Expr
 cond test this other = e (tree.cond test this other)
 
-abbrev pub tests : List (Test × tree.Expr) → tree.Tests
-tests [] = tree.no_tests
-tests (x ∷ xs) = tree.test x.0 x.1 (tests xs)
-
 abbrev pub compare : tree.Expr → List (Test × tree.Expr) → tree.Expr
-compare x xs = e (tree.compare x (tests xs))
-
-abbrev pub ops : List (BinOp × tree.Expr) → tree.Ops
-ops [] = tree.no_ops
-ops (x ∷ xs) = tree.op x.0 x.1 (ops xs)
+compare x xs = e (tree.compare x (tests_of xs))
 
 abbrev pub chain : tree.Expr → List (BinOp × tree.Expr) → tree.Expr
-chain x xs = e (tree.chain x (ops xs))
+chain x xs = e (tree.chain x (ops_of xs))
 
 abbrev pub binary : BinOp → tree.Expr → tree.Expr → tree.Expr
 binary op a b = e (tree.chain a (tree.op op b tree.no_ops))
@@ -100,19 +86,11 @@ item_part x = tree.item x None
 abbrev pub slice_part : tree.Maybe → tree.Maybe → tree.Maybe → tree.Trailer
 slice_part a b c = tree.slice a b c None
 
-abbrev pub args : List tree.Arg → tree.Args
-args [] = tree.no_args
-args (x ∷ xs) = tree.arg x (args xs)
-
 abbrev pub call_part : List tree.Arg → tree.Trailer
-call_part xs = tree.call (args xs) None
-
-abbrev pub trailers : List tree.Trailer → tree.Trailers
-trailers [] = tree.no_trailers
-trailers (x ∷ xs) = tree.trailer x (trailers xs)
+call_part xs = tree.call (args_of xs) None
 
 abbrev pub primary : tree.Expr → List tree.Trailer → tree.Expr
-primary x xs = e (tree.primary x (trailers xs))
+primary x xs = e (tree.primary x (trailers_of xs))
 
 abbrev pub attribute : tree.Expr → Name → tree.Expr
 attribute x n = primary x (named_part n ∷ [])
@@ -137,20 +115,12 @@ to_attribute x n = tree.to_attr x (named n) None
 abbrev pub to_item : tree.Expr → tree.Expr → tree.Place
 to_item x i = tree.to_item x i None
 
-abbrev pub targets : List tree.Target → tree.Targets
-targets [] = tree.no_targets
-targets (x ∷ xs) = tree.target x (targets xs)
-
 abbrev pub group : List tree.Target → tree.Target
-group xs = tree.group (targets xs)
-
-abbrev pub maybe : Option tree.Expr → tree.Maybe
-maybe None = tree.none
-maybe (Some x) = tree.some x
+group xs = tree.group (targets_of xs)
 
 abbrev pub plain : List (Name × Option tree.Expr) → tree.Plain
 plain [] = tree.no_plain
-plain (p ∷ ps) = tree.plain (named p.0) (maybe p.1) (plain ps)
+plain (p ∷ ps) = tree.plain (named p.0) (maybe_of p.1) (plain ps)
 
 abbrev pub maybe_named : Option Name → Option Named
 maybe_named None = None
@@ -167,17 +137,13 @@ abbrev pub lambda : ℕ → tree.Params → tree.Expr → tree.Expr
 lambda n ps x = e (tree.lambda n ps x)
 
 abbrev pub clause : tree.Target → tree.Expr → List tree.Expr → tree.Clause
-clause target x xs = tree.a_clause (tree.a_walk target x None) (exprs xs)
-
-abbrev pub clauses : List tree.Clause → tree.Clauses
-clauses [] = tree.no_clauses
-clauses (x ∷ xs) = tree.clause x (clauses xs)
+clause target x xs = tree.a_clause (tree.a_walk target x None) (exprs_of xs)
 
 abbrev pub list_of : ℕ → tree.Expr → List tree.Clause → tree.Expr
-list_of n x cs = e (tree.list_of n x (clauses cs))
+list_of n x cs = e (tree.list_of n x (clauses_of cs))
 
 abbrev pub dict_of : ℕ → tree.Expr → tree.Expr → List tree.Clause → tree.Expr
-dict_of n k x cs = e (tree.dict_of n k x (clauses cs))
+dict_of n k x cs = e (tree.dict_of n k x (clauses_of cs))
 
 -- statements
 
@@ -220,12 +186,8 @@ for target x b = stmt_tree.for (tree.a_walk target x None) (body b)
 abbrev pub handler : Option tree.Expr → Option Name → List stmt_tree.StmtForm → stmt_tree.Except
 handler kind n b = stmt_tree.an_except kind (maybe_named n) (body b)
 
-abbrev pub handlers : List stmt_tree.Except → stmt_tree.Excepts
-handlers [] = stmt_tree.no_excepts
-handlers (x ∷ xs) = stmt_tree.except x (handlers xs)
-
 abbrev pub try : List stmt_tree.StmtForm → List stmt_tree.Except → Option (List stmt_tree.StmtForm) → Option (List stmt_tree.StmtForm) → stmt_tree.StmtForm
-try b hs other last = stmt_tree.try (body b) (handlers hs) (maybe_body other) (maybe_body last)
+try b hs other last = stmt_tree.try (body b) (excepts_of hs) (maybe_body other) (maybe_body last)
 
 abbrev pub define : ℕ → Name → tree.Params → List stmt_tree.StmtForm → stmt_tree.StmtForm
 define n name ps b = stmt_tree.define n (named name) ps (body b)

@@ -1,6 +1,6 @@
 -- Whole runs: the module is loaded, the sessions play, and what is seen of them is told. A few built-in functions stand in for all.
 use Rattle.std.proofs.Common.{ℕ, zero, suc, pos, Bool, true, false, List, [], ◌∷◌, ◌++◌, codes, map, Option, Some, None, Result, Ok, Err}
-use Rattle.std.specs.Prelude.{slice_index_or, position, ◌==◌, if◌then◌else◌, unsigned_abs, length}
+use Rattle.std.specs.Prelude.{slice_index_or, position, ◌==◌, if◌then◌else◌, unsigned_abs}
 use Rattle.std.specs.List.{range_with_len}
 use Rattle.std.specs.Map.{lookup}
 use Rattle.std.specs.Option.{option_map_or}
@@ -19,12 +19,11 @@ use Rattle.rp_ops.specs.Outcome as plain
 use Rattle.rp_ops.specs.Outcome.{End}
 use Rattle.rp_ops.specs.Binary.{new_object}
 use Rattle.rp_ops.specs.Keys.{index_number}
-use Rattle.rp_ops.specs.Operand.{truth_of}
+use Rattle.rp_ops.specs.Operand.{length_of, truth_of}
 use Rattle.rp_ops.specs.Walk.{elements}
 use Rattle.rp_proxy.specs.Decide.{decide}
 use Rattle.rp_proxy.specs.Taken.{bare}
 use Rattle.rp_show.specs.Show.{show, printed}
-use Rattle.rp_store.specs.Heap.{Owned, count_at}
 use Rattle.rp_store.specs.Key.{same_name}
 use Rattle.rp_store.specs.Object as object
 use Rattle.rp_store.specs.Writers.{pushed}
@@ -92,12 +91,6 @@ wrong word s = plain.raises TypeError word s
 
 abbrev number : ℕ → Value
 number n = value.Rock (rock.Int (pos n))
-
-abbrev length_of : List Owned → Value → Option ℕ
-length_of heap (value.Rock (rock.Text t)) = Some (length t)
-length_of heap (value.Rock r) = None
-length_of heap (value.Ref at) = count_at heap at
-length_of heap (value.Prox at) = count_at heap at
 
 abbrev function : List (List ℕ) → Side → NativeId → List Value → plain.State → plain.Outcome Value
 function names side native.Len (v ∷ []) s = option_map_or (λ n. plain.gives (number n) s) (length_of s.store.heap v) (wrong (codes "len") s)

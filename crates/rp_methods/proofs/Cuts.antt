@@ -1,27 +1,15 @@
 -- Parts of texts: what searches on bytes say of the characters.
-use Rattle.std.proofs.Common.{◌≡◌, ℕ, zero, suc, ◌<◌, ◌≤◌, ◌==◌, Bool, true, false, List, [], ◌∷◌, ◌++◌, length, length-append, take, drop, reverse, chars, encode_utf8, encode_utf8_all, ◌-◌, Some, None, option_map, eq-eqb, refl, sym, ap, subst, ◌∙◌, arith, rules}
+use Rattle.std.proofs.Common.{◌≡◌, ℕ, zero, suc, ◌<◌, ◌≤◌, Bool, true, false, List, [], ◌∷◌, ◌++◌, length, length-append, take, drop, reverse, chars, encode_utf8, encode_utf8_all, ◌-◌, Some, None, option_map, refl, sym, ap, subst, ◌∙◌, arith, rules}
 use Rattle.std.specs.Bool.{MatchBool}
 use Rattle.std.specs.Char.{len_utf8}
 use Rattle.std.specs.Str.{IsUtf8}
 use Rattle.std.specs.Str.Pattern.{FindsText, FindsTextPrefix, FindsTextSuffix, HasPrefixMatch, HasSuffixMatch, LacksTextAt, MatchBeginsAt}
 use Rattle.std.proofs.Math.Seq.{drop-append_seam}
-use Rattle.std.proofs.lemmas.Bool.{and_from, and_parts, eqb-true}
 use Rattle.std.proofs.lemmas.List.{length-take, reverse-append, reverse-reverse, take-append-drop, take-append-le}
 use Rattle.std.proofs.lemmas.Str.{IsUtf8-take, chars-append, encodes-append, encodes-chars, length-encode}
 use Rattle.rp_compare.specs.Membership.{begins}
 use Rattle.rp_methods.specs.Texts.{ends, place_in}
-
-begins-rest : (xs ys : List ℕ) → begins xs ys ≡ true → (rest : List ℕ) × (ys ≡ xs ++ rest)
-begins-rest [] ys e = (ys, refl)
-begins-rest (x ∷ xs) [] e = absurd (cc)
-begins-rest (x ∷ xs) (y ∷ ys) e =
-    let parts = and_parts (x == y) (begins xs ys) e in
-    let after = begins-rest xs ys parts.1 in
-    (after.0, ap (λ z. z ∷ ys) (sym (eqb-true x y parts.0)) ∙ ap (λ l. x ∷ l) after.1)
-
-pub begins-front : (xs rest : List ℕ) → begins xs (xs ++ rest) ≡ true
-begins-front [] rest = refl
-begins-front (x ∷ xs) rest = and_from (x == x) (begins xs (xs ++ rest)) (eq-eqb x x refl) (begins-front xs rest)
+use Rattle.rp_compare.proofs.CallerLemmas.{begins-front, begins-rest}
 
 not-so : (b : Bool) → (b ≡ true → ⊥) → false ≡ b
 not-so true h = absurd (h refl)

@@ -1,7 +1,6 @@
 pub mod Blanks
 pub mod Copies
 pub mod Cuts
-pub mod Ends
 pub mod Listed
 pub mod Made
 pub mod NoClasses

@@ -1,6 +1,6 @@
 -- Pairs that are gone through one after another.
 use Rattle.std.proofs.Common.{◌≡◌, ℕ, suc, ◌+◌, ◌<◌, List, [], ◌∷◌, ◌++◌, drop, drop-cons, add-one, get_or, length, Result, Err, IsErrAnd, sym, ap, subst, ◌∙◌}
-use Rattle.std.proofs.lemmas.List.Elements.{All-append, All-cons, All-nil, All-same}
+use Rattle.std.proofs.lemmas.List.Elements.{All-cons, All-nil, All-same}
 use Rattle.rp_base.specs.declared.value.Oid.{Oid}
 use Rattle.rp_base.specs.declared.value.OpEnd.{OpEnd}
 use Rattle.rp_base.specs.declared.value.Rock.{Rock}
@@ -10,12 +10,11 @@ use Rattle.rp_base.specs.declared.value.Value.TheVariants as value
 use Rattle.rp_store.specs.Heap.{Owned}
 use Rattle.rp_store.specs.Kept.{AreSound, IsSound}
 use Rattle.rp_store.specs.Object as object
-use Rattle.rp_store.specs.Shape.{KeepsShape}
 use Rattle.rp_store.specs.Store.{Cells, added}
 use Rattle.rp_items.specs.Items.{set_item}
 use Rattle.rp_ops.specs.Outcome.{Meets, Outcome, State, ends, gives, on_value, state_of}
 use Rattle.rp_methods.specs.Dicts.{put_all, tuples_listed}
-use Rattle.rp_methods.proofs.Ends.{passes-on}
+use Rattle.rp_ops.proofs.CallerLemmas.{passes-on}
 
 -- the pair at a place is the first of what is left
 at-front : {A : Type 0} (es : List A) (i : ℕ) (e : A) → e ≡ get_or es i e → i < length es → drop i es ≡ e ∷ drop (i + 1) es
@@ -31,12 +30,6 @@ listed-next side es made more i e start old new v steps is less same place done 
     ∙ ap (λ (w : Value). tuples_listed side rest (made ++ w ∷ []) (state_of (added old side (object.tuple (value.Rock e.0 ∷ e.1 ∷ []))) steps)) (sym place)
     ∙ ap (λ (l : List Value). tuples_listed side rest l (state_of (added old side (object.tuple (value.Rock e.0 ∷ e.1 ∷ []))) steps)) (sym put)
     ∙ ap (λ (s : Cells). tuples_listed side rest more (state_of s steps)) (sym done)
-
-pub sound-next : (old new : List Owned) (made more : List Value) (v : Value) → KeepsShape old new → AreSound old made → IsSound new v → more ≡ made ++ v ∷ []
-    → AreSound new more
-sound-next old new made more v keeps h sound put =
-    All-same (IsSound new) more (made ++ v ∷ []) put
-    (All-append (IsSound new) made (v ∷ []) (keeps.all_sound made h) (All-cons (IsSound new) v [] sound (All-nil (IsSound new))))
 
 pub sound-both : (heap : List Owned) (items : List Value) (r : Rock) (v : Value) → items ≡ value.Rock r ∷ v ∷ [] → IsSound heap v → AreSound heap items
 sound-both heap items r v e h =

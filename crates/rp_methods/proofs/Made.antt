@@ -1,6 +1,5 @@
 -- Objects that are made of a dict.
-use Rattle.std.proofs.Common.{◌≡◌, ◌+◌, ◌*◌, List, [], Option, Some, Result, length, sym, ap, subst}
-use Rattle.std.specs.Option.{option_map_or}
+use Rattle.std.proofs.Common.{◌≡◌, ◌+◌, ◌*◌, List, [], Some, Result, length, sym, subst}
 use Rattle.rp_base.specs.declared.value.Oid.{Oid}
 use Rattle.rp_base.specs.declared.value.OpEnd.{OpEnd}
 use Rattle.rp_base.specs.declared.value.Rock.{Rock}
@@ -12,10 +11,7 @@ use Rattle.rp_ops.specs.Binary.{new_object}
 use Rattle.rp_ops.specs.Outcome.{Meets, State, charged}
 use Rattle.rp_items.specs.Slices.{owner_of}
 use Rattle.rp_methods.specs.Dicts.{entries_of, items, pairs, tuples_listed}
-
--- the owner of the object at a place
-pub owner-is : (at : Oid) (s : State) (side : Side) → owner_at s.store.heap at ≡ Some side → owner_of at s ≡ side
-owner-is at s side e = ap (λ (x : Option Side). option_map_or (λ o. o) x (record { 0 = 0 })) e
+use Rattle.rp_items.proofs.CallerLemmas.{owner-is}
 
 -- the same object is made
 pub made-same : (r : Result Value OpEnd) (s t : State) (at : Oid) (owner : Side) (c d : Content) → owner_at s.store.heap at ≡ Some owner → c ≡ d

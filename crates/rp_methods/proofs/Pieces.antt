@@ -7,7 +7,8 @@ use Rattle.std.proofs.lemmas.List.{take-append-drop}
 use Rattle.std.proofs.lemmas.Str.{IsUtf8-take, chars-append, encodes-append, encodes-chars, length-le-encodes}
 use Rattle.rp_compare.specs.Membership.{begins}
 use Rattle.rp_methods.specs.Texts.{joined, pieces, pieces_after, place_in, preceded, with_first}
-use Rattle.rp_methods.proofs.Cuts.{begins-front, place-found, place-missing}
+use Rattle.rp_methods.proofs.Cuts.{place-found, place-missing}
+use Rattle.rp_compare.proofs.CallerLemmas.{begins-front}
 
 passed-over : (u : List ℕ) (n : ℕ) (w y : List ℕ) → length w ≡ n → pieces_after u n (w ++ y) ≡ pieces_after u 0 y
 passed-over u zero [] y e = refl

@@ -1,5 +1,5 @@
 -- What taking a key out of a dict comes to.
-use Rattle.std.proofs.Common.{◌≡◌, ℕ, Option, Some, None, is_some, Bor, Ok, codes, refl, sym, ap, ◌∙◌}
+use Rattle.std.proofs.Common.{◌≡◌, ℕ, Option, Some, None, Bor, Ok, codes, sym, ap, ◌∙◌}
 use Rattle.std.specs.Option.{option_and_then, option_copied, option_map, option_map_or}
 use Rattle.rp_base.specs.declared.kind.Kind.TheVariants.{TypeError}
 use Rattle.rp_base.specs.declared.value.Oid.{Oid}
@@ -46,7 +46,3 @@ pub value-held : (r : Option (Bor (Rock × Value))) (b : Bor (Rock × Value)) (x
 value-held r b x v e is same =
     ap (λ (x : Option (Rock × Value)). option_map (λ (e : Rock × Value). e.1) x) (sym e)
     ∙ ap (λ (r : Option (Bor (Rock × Value))). option_map (λ (e : Rock × Value). e.1) (option_copied r)) is ∙ ap (λ (v : Value). Some v) (sym same)
-
-pub is_some-copied : {A : Type 0} (x : Option (Bor A)) → is_some (option_copied x) ≡ is_some x
-is_some-copied None = refl
-is_some-copied (Some a) = refl

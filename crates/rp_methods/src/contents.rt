@@ -1,15 +1,14 @@
 //! What lists and dicts hold.
-ghost use Rattle.std.specs.Prelude.{◌≡◌, length, IfOk};
+ghost use Rattle.std.specs.Prelude.{◌≡◌, length};
 ghost use Rattle.std.specs.List.{All};
 ghost use Rattle.rp_store.specs.Heap.{IsHeld, Names, elements_at};
 ghost use Rattle.rp_store.specs.Kept.{AreSound, IsEntry};
 ghost use Rattle.rp_store.specs.Parts.{IsDict, IsList};
 ghost use Rattle.rp_methods.specs.Dicts.{entries_of};
 
-use rp_base::{Memory, Oid, Rock, Value};
+use rp_base::{Oid, Rock, Value};
 use rp_dict::Dict;
 use rp_store::{Key, Object, Store};
-use std::alloc::Global;
 
 /// The elements of a list.
 pub(crate) fn list_at(store: &Store, at: Oid) -> &[Value]
@@ -44,18 +43,4 @@ pub(crate) fn dict_at(store: &Store, at: Oid) -> &Dict<Key, (Rock, Value)>
         Object::Dict(entries) => entries,
         _ => unreachable!(),
     }
-}
-
-/// Copies of values.
-///
-/// # Errors
-/// `Memory` where a growth was refused, or the count of a text's owners is full.
-pub(crate) fn copies(alloc: Global, values: &[Value]) -> Result<Vec<Value>, Memory>
-    ensures { IfOk result (λ all. all.items ≡ values.now) }
-{
-    let mut all = Vec::with_capacity(alloc, values.len())?;
-    for value in values {
-        all.push(value.copy()?)?;
-    }
-    Ok(all)
 }

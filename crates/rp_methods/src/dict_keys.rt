@@ -1,5 +1,5 @@
 //! The methods of dicts that take a key.
-#![tactic(auto, using(rp_store::proofs::Shapes::goes_on, crate::proofs::NoClasses::no_class))]
+#![tactic(auto, using(rp_store::proofs::CallerLemmas::goes_on, crate::proofs::NoClasses::no_class))]
 
 ghost use Rattle.std.specs.Prelude.{◌≡◌, ℕ, List, slice_get, IfOk, IfSome, OnErr};
 ghost use Rattle.std.specs.Option.{option_copied, option_map_or};

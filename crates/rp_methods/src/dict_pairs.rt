@@ -1,5 +1,5 @@
 //! The entries of dicts as tuples, and as what other dicts take.
-#![tactic(auto, using(rp_store::proofs::Shapes::goes_on, crate::proofs::NoClasses::no_class))]
+#![tactic(auto, using(rp_store::proofs::CallerLemmas::goes_on, crate::proofs::NoClasses::no_class))]
 
 ghost use Rattle.std.specs.Prelude.{◌≡◌, ◌+◌, ◌*◌, ◌^◌, ◌<◌, ◌≤◌, ◌++◌, ℕ, List, None, Some, is_some, if◌then◌else◌};
 ghost use Rattle.std.specs.Prelude.{[], ◌∷◌, length, IfOk, IfSome, MatchOption, OnOk};

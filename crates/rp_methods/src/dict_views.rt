@@ -1,5 +1,5 @@
 //! Lists and dicts that are made of the entries of a dict.
-#![tactic(auto, using(rp_store::proofs::Shapes::goes_on, crate::proofs::NoClasses::no_class))]
+#![tactic(auto, using(rp_store::proofs::CallerLemmas::goes_on, crate::proofs::NoClasses::no_class))]
 
 ghost use Rattle.std.specs.Prelude.{◌≡◌, ◌∷◌, ◌++◌, [], ℕ, map, IfOk, OnErr, OnOk};
 ghost use Rattle.rp_dict.specs.Dict.{insert_entry};

@@ -1,5 +1,5 @@
 //! Elements put into lists, and put in another order.
-#![tactic(auto, using(rp_store::proofs::Shapes::goes_on, crate::proofs::NoClasses::no_class))]
+#![tactic(auto, using(rp_store::proofs::CallerLemmas::goes_on, crate::proofs::NoClasses::no_class))]
 
 ghost use Rattle.std.specs.Prelude.{◌≡◌, ◌≤◌, ℕ, length, reverse, IfOk, OnErr};
 ghost use Rattle.std.specs.Option.{option_map_or};
@@ -16,11 +16,12 @@ ghost use Rattle.rp_methods.specs.Classes.{AddsNoClass};
 ghost use Rattle.rp_methods.specs.Faults.{wrong_argument};
 ghost use Rattle.rp_methods.specs.Lists.{append, extend, grows, insert, insert_at, reversed};
 
-use crate::contents::{copies, list_at, list_length};
+use crate::contents::{list_at, list_length};
 use crate::fault::Fault;
-use crate::places::{index_number, place_before};
+use crate::places::place_before;
 use rp_base::{Memory, Meter, Oid, OpEnd, Rock, Value};
-use rp_ops::elements;
+use rp_items::index_number;
+use rp_ops::{copies, elements};
 use rp_store::Store;
 use std::alloc::Global;
 

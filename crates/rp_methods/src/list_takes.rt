@@ -1,5 +1,5 @@
 //! Elements taken out of lists.
-#![tactic(auto, using(rp_store::proofs::Shapes::goes_on, crate::proofs::NoClasses::no_class))]
+#![tactic(auto, using(rp_store::proofs::CallerLemmas::goes_on, crate::proofs::NoClasses::no_class))]
 
 ghost use Rattle.std.specs.Prelude.{◌≡◌, ◌<◌, ℕ, length, IfOk, OnErr};
 ghost use Rattle.std.specs.Option.{option_map_or};
@@ -16,8 +16,8 @@ ghost use Rattle.rp_methods.specs.Lists.{pop, pop_at, taken_out};
 
 use crate::contents::list_length;
 use crate::fault::Fault;
-use crate::places::{index_number, place_within};
 use rp_base::{Oid, OpEnd, Value};
+use rp_items::{index_number, place_within};
 use rp_store::Store;
 use std::alloc::Global;
 

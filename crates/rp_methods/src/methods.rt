@@ -1,5 +1,5 @@
 //! Calls of built-in methods.
-#![tactic(auto, using(rp_store::proofs::Shapes::goes_on, crate::proofs::NoClasses::no_class))]
+#![tactic(auto, using(rp_store::proofs::CallerLemmas::goes_on, crate::proofs::NoClasses::no_class))]
 
 ghost use Rattle.std.specs.Prelude.{◌≤◌, ℕ, IfOk};
 ghost use Rattle.rp_store.specs.Counters.{KeepsCounters};

@@ -1,5 +1,5 @@
 //! The methods of texts that make a list of texts.
-#![tactic(auto, using(rp_store::proofs::Shapes::goes_on, crate::proofs::NoClasses::no_class))]
+#![tactic(auto, using(rp_store::proofs::CallerLemmas::goes_on, crate::proofs::NoClasses::no_class))]
 
 ghost use Rattle.std.specs.Prelude.{◌≡◌, ◌<◌, ◌+◌, ◌++◌, ◌∷◌, [], ℕ, chars, encode_utf8_all, length, map, IfNone, IfOk};
 ghost use Rattle.std.specs.Prelude.{IfSome, OnOk};

@@ -1,5 +1,5 @@
 //! The methods of texts that make a text.
-#![tactic(auto, using(rp_store::proofs::Shapes::goes_on))]
+#![tactic(auto, using(rp_store::proofs::CallerLemmas::goes_on))]
 
 ghost use Rattle.std.specs.Prelude.{◌≡◌, ◌≤◌, ◌<◌, ◌+◌, ◌++◌, ℕ, List, chars, encode_utf8_all, length, map};
 ghost use Rattle.std.specs.Prelude.{string_bytes, IfNone, IfOk, IfSome, OnOk};

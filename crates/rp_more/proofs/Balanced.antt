@@ -1,5 +1,5 @@
 -- The tokens of a text close each bracket that they open, and have no more than the most open at once.
-use Rattle.std.proofs.Common.{◌≡◌, refl, sym, ap, ◌∙◌, subst, ℕ, zero, suc, ◌-◌, ◌==◌, Bool, true, false, nat_lt, if◌then◌else◌, List, [], ◌∷◌, length, drop, Result, Ok, Err, arith}
+use Rattle.std.proofs.Common.{◌≡◌, refl, sym, ap, ◌∙◌, subst, ℕ, zero, suc, ◌-◌, Bool, true, false, nat_lt, if◌then◌else◌, List, [], ◌∷◌, length, drop, Result, Ok, Err, arith}
 use Rattle.std.proofs.lemmas.Bool.{ltb-false}
 use Rattle.std.proofs.Math.Seq.{drop-length}
 use Rattle.rp_token.specs.declared.fault.TokenFault.{TokenFault}
@@ -10,6 +10,7 @@ use Rattle.rp_token.specs.Tokens.{State, and_then, at_line, closed_to, ending, i
 use Rattle.rp_token.proofs.LawsItems.{Lawful, Lawful-few, Within, open_after}
 use Rattle.rp_token.proofs.LawsRules.{After, Obeys, Ready, Ready-from_Here, Obeys-on, closed_to-keeps, plain-newline, step-keeps, with_token-lawful, with_token-plain}
 use Rattle.rp_token.proofs.Steps.{IsBehind, behind, drop-behind, drop-difference, step-left}
+use Rattle.rp_token.proofs.Laws.{without_mark-behind}
 
 pub record AreBalanced (items : List Item) : Type 0 where
   pub within : Within 200 0 items
@@ -71,13 +72,6 @@ tokens_from-balanced text zero s (c ∷ cs) left so_far =
         let less = step-left (record s { left = c ∷ cs }) t (omega arith) is in
         let rest : t.left ≡ drop (less.count - 1) cs = less.is ∙ drop-behind less.count c cs less.some in
         further (length cs - length t.left) t (rest ∙ sym ((λ k. drop (length cs - length (rest k)) cs) ∙ drop-difference (less.count - 1) cs)) (Ready-from_Here text t here)
-
-without_mark-behind : (text : List ℕ) → IsBehind 0 text (without_mark text)
-without_mark-behind text = by (first text == 0xFEFF)
-  where
-    by : (b : Bool) → IsBehind 0 text (if b then drop 1 text else text)
-    by true = behind 0 1 text (omega arith)
-    by false = behind 0 0 text (omega arith)
 
 -- the tokens of a text
 pub of_text : (text : List ℕ) → AllBalanced (tokens_of text)

@@ -7,7 +7,6 @@ use Rattle.std.specs.declared.vec.Vec.{Vec}
 use Rattle.std.proofs.lemmas.List.{append-nil}
 use Rattle.rp_token.specs.Form.{Item, newline}
 use Rattle.rp_token.specs.Laws.{EndsOnce, IsWithin, closes, open_behind, opens}
-use Rattle.rp_token.specs.Lexer.{IsGrown}
 use Rattle.rp_token.specs.View.{IsHeld, form_view}
 use Rattle.rp_token.specs.declared.token.Token.{Token}
 use Rattle.rp_token.specs.declared.token.TokenKind.{TokenKind}
@@ -25,16 +24,17 @@ use Rattle.rp_more.proofs.Depth.{AllWithin, Within-items, literals-within, plain
 use Rattle.rp_more.proofs.Ends.{AllEnd, ends-tokens, items_end, literals-end}
 use Rattle.rp_more.proofs.Held.{items-later}
 use Rattle.rp_more.proofs.SetLaws.{sets-end, sets-within}
+use Rattle.rp_base.specs.Names.{GrowsTo}
 
 -- the tokens given look the same where there are more names
-pub given-same : (old new more : List (List ℕ)) (ts : List Token) → All (IsHeld old) ts → IsGrown old new → items_of (new ++ more) ts ≡ items_of old ts
+pub given-same : (old new more : List (List ℕ)) (ts : List Token) → All (IsHeld old) ts → GrowsTo old new → items_of (new ++ more) ts ≡ items_of old ts
 given-same old new more ts held grown =
     (λ k. items_of ((ap (λ ns. ns ++ more) grown.1 ∙ append_assoc old grown.0 more) k) ts) ∙ items-later old (grown.0 ++ more) ts held
 
 -- what the two writers give: the tokens behind the first, and those behind the second
 pub record Given (old new : List (List ℕ)) (ts written found : List Token) : Type 0 where
   pub held : All (IsHeld old) ts
-  pub grown : IsGrown old new
+  pub grown : GrowsTo old new
   pub literals : (more : List (List ℕ)) → literals false false (items_of (new ++ more) ts) ≡ Ok (items_of (new ++ more) written)
   pub sets : (names : List (List ℕ)) → items_of names found ≡ sets [] newline (items_of names written)
 
@@ -46,7 +46,7 @@ pub expanded-now : (old new : List (List ℕ)) (ts written found : List Token) �
 expanded-now old new ts written found given = expanded-later old new ts written found given [] ∙ (λ k. Ok (items_of (append-nil new k) found))
 
 -- a fault of the first writer
-pub expanded-failed : (old new : List (List ℕ)) (ts : List Token) (f : MoreFault) → All (IsHeld old) ts → IsGrown old new
+pub expanded-failed : (old new : List (List ℕ)) (ts : List Token) (f : MoreFault) → All (IsHeld old) ts → GrowsTo old new
     → ((more : List (List ℕ)) → Gives (new ++ more) (literals false false (items_of (new ++ more) ts)) (Err f)) → Gives new (expanded (items_of old ts)) (Err f)
 expanded-failed old new ts fault.Memory held grown given = tt
 expanded-failed old new ts (fault.Format line) held grown given =

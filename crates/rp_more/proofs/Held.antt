@@ -6,8 +6,8 @@ use Rattle.rp_token.specs.declared.token.Token.{Token}
 use Rattle.rp_token.specs.declared.token.TokenKind.{TokenKind}
 use Rattle.rp_token.specs.declared.token.TokenKind.TheVariants as kind
 use Rattle.rp_token.specs.Form.{name}
-use Rattle.rp_token.specs.Lexer.{IsGrown}
 use Rattle.rp_token.specs.View.{IsHeld, IsHeldKind, form_view, item_view}
+use Rattle.rp_base.specs.Names.{GrowsTo}
 
 pub form-later : (names more : List (List ℕ)) (k : TokenKind) → IsHeldKind names k → form_view (names ++ more) k ≡ form_view names k
 form-later names more (kind.Name n) held = ap name (get_or_append_left names more [] n.0 held)
@@ -32,7 +32,7 @@ held-later names more (kind.Name n) held = let both = length-append names more i
 held-later names more k held = tt
 
 -- tokens whose names are held among more names
-pub All-grown : (old new : List (List ℕ)) (ts : List Token) → IsGrown old new → All (IsHeld old) ts → All (IsHeld new) ts
+pub All-grown : (old new : List (List ℕ)) (ts : List Token) → GrowsTo old new → All (IsHeld old) ts → All (IsHeld new) ts
 All-grown old new ts grown all = λ k d within.
     subst (λ names. IsHeld names (get_or ts k d)) (sym grown.1) (held-later old grown.0 ((get_or ts k d).kind) (all k d within))
 

@@ -5,10 +5,9 @@ use Rattle.std.proofs.lemmas.List.{append-nil, map-append}
 use Rattle.std.proofs.lemmas.List.Folds.{flat_map-map}
 use Rattle.std.specs.List.{All}
 use Rattle.std.specs.Prelude.{pos, negsuc}
-use Rattle.rp_base.specs.Names.{is_held, with_words}
-use Rattle.rp_base.proofs.Words.{is_held-at, with_word-held, with_words-append, with_words-then}
+use Rattle.rp_base.specs.Names.{GrowsTo, is_held, with_words}
+use Rattle.rp_base.proofs.CallerLemmas.{is_held-at, with_word-held, with_words-append, with_words-then}
 use Rattle.rp_token.specs.Form.{Form, Item, literal, name}
-use Rattle.rp_token.specs.Lexer.{IsGrown}
 use Rattle.rp_token.specs.NameWords.{name_words, word_in}
 use Rattle.rp_token.specs.View.{IsHeld, IsHeldKind, form_view, item_view}
 use Rattle.rp_token.specs.declared.token.Token.{Token}
@@ -28,7 +27,7 @@ pub Follow-refl : (names : List (List ℕ)) (ts : List Token) → Follow names n
 Follow-refl names ts = λ start more so_far. so_far
 
 -- one after another
-pub Follow-then : (old mid new : List (List ℕ)) (before between after : List Token) → IsGrown mid new → Follow old mid before between → Follow mid new between after → Follow old new before after
+pub Follow-then : (old mid new : List (List ℕ)) (before between after : List Token) → GrowsTo mid new → Follow old mid before between → Follow mid new between after → Follow old new before after
 Follow-then old mid new before between after grown one other = λ start more so_far.
     let P = λ (names : List (List ℕ)). old ≡ with_words start (name_words (items_of names before)) → mid ≡ with_words start (name_words (items_of names between)) in
     other start more (grown-at mid new more P grown (one start) so_far)

@@ -1,16 +1,13 @@
 -- The pieces so far, the run so far, and what is left of a text.
 use Rattle.std.proofs.Common.{◌≡◌, ◌∙◌, refl, sym, ap, ℕ, ◌<◌, List, [], ◌∷◌, ◌++◌, append_assoc, length, map, chars, Option, Some, None, arith}
 use Rattle.std.specs.Option.{option_map}
-use Rattle.std.proofs.lemmas.List.{append-nil, map-append, nil_from_length}
+use Rattle.std.proofs.lemmas.List.{append-nil, map-append}
 use Rattle.std.proofs.lemmas.Str.{chars-nil}
 use Rattle.rp_more.specs.declared.pieces.Piece.{Piece}
 use Rattle.rp_more.specs.declared.pieces.Piece.TheVariants as piece
 use Rattle.rp_more.specs.Pieces as of
 use Rattle.rp_more.specs.PieceSteps.{piece_seen, with_run}
 use Rattle.rp_more.proofs.Runs.{with_run-more, with_run-none, with_run-part}
-
-pub no_bytes : (bs : List ℕ) → length bs ≡ 0 → chars bs ≡ []
-no_bytes bs e = ap chars (nil_from_length bs e) ∙ chars-nil
 
 -- a run that has no characters, and one that has some
 pub run-empty : (xs : List of.Piece) (cs : List ℕ) → cs ≡ [] → xs ≡ xs ++ with_run cs []

@@ -8,6 +8,7 @@ use Rattle.std.proofs.lemmas.List.Folds.{list_all-append}
 use Rattle.std.proofs.lemmas.List.Sums.{take_while-cons}
 use Rattle.std.proofs.lemmas.Str.{IsCharBoundary-at_seam, IsUtf8-take, chars_from_encodes, encodes-append, encodes-chars}
 use Rattle.rp_token.specs.Characters.{behind_run, first, is_blank}
+use Rattle.rp_base.proofs.CallerLemmas.{length-front}
 
 -- Some characters were read: those up to the last one that is no blank, and the blanks behind it.
 pub record Read (text kept rest : List ℕ) : Type 0 where
@@ -89,23 +90,20 @@ seam : (bs rest letters : List ℕ) → IsUtf8 bs → IsUtf8 rest → chars bs �
 seam bs rest letters whole left spelled =
     sym (encodes-chars bs whole) ∙ ap encode_utf8_all spelled ∙ encodes-append letters (chars rest) ∙ ap (λ more. encode_utf8_all letters ++ more) (encodes-chars rest left)
 
-front_length : (text letters rest : List ℕ) → text ≡ letters ++ rest → length letters ≡ length text - length rest
-front_length text letters rest e = let both = ap length e ∙ length-append letters rest in omega arith
-
 pub cut-le : (bs rest letters : List ℕ) → IsUtf8 bs → IsUtf8 rest → chars bs ≡ letters ++ chars rest → length rest ≤ length bs
 cut-le bs rest letters whole left spelled = let both = ap length (seam bs rest letters whole left spelled) ∙ length-append (encode_utf8_all letters) rest in omega arith
 
 pub cut-boundary : (bs rest letters : List ℕ) → IsUtf8 bs → IsUtf8 rest → chars bs ≡ letters ++ chars rest → IsCharBoundary bs (length bs - length rest)
 cut-boundary bs rest letters whole left spelled =
     let bytes = seam bs rest letters whole left spelled in
-    rw (← front_length bs (encode_utf8_all letters) rest bytes) (IsCharBoundary-at_seam bs (encode_utf8_all letters) rest bytes left)
+    rw (← length-front bs (encode_utf8_all letters) rest bytes) (IsCharBoundary-at_seam bs (encode_utf8_all letters) rest bytes left)
 
 pub cut-front : (bs rest letters front : List ℕ) → IsUtf8 bs → IsUtf8 rest → chars bs ≡ letters ++ chars rest → front ≡ take (length bs - length rest) bs → chars front ≡ letters
 cut-front bs rest letters front whole left spelled is =
     let bytes = seam bs rest letters whole left spelled in
     let text_of : IsUtf8 (take (length bs - length rest) bs) = IsUtf8-take bs (length bs - length rest) whole (cut-boundary bs rest letters whole left spelled) in
     let taken : take (length bs - length rest) bs ≡ encode_utf8_all letters =
-    ap (take (length bs - length rest)) bytes ∙ take_at (encode_utf8_all letters) rest (length bs - length rest) (front_length bs (encode_utf8_all letters) rest bytes) in
+    ap (take (length bs - length rest)) bytes ∙ take_at (encode_utf8_all letters) rest (length bs - length rest) (length-front bs (encode_utf8_all letters) rest bytes) in
     ap chars is ∙ sym (chars_from_encodes letters _ text_of (sym taken))
 
 pub chars-chosen : (b : Bool) (one other chosen : List ℕ) → chosen ≡ (if b then one else other) → chars chosen ≡ (if b then chars one else chars other)

@@ -4,7 +4,7 @@ use lib.Utf8.{encode}
 use Rattle.unicode_ident.proofs.Computing.{unicode_ident}
 use Rattle.unicode_normalization.proofs.Computing.{unicode_normalization}
 use Rattle.rp_base.specs.Identifier.{IsIdentifier}
-use Rattle.rp_base.proofs.Spelling.{IsIdentifier-spelled}
+use Rattle.rp_base.proofs.CallerLemmas.{IsIdentifier-spelled}
 
 pub identifier-join : IsIdentifier (codes "join")
 unfolding encode unicode_ident unicode_normalization

@@ -4,9 +4,8 @@ ghost use Rattle.std.specs.Prelude.{◌≡◌, ◌++◌, ◌∷◌, [], ℕ, IfO
 ghost use Rattle.std.specs.List.{All};
 ghost use Rattle.std.specs.Option.{option_map};
 ghost use Rattle.rp_base.specs.Identifier.{IsIdentifier};
-ghost use Rattle.rp_base.specs.Names.{with_word, with_words};
+ghost use Rattle.rp_base.specs.Names.{GrowsTo, with_word, with_words};
 ghost use Rattle.rp_token.specs.Form.{name};
-ghost use Rattle.rp_token.specs.Lexer.{IsGrown};
 ghost use Rattle.rp_token.specs.NameWords.{name_words};
 ghost use Rattle.rp_token.specs.View.{IsHeld, form_view, item_view};
 ghost use Rattle.rp_more.specs.Expression.{closes_own, expression_of, kept};
@@ -37,7 +36,7 @@ pub(crate) fn add_expression(
     ensures leads { (more : List (List ℕ)) → Leads (with_front (items_of (names.new ++ more) written.old.items)
         (in_place place (option_map str_call (expression_of (chars text.now)))))
         (Ok (items_of (names.new ++ more) written.new.items)) result }
-    ensures grown { IsGrown names.old names.new }
+    ensures grown { GrowsTo names.old names.new }
     ensures follows { OnOk result (Follow names.old names.new written.old.items written.new.items) }
 {
     begin_call(written, place, names)?;
@@ -51,7 +50,7 @@ pub(crate) fn add_expression(
 fn begin_call(written: &mut Vec<Token>, place: Place, names: &mut Names) -> Result<(), Memory>
     ensures items { (more : List (List ℕ)) → OnOk result (items_of (names.new ++ more) written.new.items
         ≡ items_of (names.new ++ more) written.old.items ++ map (placed (place_item place)) str_front) }
-    ensures grown { IsGrown names.old names.new }
+    ensures grown { GrowsTo names.old names.new }
     ensures follows { OnOk result (Follow names.old names.new written.old.items written.new.items) }
 {
     place.push(written, TokenKind::Name(intern(names, "str")?))?;
@@ -94,7 +93,7 @@ fn tokens_within(
     ensures held { IfOk result (λ found. All (IsHeld names.new) found.items) }
     ensures words { IfOk result (λ found. names.new
         ≡ with_words names.old (name_words (items_of names.new found.items))) }
-    ensures grown { IsGrown names.old names.new }
+    ensures grown { GrowsTo names.old names.new }
 {
     match tokens(alloc, trimmed(text), names) {
         Ok(found) => {
@@ -132,7 +131,7 @@ pub(crate) fn intern(names: &mut Names, word: &str) -> Result<Name, Memory>
     ensures name { (more : List (List ℕ)) → IfOk result (λ n. form_view (names.new ++ more) (TokenKind.Name n)
         ≡ name (chars word.now)) }
     ensures word { OnOk result (names.new ≡ with_word names.old (chars word.now)) }
-    ensures grown { IsGrown names.old names.new }
+    ensures grown { GrowsTo names.old names.new }
 {
     names.intern(word)
 }

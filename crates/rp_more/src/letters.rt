@@ -1,33 +1,14 @@
 //! The characters of a text.
 
-ghost use Rattle.std.specs.Prelude.{◌≡◌, ◌==◌, ◌&&◌, ◌||◌, chars, drop, if◌then◌else◌, not, reverse, take_while};
+ghost use Rattle.std.specs.Prelude.{◌≡◌, ◌==◌, ◌&&◌, ◌||◌, chars, if◌then◌else◌, not, reverse, take_while};
 ghost use Rattle.std.specs.List.{list_all};
 ghost use Rattle.std.specs.Str.{IsUtf8};
-ghost use Rattle.rp_token.specs.Characters.{behind_run, first, is_blank, is_line_end};
+ghost use Rattle.rp_token.specs.Characters.{behind_run, is_blank, is_line_end};
 ghost use Rattle.rp_more.specs.Expression.{trimmed};
 ghost use Rattle.rp_more.specs.Pieces.{is_brace, is_part};
 ghost use Rattle.rp_more.specs.RunSteps.{passes};
 
-/// The first character, and NUL where there is none.
-pub(crate) fn first(text: &str) -> char
-    ensures { result ≡ first (chars text.now) }
-{
-    match text.chars().next() {
-        Some(letter) => letter,
-        None => '\0',
-    }
-}
-
-/// What stands behind the first character.
-pub(crate) fn behind(text: &str) -> &str
-    ensures { chars result.now ≡ drop 1 (chars text.now) }
-{
-    let mut letters = text.chars();
-    match letters.next() {
-        Some(_) => letters.as_str(),
-        None => text,
-    }
-}
+use rp_token::text::{behind, first};
 
 pub(crate) fn is_brace(letter: char) -> bool
     ensures { result ≡ is_brace letter }

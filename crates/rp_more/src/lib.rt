@@ -3,16 +3,15 @@
 
 ghost use Rattle.std.specs.Prelude.{◌≡◌, IfOk, OnOk, map};
 ghost use Rattle.std.specs.List.{All};
-ghost use Rattle.rp_base.specs.Names.{with_words};
+ghost use Rattle.rp_base.specs.Names.{GrowsTo, with_words};
 ghost use Rattle.rp_token.specs.Laws.{EndsOnce, IsWithin};
-ghost use Rattle.rp_token.specs.Lexer.{IsGrown};
 ghost use Rattle.rp_token.specs.NameWords.{words_of};
 ghost use Rattle.rp_token.specs.View.{IsHeld, item_view};
 ghost use Rattle.rp_more.specs.Expanded.{expanded};
 ghost use Rattle.rp_more.specs.View.{Gives};
 
 mod ahead;
-mod copies;
+mod empty_text;
 mod expression;
 mod fault;
 mod groups;
@@ -41,7 +40,7 @@ use std::alloc::Global;
 pub fn expand(alloc: Global, tokens: Vec<Token>, names: &mut Names) -> Result<Vec<Token>, MoreFault>
     requires { All (IsHeld names.old) tokens.items }
     ensures expanded { Gives names.new (expanded (map (item_view names.old) tokens.items)) result }
-    ensures names { IsGrown names.old names.new }
+    ensures names { GrowsTo names.old names.new }
     ensures words { OnOk result (names.new
         ≡ with_words names.old (words_of (expanded (map (item_view names.old) tokens.items)))) }
     ensures held { IfOk result (λ found. All (IsHeld names.new) found.items) }

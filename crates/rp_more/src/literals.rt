@@ -5,9 +5,8 @@ ghost use Rattle.std.specs.Prelude.{codes, length, map, false, if◌then◌else�
 ghost use Rattle.std.specs.List.{All, list_any};
 ghost use Rattle.std.specs.Option.{option_map};
 ghost use Rattle.rp_token.specs.Form.{mark};
-ghost use Rattle.rp_token.specs.Lexer.{IsGrown};
 ghost use Rattle.rp_token.specs.View.{IsHeld, form_view, item_view};
-ghost use Rattle.rp_base.specs.Names.{word_of};
+ghost use Rattle.rp_base.specs.Names.{GrowsTo, word_of};
 ghost use Rattle.rp_more.specs.Forms.{is_literal, placed, same, text_of};
 ghost use Rattle.rp_more.specs.Literals.{begins, elements, has_text_at, is_prefix, literal_items, literals};
 ghost use Rattle.rp_more.specs.Literals.{piece_forms, with_front};
@@ -17,13 +16,13 @@ ghost use Rattle.rp_more.specs.View.{Gives};
 ghost use Rattle.rp_more.specs.LiteralSteps.{Leads, comma_before, in_place, items_of, join_front, left, place_item};
 ghost use Rattle.rp_more.specs.NameSteps.{Follow};
 
-use crate::copies::copy;
+use crate::empty_text::EmptyText;
 use crate::expression::{add_expression, intern};
 use crate::fault::MoreFault;
 use crate::kinds::ends_operand;
 use crate::pieces::{Piece, read_pieces};
 use crate::place::Place;
-use rp_base::{Memory, Name, Names, Text};
+use rp_base::{Memory, Name, Names};
 use rp_token::{Token, TokenKind};
 use std::alloc::Global;
 
@@ -31,6 +30,8 @@ use std::alloc::Global;
 #[derive(Drop)]
 struct Literals {
     alloc: Global,
+    /// The text before `.join`, one for all.
+    empty_text: EmptyText,
     written: Vec<Token>,
     /// The token before may end an operand.
     operand: bool,
@@ -47,6 +48,7 @@ impl Literals {
     {
         Ok(Literals {
             alloc,
+            empty_text: EmptyText::new(alloc)?,
             written: Vec::with_capacity(alloc, count)?,
             operand: false,
             inside: false,
@@ -58,11 +60,17 @@ impl Literals {
         requires { IsHeld names.old token.now }
         ensures leads { (more : List (List ℕ)) → Leads (left (names.new ++ more) self.old (token.now ∷ behind.now))
             (left (names.new ++ more) self.new behind.now) result }
-        ensures grown { IsGrown names.old names.new }
+        ensures grown { GrowsTo names.old names.new }
         ensures follows { OnOk result (Follow names.old names.new self.old.written.items self.new.written.items) }
     {
         if self.inside {
-            add_literal(self.alloc, &mut self.written, token, names)?;
+            add_literal(
+                self.alloc,
+                &self.empty_text,
+                &mut self.written,
+                token,
+                names,
+            )?;
             self.operand = true;
             self.inside = false;
             return Ok(());
@@ -91,7 +99,7 @@ impl Literals {
         ensures operand { self.new.operand ≡ self.old.operand }
         ensures inside { self.new.inside ≡ self.old.inside }
     {
-        self.written.push(copy(token)?)?;
+        self.written.push(token.copy()?)?;
         Ok(())
     }
 }
@@ -108,7 +116,7 @@ pub(crate) fn written_out(
     requires { All (IsHeld names.old) tokens.items }
     ensures literals { (more : List (List ℕ)) → Gives (names.new ++ more) (literals false false
         (items_of (names.new ++ more) tokens.items)) result }
-    ensures grown { IsGrown names.old names.new }
+    ensures grown { GrowsTo names.old names.new }
     ensures follows { IfOk result (λ found. Follow names.old names.new [] found.items) }
 {
     if !has_prefix(tokens.as_slice(), names) {
@@ -126,7 +134,7 @@ fn each_written_out(
     requires { All (IsHeld names.old) tokens.now }
     ensures literals { (more : List (List ℕ)) → Gives (names.new ++ more) (literals false false
         (items_of (names.new ++ more) tokens.now)) result }
-    ensures grown { IsGrown names.old names.new }
+    ensures grown { GrowsTo names.old names.new }
     ensures follows { IfOk result (λ found. Follow names.old names.new [] found.items) }
 {
     let mut literals = Literals::new(alloc, tokens.len())?;
@@ -191,6 +199,7 @@ fn is_text(kind: &TokenKind) -> bool
 /// Appends the call that an f-literal with this text is.
 fn add_literal(
     alloc: Global,
+    empty_text: &EmptyText,
     written: &mut Vec<Token>,
     token: &Token,
     names: &mut Names,
@@ -198,14 +207,14 @@ fn add_literal(
     ensures leads { (more : List (List ℕ)) → Leads (with_front (items_of (names.new ++ more) written.old.items)
         (literal_items (item_view (names.new ++ more) token.now)))
         (Ok (items_of (names.new ++ more) written.new.items)) result }
-    ensures grown { IsGrown names.old names.new }
+    ensures grown { GrowsTo names.old names.new }
     ensures follows { OnOk result (Follow names.old names.new written.old.items written.new.items) }
 {
     let place = Place::of(token);
     let Some(pieces) = pieces_of(alloc, &token.kind)? else {
         return Err(MoreFault::Format(place.line()));
     };
-    begin_call(alloc, written, place, names)?;
+    begin_call(empty_text, written, place, names)?;
     add_elements(alloc, written, place, pieces.as_slice(), names)?;
     place.end_call(written, TokenKind::RightBracket)?;
     Ok(())
@@ -213,17 +222,17 @@ fn add_literal(
 
 /// Appends `''.join([`.
 fn begin_call(
-    alloc: Global,
+    empty_text: &EmptyText,
     written: &mut Vec<Token>,
     place: Place,
     names: &mut Names,
 ) -> Result<(), Memory>
     ensures items { (more : List (List ℕ)) → OnOk result (items_of (names.new ++ more) written.new.items
         ≡ items_of (names.new ++ more) written.old.items ++ map (placed (place_item place)) join_front) }
-    ensures grown { IsGrown names.old names.new }
+    ensures grown { GrowsTo names.old names.new }
     ensures follows { OnOk result (Follow names.old names.new written.old.items written.new.items) }
 {
-    place.push(written, TokenKind::Text(Text::new(alloc, "")?))?;
+    place.push(written, TokenKind::Text(empty_text.copy()?))?;
     place.push(written, TokenKind::Dot)?;
     place.push(written, TokenKind::Name(intern(names, "join")?))?;
     place.push(written, TokenKind::LeftParen)?;
@@ -253,7 +262,7 @@ fn add_elements(
     ensures leads { (more : List (List ℕ)) → Leads (with_front (items_of (names.new ++ more) written.old.items)
         (in_place place (elements [] (map piece_seen pieces.now))))
         (Ok (items_of (names.new ++ more) written.new.items)) result }
-    ensures grown { IsGrown names.old names.new }
+    ensures grown { GrowsTo names.old names.new }
     ensures follows { OnOk result (Follow names.old names.new written.old.items written.new.items) }
 {
     let mut first = true;
@@ -278,7 +287,7 @@ fn add_element(
         (elements (comma_before first) (piece_seen piece.now ∷ ps))))
         (with_front (items_of (names.new ++ more) written.new.items) (in_place place
         (elements (comma_before false) ps))) result }
-    ensures grown { IsGrown names.old names.new }
+    ensures grown { GrowsTo names.old names.new }
     ensures follows { OnOk result (Follow names.old names.new written.old.items written.new.items) }
 {
     add_comma(written, place, first)?;
@@ -305,7 +314,7 @@ fn add_piece(
     ensures leads { (more : List (List ℕ)) → Leads (with_front (items_of (names.new ++ more) written.old.items)
         (in_place place (piece_forms (piece_seen piece.now))))
         (Ok (items_of (names.new ++ more) written.new.items)) result }
-    ensures grown { IsGrown names.old names.new }
+    ensures grown { GrowsTo names.old names.new }
     ensures follows { OnOk result (Follow names.old names.new written.old.items written.new.items) }
 {
     match piece {

@@ -6,8 +6,9 @@ ghost use Rattle.std.specs.Option.{option_map};
 ghost use Rattle.rp_more.specs.Pieces.{part, pieces_from, pieces_of};
 ghost use Rattle.rp_more.specs.PieceSteps.{LeavesLess, front_seen, part_behind, piece_seen, with_run};
 
-use crate::letters::{Run, behind, first, is_brace, is_part};
+use crate::letters::{Run, is_brace, is_part};
 use rp_base::{Memory, Text};
+use rp_token::text::{behind, first};
 use std::alloc::Global;
 use std::mem::replace;
 

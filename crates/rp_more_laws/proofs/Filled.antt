@@ -17,14 +17,11 @@ use Rattle.rp_store.specs.Key.{key_form, same_key}
 use Rattle.rp_store.specs.declared.key.Key.{Key}
 use Rattle.rp_store.specs.declared.key.Key.TheVariants as key
 use Rattle.rp_store.specs.Object as object
-use Rattle.rp_store.specs.Object.{Content}
+use Rattle.rp_store.specs.Object.{Content, Entry}
 use Rattle.rp_store.specs.Writers.{first_written}
 use Rattle.rp_meaning.specs.Expressions.{dict_with, nil}
 use Rattle.rp_more_laws.specs.Sets.{distinct, distinct_behind, equals}
 use Rattle.rp_more_laws.proofs.Keys.{AreKeys, members_same, rocks_equal_keys}
-
-abbrev pub Entry : Type 0
-Entry = Key × (Rock × Value)
 
 -- each entry stands under the key form of its rock
 abbrev pub AreKeyed : List Entry → Type 0

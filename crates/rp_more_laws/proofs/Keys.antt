@@ -4,6 +4,7 @@ use Rattle.std.proofs.Common.{append_assoc, append-nil, encode_utf8_all, Option,
 use Rattle.std.specs.Prelude.{is_some, ◌||◌, ◌&&◌}
 use Rattle.std.specs.List.{list_all, list_any}
 use Rattle.std.proofs.lemmas.Cmp.{int_eq_equiv, nat_list_eq_equiv}
+use Rattle.std.proofs.Math.Bool.{or-false}
 use Rattle.rp_base.specs.declared.value.Rock.{Rock}
 use Rattle.rp_base.specs.declared.value.Rock.TheVariants as rock
 use Rattle.rp_base.specs.declared.value.Value.{Value}
@@ -13,6 +14,7 @@ use Rattle.rp_store.specs.Key.{key_form, same_key}
 use Rattle.rp_store.specs.declared.key.Key.{Key}
 use Rattle.rp_store.specs.declared.key.Key.TheVariants as key
 use Rattle.rp_more_laws.specs.Sets.{EqualKeysAreEqual, distinct_behind, equals, is_key}
+use Rattle.rp_store.proofs.CallerLemmas.{same_key-flips}
 
 pub equal_keys : EqualKeysAreEqual
 equal_keys depth (value.Rock q) (value.Rock r) s h = refl
@@ -93,12 +95,6 @@ equals_keys v w hv hw =
     ap (λ v. equals v w) hv.is_rock ∙ ap (λ w. equals (value.Rock hv.rock) w) hw.is_rock
     ∙ rocks_equal_keys hv.rock hw.rock hv.key hw.key hv.form hw.form
 
-flips : (x y : Key) → same_key x y ≡ same_key y x
-flips key.Nil key.Nil = refl
-flips (key.Number m) (key.Number n) = int_eq_equiv.symm m n
-flips (key.Text s) (key.Text t) = nat_list_eq_equiv.symm (encode_utf8_all s) (encode_utf8_all t)
-flips _ _ = refl
-
 alike : (x y z : Key) → same_key x y ≡ true → same_key x z ≡ same_key y z
 alike key.Nil key.Nil z e = refl
 alike (key.Number m) (key.Number n) (key.Number k) e = int_eq_equiv.congr m n k e
@@ -113,19 +109,15 @@ alike _ _ z e = absurd (true≢false (sym e))
 -- what equals v equals x, where these are equal
 equals_alike : (a v x : Value) → IsKey a → IsKey v → IsKey x → equals v x ≡ true → equals a v ≡ equals a x
 equals_alike a v x ha hv hx e =
-    equals_keys a v ha hv ∙ flips ha.key hv.key
+    equals_keys a v ha hv ∙ same_key-flips ha.key hv.key
     ∙ alike hv.key hx.key ha.key (sym (equals_keys v x hv hx) ∙ e)
-    ∙ flips hx.key ha.key ∙ sym (equals_keys a x ha hx)
+    ∙ same_key-flips hx.key ha.key ∙ sym (equals_keys a x ha hx)
 
 -- ---- an element that equals one before it may be left out
 
-or_nothing : (b : Bool) → (b || false) ≡ b
-or_nothing true = refl
-or_nothing false = refl
-
 or_again : (b c : Bool) → ((b || c) || b) ≡ (b || c)
 or_again true c = refl
-or_again false c = or_nothing c
+or_again false c = or-false c
 
 or_later : (b c d : Bool) → (c || d) ≡ c → ((b || c) || d) ≡ (b || c)
 or_later true c d e = refl
@@ -149,13 +141,13 @@ absorbed a v (x ∷ xs) ha hv hs e = by (equals v x) refl (λ e. absorbed a v xs
   by false apart rest e = or_later (equals a x) (list_any (equals a) xs) (equals a v) (rest e)
 
 any_with : (a v : Value) (xs : List Value) → list_any (equals a) (xs ++ v ∷ []) ≡ (list_any (equals a) xs || equals a v)
-any_with a v [] = or_nothing (equals a v)
+any_with a v [] = or-false (equals a v)
 any_with a v (x ∷ xs) = ap (λ b. equals a x || b) (any_with a v xs)
     ∙ sym (or_between (equals a x) (list_any (equals a) xs) (equals a v))
 
 pub members_same : (a : Value) (xs vs : List Value) → IsKey a → AreKeys xs → AreKeys vs
     → list_any (equals a) (xs ++ distinct_behind xs vs) ≡ (list_any (equals a) xs || list_any (equals a) vs)
-members_same a xs [] ha hs h = ap (list_any (equals a)) (append-nil xs) ∙ sym (or_nothing (list_any (equals a) xs))
+members_same a xs [] ha hs h = ap (list_any (equals a)) (append-nil xs) ∙ sym (or-false (list_any (equals a) xs))
 members_same a xs (v ∷ vs) ha hs h =
     by (list_any (equals v) xs) refl (members_same a xs vs ha hs h.1)
     (members_same a (xs ++ v ∷ []) vs ha (keys_with xs v hs h.0) h.1) where

@@ -25,7 +25,7 @@ use Rattle.rp_methods.specs.Methods.{method}
 use Rattle.rp_methods.specs.Texts.{is_text, joined, joined_all, letters_of, preceded}
 use Rattle.rp_ops.specs.Binary.{new_object, new_text}
 use Rattle.rp_ops.specs.Outcome as plain
-use Rattle.rp_ops.specs.Outcome.{End, Ending, gives, on_value}
+use Rattle.rp_ops.specs.Outcome.{gives, on_value}
 use Rattle.rp_ops.specs.Walk.{content_elements, elements, not_walked, walked}
 use Rattle.rp_proxy.specs.Decide.{Decision, Monitor}
 use Rattle.rp_proxy.specs.Taken.{taken}
@@ -37,7 +37,11 @@ use Rattle.rp_store.specs.Store.{Cells}
 use Rattle.rp_store.specs.declared.object.Callee.TheVariants as callee
 use Rattle.rp_tree.specs.Expressions as tree
 use Rattle.rp_meaning.specs.State.{State, Outcome, heap_of, lifted, makes, monitor_of, plainly, stepped}
-use Rattle.rp_meaning.specs.Frame.{Frame, Meaning, asked_for, asked_if, decided, got, takes}
+use Rattle.rp_native.specs.Functions.{function}
+use Rattle.rp_fixed_laws.specs.Fixed.{AreBuiltIn, Fixed, Steady}
+use Rattle.rp_fixed_laws.proofs.Parts as parts_stay
+use Rattle.rp_fixed_laws.proofs.Trees.{exprs}
+use Rattle.rp_meaning.specs.Frame.{Frame, Meaning, Natives, asked_for, asked_if, decided, got, takes}
 use Rattle.rp_meaning.specs.Access.{get_attribute}
 use Rattle.rp_meaning.specs.Binding.{Arguments, none, only}
 use Rattle.rp_meaning.specs.BuiltIn as built
@@ -46,12 +50,28 @@ use Rattle.rp_meaning.specs.Expressions as expression
 use Rattle.rp_meaning.specs.Meaning as meaning
 use Rattle.rp_meaning.specs.Meaning.{eval}
 use Rattle.rp_more_laws.specs.Deciding.{DecidesProxiesAlone}
-use Rattle.rp_more_laws.specs.Literals.{EachLiteralGivesItsText, HasTexts, IsWritten, Piece, Spelling}
+use Rattle.rp_more_laws.specs.Literals.{DecidesWhatIsShown, EachLiteralGivesItsText, IsWritten, Piece, Spelling}
 use Rattle.rp_more_laws.specs.Literals.{ReadsStr, begun, join_tree, literal_tree, part, part_text}
 use Rattle.rp_more_laws.specs.Literals.{piece_tree, piece_trees, run, str_value, text_of, text_value}
 use Rattle.rp_more_laws.proofs.Going.{Holds, IsMade, asked_if_own, bind, choose_held, decided_held, goes, held_at}
 use Rattle.rp_more_laws.proofs.Going.{lifted_held, makes_held, plain_makes_held, step, step_heap, step_held, step_names}
 use Rattle.rp_more_laws.proofs.Going.{step_then, then_held, weaker}
+use Rattle.rp_store.proofs.CallerLemmas.{slice_get-last}
+
+-- `str` and `join` are the built-in function and the built-in method
+record HasTexts (n : Natives) : Type 0 where
+  decided : n.needs native.Str 0 1 ≡ Some STR
+  str : (names : List (List ℕ)) (side : Side) (v : Value) (s : plain.State)
+      → n.function names side native.Str (v ∷ []) s ≡ function names side native.Str (v ∷ []) s
+  join : (names : List (List ℕ)) (side : Side) (v : Value) (vs : List Value) (s : plain.State)
+      → n.method names side v native.Join vs s ≡ method side v native.Join vs s
+
+has_texts : (n : Natives) → AreBuiltIn n → DecidesWhatIsShown n → HasTexts n
+has_texts n b decided = record {
+  decided = decided;
+  str = λ names side v s. b.functions names side native.Str (v ∷ []) s;
+  join = λ names side v vs s. b.methods names side v native.Join vs s;
+}
 
 -- ---- one argument
 
@@ -143,7 +163,8 @@ part_held p x frame s texts reads =
     subst (λ a. Holds (calls.call str_value a frame s3) (IsPartText p x frame s)) (sym h.1)
     (weaken f s1 s2 h.0 s3 e1 e2 h.2 (str_called h.0 frame s3 texts))))
     (λ r u _ h. h)))) where
-      weaken : (f : Value) (s1 s2 : State) (v : Value) (s3 : State) → expression.name p.str frame s ≡ gives f s1 → step s1
+      weaken : (f : Value) (s1 s2 : State) (v : Value) (s3 : State) → expression.name p.str frame s ≡ gives f s1
+          → step s1
           ≡ gives (tt {0}) s2 → eval x frame s2 ≡ gives v s3
           → Holds (calls.call str_value (only (v ∷ [])) frame s3) (IsShown v frame s3)
           → Holds (calls.call str_value (only (v ∷ [])) frame s3) (IsPartText p x frame s)
@@ -178,7 +199,8 @@ pieces_held p (run cs ∷ ps) frame s texts reads =
           → expression.constant (text_value cs) frame s ≡ gives v u
           → (step s ≡ gives (tt {0}) u) × (v ≡ text_value cs)
       constant_given cs v frame s u h =
-          held_at (expression.constant (text_value cs) frame s) (λ v u. (step s ≡ gives (tt {0}) u) × (v ≡ text_value cs))
+          held_at (expression.constant (text_value cs) frame s)
+          (λ v u. (step s ≡ gives (tt {0}) u) × (v ≡ text_value cs))
           v u
           (step_held s (gives (text_value cs)) (λ v u. (step s ≡ gives (tt {0}) u) × (v ≡ text_value cs))
           (λ u e. (e, refl))) h
@@ -206,10 +228,6 @@ join_named = refl
 abbrev IsJoin : State → Value → State → Type 0
 IsJoin s f u = (at : Oid) × (f ≡ value.Ref at) × (content_at (heap_of u) at ≡ Some join_content) × (u.names ≡ s.names)
 
-get_last : (heap : List Owned) (o : Owned) → slice_get (heap ++ o ∷ []) (length heap) ≡ Some o
-get_last [] o = refl
-get_last (p ∷ ps) o = get_last ps o
-
 -- what a side makes it gets as it is
 taken_own : (side : Side) (heap : List Owned) (content : Content) (at : Oid) → at.0 ≡ length heap
     → taken (heap ++ record { owner = side; content = content } ∷ []) side (value.Ref at) ≡ value.Ref at
@@ -219,7 +237,7 @@ taken_own side heap content at place =
     (option_map (λ (o : Owned). o.owner) (slice_get (heap ++ record { owner = side; content = content } ∷ []) i))
     false) place
     ∙ ap (λ o. option_map_or (λ (owner : Side). nat_eq owner.0 side.0) (option_map (λ (o : Owned). o.owner) o) false)
-    (get_last heap (record { owner = side; content = content }))
+    (slice_get-last heap (record { owner = side; content = content }))
     ∙ nat_eq_equiv.refl side.0)
     ∙ by (nat_eq side.0 0) where
       by : (b : Bool) → (if b then value.Ref at else value.Ref at) ≡ value.Ref at
@@ -391,10 +409,24 @@ join_called at l vs frame s free texts there listed =
       this : Side → State → Outcome Value
       this owner s = asked_if frame (frame.run.natives.needs native.Join 0 1) (value.Ref l) s (joins owner)
 
+-- ---- what the pieces do leaves the bound method
+
+abbrev join_at : Oid → Fixed
+join_at at = record { object = record { at = at; content = join_content }; fixed = tt }
+
+join_stays : (p : Spelling) (ps : List Piece) (frame : Frame) (s u : State) (vs : List Value) (at : Oid)
+    → Steady (join_at at) frame.calls frame.run → content_at (heap_of s) at ≡ Some join_content
+    → expression.values (meaning.exprs (piece_trees p ps)) frame s ≡ gives vs u
+    → content_at (heap_of u) at ≡ Some join_content
+join_stays p ps frame s u vs at steady there e =
+    sym (ap (λ (o : Outcome (List Value)). content_at (heap_of o.state) at) e)
+    ∙ (parts_stay.values (meaning.exprs (piece_trees p ps)) (exprs (piece_trees p ps))
+    (join_at at) frame steady s there).there
+
 -- ---- the whole
 
 pub gives_text : EachLiteralGivesItsText
-gives_text p ps frame s u v free texts word is_plain h = held_at (eval (literal_tree p ps) frame s)
+gives_text p ps frame s u v free steady shown word is_plain h = held_at (eval (literal_tree p ps) frame s)
     (λ v u. IsWritten p ps frame s v) v u whole h where
       pieces : List Meaning
       pieces = meaning.exprs (piece_trees p ps)
@@ -404,6 +436,9 @@ gives_text p ps frame s u v free texts word is_plain h = held_at (eval (literal_
 
       attribute : Value → Meaning
       attribute = expression.attribute p.join.name
+
+      texts : HasTexts frame.run.natives
+      texts = has_texts frame.run.natives (steady (join_at (record { 0 = 0 }))).quiet.natives shown
 
       P : Value → State → Type 0
       P v u = IsWritten p ps frame s v
@@ -415,7 +450,8 @@ gives_text p ps frame s u v free texts word is_plain h = held_at (eval (literal_
           goes (λ v s. expression.trailers (attribute ∷ []) v frame s) (goes (λ _ s. gives (text_value []) s) e0 refl)
           (goes (λ v s. gives v s) (goes (λ _ s. get_attribute (text_value []) p.join.name frame s) e1 e2) refl)
 
-      begun_gives : (s2 s3 s4 : State) (f : Value) → eval (join_tree p) frame s ≡ gives f s2 → step s2 ≡ gives (tt {0}) s3
+      begun_gives : (s2 s3 s4 : State) (f : Value) → eval (join_tree p) frame s ≡ gives f s2 → step s2 ≡ gives
+          (tt {0}) s3
           → step s3 ≡ gives (tt {0}) s4
           → begun p frame s ≡ gives f s4
       begun_gives s2 s3 s4 f e e3 e4 =
@@ -428,9 +464,9 @@ gives_text p ps frame s u v free texts word is_plain h = held_at (eval (literal_
           → (listed : IsListed pieces frame s3 v s4) → Holds (calls.call f (only (v ∷ [])) frame s4) P
       joined_list s1 s2 s3 s4 f v e e3 is_join listed =
           let is_begun = begun_gives s2 s3 listed.first f e e3 listed.is_first in
-          let there = (is_plain f listed.first is_begun).1 is_join.0 listed.held listed.last is_join.1 listed.evaluated
-          ∙ ap (λ heap. content_at heap is_join.0) (step_heap s3 listed.first listed.is_first ∙ step_heap s2 s3 e3)
-          ∙ is_join.2 in
+          let there = join_stays p ps frame listed.first listed.last listed.held is_join.0 (steady (join_at is_join.0))
+          (ap (λ heap. content_at heap is_join.0) (step_heap s3 listed.first listed.is_first ∙ step_heap s2 s3 e3)
+          ∙ is_join.2) listed.evaluated in
           subst (λ v. Holds (calls.call f (only (v ∷ [])) frame s4) P) (sym listed.result)
           (subst (λ f. Holds (calls.call f (only (value.Ref listed.at ∷ [])) frame s4) P) (sym is_join.1)
           (weaker (calls.call (value.Ref is_join.0) (only (value.Ref listed.at ∷ [])) frame s4) (IsJoined listed.held) P
@@ -442,7 +478,7 @@ gives_text p ps frame s u v free texts word is_plain h = held_at (eval (literal_
             behind = listed.last;
             shown = held_at (expression.values pieces frame listed.first)
                 (AreWritten p ps frame listed.first) listed.held listed.last
-                (pieces_held p ps frame listed.first texts (is_plain f listed.first is_begun).0) listed.evaluated;
+                (pieces_held p ps frame listed.first texts (is_plain f listed.first is_begun)) listed.evaluated;
             result = h;
           })
           (join_called is_join.0 listed.at listed.held frame s4 free texts
@@ -469,7 +505,8 @@ gives_text p ps frame s u v free texts word is_plain h = held_at (eval (literal_
           then_held (get_attribute (text_value []) p.join.name frame s1)
           (λ v s. expression.trailers (expression.call argument ∷ []) v frame s) (IsJoin s1) P
           (attribute_held p.join.name frame s1 free
-          (ap (λ names. word_of names p.join.name) (step_names s0 s1 e1 ∙ step_names s s0 e0) ∙ word)) (λ f s2 e2 is_join.
+          (ap (λ names. word_of names p.join.name) (step_names s0 s1 e1 ∙ step_names s s0 e0) ∙ word))
+          (λ f s2 e2 is_join.
           step_then s2 (expression.call argument f frame) (λ r s. gives r s) P (λ s3 e3.
           then_held (expression.call argument f frame s3) (λ r s. gives r s) P P
           (called s1 s2 s3 f (join_gives s0 s1 s2 f e0 e1 e2) e3 is_join) (λ r u _ h. h)))))

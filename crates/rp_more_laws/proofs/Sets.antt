@@ -22,14 +22,15 @@ use Rattle.rp_compare.specs.Membership.{content_contains}
 use Rattle.rp_ops.specs.Keys.{entry_in}
 use Rattle.rp_ops.specs.Numbers.{refused}
 use Rattle.rp_ops.specs.Outcome as plain
-use Rattle.rp_ops.specs.Outcome.{Ending, gives, on_value, on_found}
+use Rattle.rp_ops.specs.Outcome.{gives, on_value, on_found}
 use Rattle.rp_ops.specs.View.{key_rock}
 use Rattle.rp_ops.specs.Walk as walking
-use Rattle.rp_ops.specs.Walk.{Cursor, keys_from, keys_in, walked}
+use Rattle.rp_ops.specs.Walk.{Cursor, keys_from, keys_in}
 use Rattle.rp_proxy.specs.Taken.{taken}
 use Rattle.rp_store.specs.Heap.{Owned, content_at}
 use Rattle.rp_store.specs.Key.{key_form}
 use Rattle.rp_store.specs.Object as object
+use Rattle.rp_store.specs.Object.{Entry}
 use Rattle.rp_store.specs.declared.key.Key.{Key}
 use Rattle.rp_store.specs.declared.key.Key.TheVariants as key
 use Rattle.rp_store.specs.Parts.{entries}
@@ -51,7 +52,7 @@ use Rattle.rp_more_laws.specs.Sets.{set_tree, set_values, turn, within_tree}
 use Rattle.rp_more_laws.proofs.Going.{Holds, IsMade, asked_own, bind, found_held, goes, held_at, lifted_held}
 use Rattle.rp_more_laws.proofs.Going.{makes_held, step, step_held, then_held}
 use Rattle.rp_more_laws.proofs.Keys.{AreKeys, IsKey, key_is, keys_are}
-use Rattle.rp_more_laws.proofs.Filled.{AreKeyed, Entry, IsFilled, OnOk, entry_any, filled, rocks_of, with_nil}
+use Rattle.rp_more_laws.proofs.Filled.{AreKeyed, IsFilled, OnOk, entry_any, filled, rocks_of, with_nil}
 
 -- ---- the elements
 

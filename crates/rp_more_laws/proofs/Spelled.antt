@@ -1,9 +1,8 @@
 -- The tokens of an f-literal's call spell its tree.
-use Rattle.std.proofs.Common.{◌≡◌, refl, sym, ap, subst, ◌∙◌, true≢false, ℕ, zero, suc, Bool, true, false, List, []}
+use Rattle.std.proofs.Common.{◌≡◌, refl, sym, ap, subst, ◌∙◌, true≢false, ℕ, Bool, true, false, List, []}
 use Rattle.std.proofs.Common.{◌∷◌}
 use Rattle.std.proofs.Common.{◌++◌, codes, Option, Some, None, pos, negsuc}
 use Rattle.std.specs.Option.{option_map, option_and_then, unwrap_or}
-use Rattle.rp_base.specs.Names.{word_of}
 use Rattle.rp_base.specs.declared.value.Line.{Line}
 use Rattle.rp_base.specs.declared.value.Name.{Name}
 use Rattle.rp_grammar.specs.Expressions as grammar
@@ -11,6 +10,7 @@ use Rattle.rp_grammar.specs.Expressions.{Atom, IsExpr, Listed, Primary}
 use Rattle.rp_grammar.specs.Kinds.{Tokens, first, line_at, skip}
 use Rattle.rp_more.specs.Expression.{expression_of}
 use Rattle.rp_more.specs.Forms.{is_literal, is_mark, text_of}
+use Rattle.rp_more.specs.KindSteps.{is_comma}
 use Rattle.rp_more.specs.Literals.{elements, join_call, piece_forms, str_call}
 use Rattle.rp_more.specs.Pieces as source
 use Rattle.rp_token.specs.Form.{Form, literal, mark, name}
@@ -18,7 +18,7 @@ use Rattle.rp_token.specs.View.{form_view}
 use Rattle.rp_token.specs.declared.token.TokenKind.{TokenKind}
 use Rattle.rp_token.specs.declared.token.TokenKind.TheVariants as kind
 use Rattle.rp_tree.specs.Expressions as tree
-use Rattle.rp_more_laws.specs.Literals.{Piece, Spelling, call_of, list_tree, literal_tree, part, piece_tree}
+use Rattle.rp_more_laws.specs.Literals.{Piece, Spelling, call_of, literal_tree, part, piece_tree}
 use Rattle.rp_more_laws.specs.Literals.{piece_trees}
 use Rattle.rp_more_laws.specs.Literals.{run}
 use Rattle.rp_more_laws.specs.Spelled.{ArePieces, EachLiteralIsSpelled, HaveForms, IsPiece, Names, SpellPart, spelling}
@@ -102,10 +102,6 @@ right_bracket_kind k h = absurd (true≢false (sym h))
 right_bracket : (words : List (List ℕ)) (k : TokenKind) → form_view words k ≡ mark (codes "]") → k ≡ kind.RightBracket
 right_bracket words k h = right_bracket_kind k (sym (right_bracket_form words k) ∙ ap (is_mark (codes "]")) h)
 
-abbrev is_comma : TokenKind → Bool
-is_comma kind.Comma = true
-is_comma k = false
-
 comma_form : (words : List (List ℕ)) (k : TokenKind) → is_mark (codes ",") (form_view words k) ≡ is_comma k
 comma_form words (kind.Int (negsuc n)) = refl
 comma_form words k = refl
@@ -114,7 +110,7 @@ comma_kind : (k : TokenKind) → is_comma k ≡ true → k ≡ kind.Comma
 comma_kind kind.Comma h = refl
 comma_kind k h = absurd (true≢false (sym h))
 
-comma : (words : List (List ℕ)) (k : TokenKind) → form_view words k ≡ mark (codes ",") → k ≡ kind.Comma
+pub comma : (words : List (List ℕ)) (k : TokenKind) → form_view words k ≡ mark (codes ",") → k ≡ kind.Comma
 comma words k h = comma_kind k (sym (comma_form words k) ∙ ap (is_mark (codes ",")) h)
 
 text_kind : (words : List (List ℕ)) (k : TokenKind) (cs : List ℕ) → form_view words k ≡ literal cs → k ≡ kind.Text cs
@@ -155,7 +151,7 @@ module _ (words : List (List ℕ)) (line : Line) where
 
 -- ---- an atom is an expression
 
-expr_of : {x : tree.Expr} {ts us : Tokens} → Primary x ts us → IsExpr x ts us
+pub expr_of : {x : tree.Expr} {ts us : Tokens} → Primary x ts us → IsExpr x ts us
 expr_of p =
     grammar.unconditional (grammar.or_single (grammar.and_single (grammar.asserted (grammar.single (grammar.tighter
     (grammar.tighter (grammar.tighter (grammar.tighter (grammar.tighter (grammar.tighter (grammar.operand

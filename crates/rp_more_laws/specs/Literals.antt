@@ -5,26 +5,21 @@ use Rattle.std.specs.Prelude.{◌≡◌, ℕ, List, [], ◌∷◌, ◌++◌, cod
 use Rattle.rp_base.specs.declared.native.NativeId.TheVariants as native
 use Rattle.rp_base.specs.declared.value.Line.{Line}
 use Rattle.rp_base.specs.declared.value.Name.{Name}
-use Rattle.rp_base.specs.declared.value.Oid.{Oid}
 use Rattle.rp_base.specs.declared.value.Rock.TheVariants as rock
-use Rattle.rp_base.specs.declared.value.Side.{Side}
 use Rattle.rp_base.specs.declared.value.Value.{Value}
 use Rattle.rp_base.specs.declared.value.Value.TheVariants as value
 use Rattle.rp_base.specs.declared.word.TheConstants.{STR}
 use Rattle.rp_base.specs.Names.{word_of}
-use Rattle.rp_methods.specs.Methods.{method}
-use Rattle.rp_native.specs.Functions.{function}
-use Rattle.rp_ops.specs.Outcome as plain
 use Rattle.rp_ops.specs.Outcome.{gives, on_value}
 use Rattle.rp_show.specs.Show.{show}
-use Rattle.rp_store.specs.Heap.{content_at}
 use Rattle.rp_tree.specs.declared.parts.Guard.{Guard}
 use Rattle.rp_tree.specs.Expressions as tree
 use Rattle.rp_tree.specs.Expressions.{Named}
-use Rattle.rp_meaning.specs.State.{State, Outcome, heap_of, plainly, stepped}
+use Rattle.rp_meaning.specs.State.{State, Outcome, plainly, stepped}
 use Rattle.rp_meaning.specs.Frame.{Frame, Natives, asked_for}
-use Rattle.rp_meaning.specs.Expressions.{name, values}
-use Rattle.rp_meaning.specs.Meaning.{eval, exprs}
+use Rattle.rp_meaning.specs.Expressions.{name}
+use Rattle.rp_meaning.specs.Meaning.{eval}
+use Rattle.rp_fixed_laws.specs.Fixed.{IsSteady}
 use Rattle.rp_more_laws.specs.Deciding.{DecidesProxiesAlone}
 
 -- trees
@@ -72,13 +67,9 @@ literal_tree p ps =
 
 -- what they give
 
--- `str` and `join` are the built-in function and the built-in method
-pub record HasTexts (n : Natives) : Type 0 where
-  pub decided : n.needs native.Str 0 1 ≡ Some STR
-  pub str : (names : List (List ℕ)) (side : Side) (v : Value) (s : plain.State)
-      → n.function names side native.Str (v ∷ []) s ≡ function names side native.Str (v ∷ []) s
-  pub join : (names : List (List ℕ)) (side : Side) (v : Value) (vs : List Value) (s : plain.State)
-      → n.method names side v native.Join vs s ≡ method side v native.Join vs s
+-- what `str` is given is decided as its `__str__` would be
+abbrev pub DecidesWhatIsShown : Natives → Type 0
+DecidesWhatIsShown n = n.needs native.Str 0 1 ≡ Some STR
 
 abbrev pub text_value : List ℕ → Value
 text_value cs = value.Rock (rock.Text cs)
@@ -113,16 +104,9 @@ ReadsStr p (part x ∷ ps) frame s =
     ((v : Value) (u : State) → name p.str frame s ≡ gives v u → v ≡ str_value)
     × ((v : Value) (u : State) → eval (piece_tree p (part x)) frame s ≡ gives v u → ReadsStr p ps frame u)
 
--- what the pieces do leaves the bound method `''.join` as it was made
-abbrev pub KeepsJoin : Spelling → List Piece → Frame → Value → State → Type 0
-KeepsJoin p ps frame f s =
-    (at : Oid) (vs : List Value) (u : State) → f ≡ value.Ref at → values (exprs (piece_trees p ps)) frame s ≡ gives vs u
-    → content_at (heap_of u) at ≡ content_at (heap_of s) at
-
--- both hold of an f-literal where its pieces come next
+-- so it is in an f-literal, whose pieces come next
 abbrev pub IsPlain : Spelling → List Piece → Frame → State → Type 0
-IsPlain p ps frame s =
-    (f : Value) (u : State) → begun p frame s ≡ gives f u → ReadsStr p ps frame u × KeepsJoin p ps frame f u
+IsPlain p ps frame s = (f : Value) (u : State) → begun p frame s ≡ gives f u → ReadsStr p ps frame u
 
 pub record IsWritten (p : Spelling) (ps : List Piece) (frame : Frame) (s : State) (v : Value) : Type 0 where
   pub bound : Value
@@ -137,5 +121,6 @@ pub record IsWritten (p : Spelling) (ps : List Piece) (frame : Frame) (s : State
 abbrev pub EachLiteralGivesItsText : Type 0
 EachLiteralGivesItsText =
     (p : Spelling) (ps : List Piece) (frame : Frame) (s u : State) (v : Value)
-    → DecidesProxiesAlone frame.run → HasTexts frame.run.natives → word_of s.names p.join.name ≡ codes "join"
+    → DecidesProxiesAlone frame.run → IsSteady frame → DecidesWhatIsShown frame.run.natives
+    → word_of s.names p.join.name ≡ codes "join"
     → IsPlain p ps frame s → eval (literal_tree p ps) frame s ≡ gives v u → IsWritten p ps frame s v

@@ -8,9 +8,7 @@ use Rattle.rp_store.specs.Heap.{Owned}
 use Rattle.rp_store.specs.Object as object
 use Rattle.rp_store.specs.Object.{Content}
 use Rattle.rp_store.specs.Parts.{IsScope}
-use Rattle.rp_store.specs.Shape.{KeepsShape}
 use Rattle.rp_store.specs.Store.{Cells, made}
-use Rattle.rp_store.proofs.CallerLemmas.{KeepsShape-of, ShapeStays-grown}
 use Rattle.rp_ops.specs.Growth.{Gains}
 use Rattle.rp_native.specs.Objects.{IsContainer, IsContainerOf}
 
@@ -40,8 +38,5 @@ Gains-made side c old new (Err e) is first second = Gains-same (IsContainerOf si
 -- what is gained by a heap that is the same
 pub Gains-from : (P : Owned → Type 0) (old between new : List Owned) → between ≡ old → Gains P between new → Gains P old new
 Gains-from P old between new e gains = subst (λ (heap : List Owned). Gains P heap new) e gains
-
-pub KeepsShape-Gains : (P : Owned → Type 0) (old new : List Owned) → Gains P old new → KeepsShape old new
-KeepsShape-Gains P old new gains = KeepsShape-of old new (ShapeStays-grown old new gains.0 gains.1.0)
 
 pub ruleset growths = (Gains-same)

@@ -1,7 +1,6 @@
 pub mod Digits
 pub mod Entries
 pub mod Growths
-pub mod Lines
 pub mod Orders
 pub mod Outcomes
 pub mod RangeNumbers

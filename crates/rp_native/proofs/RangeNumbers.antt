@@ -1,16 +1,15 @@
 -- The numbers of a range stand between its bounds.
 use Rattle.std.proofs.Common.{◌≡◌, ◌≢◌, ℕ, zero, suc, ◌*◌, ◌<◌, ◌≤◌, ◌^◌, ℤ, pos, negsuc, ◌+ℤ◌, ◌-ℤ◌, ◌*ℤ◌, ◌<ℤ◌, ◌≤ℤ◌, Bool, true, false, FitsSigned, int_lt, of_z, to_z, if◌then◌else◌, unsigned_abs, refl, sym, ap, subst, ◌∙◌, arith}
-use Rattle.std.specs.Int.{w64, div_ceil}
+use Rattle.std.specs.Int.{w64}
 use Rattle.std.proofs.lemmas.Bool.{le-ltb}
 use Rattle.std.proofs.lemmas.Int.{ints, to_z-of_z}
-use Rattle.std.proofs.lemmas.Grind.{div_ceil_times}
 use Rattle.std.proofs.Math.IntN.{pos-*ℤ-negsuc, pos-*ℤ-pos}
-use Rattle.std.proofs.Math.Nat.{mul-le-mul_right}
 use Rattle.rp_ops.specs.Binary.{times}
 use Rattle.rp_items.specs.Slices.{distance}
 use Rattle.rp_native.specs.RangeView.{moved, way}
 use Rattle.rp_native.specs.Ranges.{count}
 use Rattle.rp_native.specs.declared.ranges.Bounds.{Bounds}
+use Rattle.rp_items.proofs.CallerLemmas.{strides}
 
 pub times-below : (z : ℤ) → z <ℤ pos 0 → times z ≡ 0
 times-below (pos n) h = absurd (omega (arith, ints))
@@ -34,13 +33,6 @@ pub abs-pos : (z : ℤ) → z ≢ pos 0 → 0 < unsigned_abs z
 abs-pos (pos zero) h = absurd (h refl)
 abs-pos (pos (suc n)) h = omega arith
 abs-pos (negsuc n) h = omega arith
-
--- so many strides stay within the distance
-strides : (d k m : ℕ) → 0 < k → m < div_ceil d k → m * k < d
-strides d k m some within =
-    let most = (div_ceil_times d k some).1 in
-    let up : suc m * k ≤ div_ceil d k * k = mul-le-mul_right {m = suc m} {n = div_ceil d k} k within in
-    omega arith
 
 away-less : (b : Bounds) (m : ℕ) → b.step ≢ pos 0 → m < count b → m * unsigned_abs b.step < way b
 away-less b m h within = strides (way b) (unsigned_abs b.step) m (abs-pos b.step h) within

@@ -13,8 +13,8 @@ use Rattle.rp_native.specs.Extremes.{is_less, is_text}
 use Rattle.rp_native.specs.OrderSteps.{number_first, number_key, text_first, text_key}
 use Rattle.rp_native.specs.Sorted.{in_order}
 use Rattle.rp_native.specs.Walked.{are_numbers, is_number}
-use Rattle.rp_native.proofs.Orders.{list_less-cmp}
 use Rattle.rp_native.proofs.StableOrders.{in_order-same}
+use Rattle.rp_compare.proofs.CallerLemmas.{list_less-cmp}
 
 pub number_first-order : IsStrictWeakOrder number_first
 number_first-order = ranks_by int_cmp_total number_key

@@ -11,7 +11,7 @@ use Rattle.rp_ops.specs.Outcome.{End, Meets, Outcome, State, gives, on_answer, o
 use Rattle.rp_ops.specs.Walk.{Cursor}
 use Rattle.rp_native.specs.ZipView.{row_given, rows_given}
 use Rattle.rp_native.specs.Zips.{element, on_ok, row, rows}
-use Rattle.rp_native.proofs.Outcomes.{meets-passes}
+use Rattle.rp_ops.proofs.CallerLemmas.{meets-passes}
 
 -- ---- walks
 

@@ -1,14 +1,14 @@
 -- Numbers: `len`, `abs`, and `int` of a text (Python Standard Library, Built-in Functions). The definitions are over whole numbers of any size, of which
 -- the result is tested in the end; the code counts in 64 bits.
-use Rattle.std.specs.Prelude.{ℕ, ℤ, pos, ◌+◌, ◌-◌, ◌*◌, ◌==◌, neg_ℤ, unsigned_abs, nat_le, ◌&&◌, List, [], ◌∷◌, Option, Some, None, length, encode_utf8_all, if◌then◌else◌}
+use Rattle.std.specs.Prelude.{ℕ, ℤ, pos, ◌+◌, ◌-◌, ◌*◌, ◌==◌, neg_ℤ, unsigned_abs, nat_le, ◌&&◌, List, [], ◌∷◌, Option, Some, None, encode_utf8_all, if◌then◌else◌}
 use Rattle.std.specs.Option.{option_map, option_map_or}
 use Rattle.rp_base.specs.declared.value.Rock.TheVariants as rock
 use Rattle.rp_base.specs.declared.value.Value.{Value}
 use Rattle.rp_base.specs.declared.value.Value.TheVariants as value
-use Rattle.rp_store.specs.Heap.{Owned, count_at}
 use Rattle.rp_ops.specs.Binary.{number_value}
 use Rattle.rp_ops.specs.Keys.{index_number}
 use Rattle.rp_ops.specs.Numbers.{fitted}
+pub use Rattle.rp_ops.specs.Operand.{length_of}
 use Rattle.rp_ops.specs.Outcome.{State, Outcome}
 use Rattle.rp_native.specs.Faults.{fails}
 use Rattle.rp_native.specs.declared.fault.Fault.{Fault}
@@ -22,13 +22,6 @@ number_given z s = number_value (fitted z) s
 abbrev pub number_found : Fault → Option ℤ → State → Outcome Value
 number_found fault (Some z) s = number_given z s
 number_found fault None s = fails fault s
-
--- the number of elements, entries or characters
-abbrev pub length_of : List Owned → Value → Option ℕ
-length_of heap (value.Rock (rock.Text t)) = Some (length t)
-length_of heap (value.Rock r) = None
-length_of heap (value.Ref at) = count_at heap at
-length_of heap (value.Prox at) = count_at heap at
 
 -- `len(v)`, where v is no instance whose class has `__len__`
 abbrev pub len : Value → State → Outcome Value

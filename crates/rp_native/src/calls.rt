@@ -1,5 +1,5 @@
 //! Calls of the built-in functions.
-#![tactic(auto, using(rp_store::proofs::Shapes::goes_on))]
+#![tactic(auto, using(rp_store::proofs::CallerLemmas::goes_on))]
 
 ghost use Rattle.std.specs.Prelude.{◌≡◌, ◌≤◌, ℕ, List, IfOk, IsTrue};
 ghost use Rattle.rp_store.specs.Counters.{KeepsCounters};
@@ -110,7 +110,7 @@ fn none_given(
 }
 
 /// A function of one argument.
-#[tactic(auto, using(rp_store::proofs::Shapes::goes_on, crate::proofs::Growths::growths))]
+#[tactic(auto, using(rp_store::proofs::CallerLemmas::goes_on, crate::proofs::Growths::growths))]
 fn one_given(
     alloc: Global,
     store: &mut Store,
@@ -150,7 +150,7 @@ fn one_given(
 }
 
 /// A function of two arguments or more.
-#[tactic(auto, using(rp_store::proofs::Shapes::goes_on, crate::proofs::Growths::growths))]
+#[tactic(auto, using(rp_store::proofs::CallerLemmas::goes_on, crate::proofs::Growths::growths))]
 fn more_given(
     alloc: Global,
     store: &mut Store,

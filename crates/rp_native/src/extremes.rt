@@ -1,5 +1,5 @@
 //! The least and the greatest of values.
-#![tactic(auto, using(rp_store::proofs::Shapes::goes_on))]
+#![tactic(auto, using(rp_store::proofs::CallerLemmas::goes_on))]
 
 ghost use Rattle.std.specs.Prelude.{◌≡◌, ◌≤◌, List, false, IfOk};
 ghost use Rattle.std.specs.List.{list_all};
@@ -8,14 +8,14 @@ ghost use Rattle.rp_store.specs.Counters.{KeepsCounters};
 ghost use Rattle.rp_store.specs.Heap.{Owned};
 ghost use Rattle.rp_store.specs.Kept.{AreSound, IsSound};
 ghost use Rattle.rp_ops.specs.Outcome.{Meets, State, state_of};
-ghost use Rattle.rp_compare.specs.Order.{numbers_less, texts_less};
+ghost use Rattle.rp_compare.specs.Order.{numbers_less};
 ghost use Rattle.rp_native.specs.Extremes.{before, chosen, extreme, foremost, have_order, is_less, is_text};
 
 use crate::fault::Fault;
-use crate::numbers::rock_number;
 use crate::sums::are_numbers;
-use rp_base::{Meter, OpEnd, Rock, Text, Value};
-use rp_ops::elements;
+use rp_base::{Meter, OpEnd, Rock, Value};
+use rp_compare::is_less_text;
+use rp_ops::{elements, rock_number};
 use rp_store::Store;
 use std::alloc::Global;
 
@@ -131,12 +131,6 @@ fn is_less_rock(q: &Rock, r: &Rock) -> bool
         (Rock::Text(t), Rock::Text(u)) => is_less_text(t, u),
         _ => is_less_number(rock_number(q), rock_number(r)),
     }
-}
-
-fn is_less_text(x: &Text, y: &Text) -> bool
-    ensures { result ≡ texts_less x.now y.now }
-{
-    x < y
 }
 
 fn is_less_number(x: Option<i64>, y: Option<i64>) -> bool

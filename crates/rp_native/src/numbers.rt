@@ -3,39 +3,15 @@ ghost use Rattle.std.specs.Prelude.{◌≡◌, List, ℕ, ℤ, pos, unsigned_abs
 ghost use Rattle.std.specs.Int.{w64};
 ghost use Rattle.rp_store.specs.Heap.{Owned};
 ghost use Rattle.rp_store.specs.Kept.{IsSound};
-ghost use Rattle.rp_ops.specs.Keys.{index_number};
-ghost use Rattle.rp_ops.specs.Operand.{number_of as operand_number, rock_operand};
 ghost use Rattle.rp_ops.specs.Outcome.{Meets, State, state_of};
 ghost use Rattle.rp_native.specs.Numbers.{abs, len, length_of, number_given};
 
 use crate::fault::Fault;
 use rp_base::{OpEnd, Rock, Value};
+use rp_items::index_number;
 use rp_ops::Refusal;
 use rp_store::Store;
 use std::alloc::Global;
-
-/// The number that a value is; True and False count as 1 and 0.
-#[inline(always)]
-pub(crate) fn number_of(value: &Value) -> Option<i64>
-    ensures { result ≡ index_number value.now }
-{
-    match value {
-        Value::Rock(rock) => rock_number(rock),
-        Value::Ref(_) | Value::Prox(_) => None,
-    }
-}
-
-#[inline(always)]
-pub(crate) fn rock_number(rock: &Rock) -> Option<i64>
-    ensures { result ≡ operand_number (rock_operand rock.now) }
-{
-    match rock {
-        Rock::Int(n) => Some(*n),
-        Rock::Truth(true) => Some(1),
-        Rock::Truth(false) => Some(0),
-        Rock::Nil | Rock::Text(_) | Rock::Exc(_, _) | Rock::Kind(_) | Rock::Native(_) => None,
-    }
-}
 
 /// A number as a value; where there is none, it is outside 64 bits.
 pub(crate) fn number_value(alloc: Global, number: Option<i64>) -> Result<Value, OpEnd>
@@ -108,7 +84,7 @@ pub(crate) fn abs(alloc: Global, value: &Value) -> Result<Value, OpEnd>
     ensures plain { (s : State) → Meets result s (abs value.now s) }
     ensures sound { (heap : List Owned) → IfOk result (λ v. IsSound heap v) }
 {
-    match number_of(value) {
+    match index_number(value) {
         Some(n) => number_value(alloc, without_sign(n)),
         None => Err(Fault::Argument.end(alloc)),
     }

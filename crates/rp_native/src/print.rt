@@ -1,5 +1,5 @@
 //! The line that `print` makes.
-#![tactic(auto, using(rp_store::proofs::Shapes::goes_on))]
+#![tactic(auto, using(rp_store::proofs::CallerLemmas::goes_on))]
 
 ghost use Rattle.std.specs.Prelude.{◌≡◌, ◌≤◌, ℕ, [], chars, codes};
 ghost use Rattle.rp_ops.specs.Outcome.{Meets, state_of};

@@ -1,5 +1,5 @@
 //! Ranges of numbers.
-#![tactic(auto, using(rp_store::proofs::Shapes::goes_on))]
+#![tactic(auto, using(rp_store::proofs::CallerLemmas::goes_on))]
 
 ghost use Rattle.std.specs.Prelude.{◌≡◌, ◌≢◌, ◌∷◌, [], ◌+◌, ◌<◌, ◌+ℤ◌, ◌*◌, ◌*ℤ◌, ℕ, List, pos, unsigned_abs};
 ghost use Rattle.std.specs.Prelude.{FitsSigned, IfOk, OnErr, SomeIff};
@@ -17,9 +17,9 @@ ghost use Rattle.rp_native.specs.RangeView.{moved, way};
 ghost use Rattle.rp_native.specs.Ranges.{bounds_by, bounds_of, count, listed, member, numbers, range};
 
 use crate::fault::Fault;
-use crate::numbers::number_of;
 use crate::objects::new_container;
 use rp_base::{Memory, OpEnd, Rock, Side, Value};
+use rp_items::index_number;
 use rp_ops::check_room;
 use rp_store::{Object, Store};
 use std::alloc::Global;
@@ -75,7 +75,7 @@ pub(crate) fn range_to(
         alloc,
         store,
         side,
-        bounds_by(Some(0), number_of(to), Some(1)),
+        bounds_by(Some(0), index_number(to), Some(1)),
     )
 }
 
@@ -105,9 +105,9 @@ fn bounds_of(args: &[Value]) -> Result<Bounds, Fault>
     ensures step { IfOk result (λ b. b.step ≢ pos 0) }
 {
     match args {
-        [to] => bounds_by(Some(0), number_of(to), Some(1)),
-        [from, to] => bounds_by(number_of(from), number_of(to), Some(1)),
-        [from, to, step] => bounds_by(number_of(from), number_of(to), number_of(step)),
+        [to] => bounds_by(Some(0), index_number(to), Some(1)),
+        [from, to] => bounds_by(index_number(from), index_number(to), Some(1)),
+        [from, to, step] => bounds_by(index_number(from), index_number(to), index_number(step)),
         _ => Err(Fault::Count),
     }
 }

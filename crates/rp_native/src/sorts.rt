@@ -1,5 +1,5 @@
 //! Sorted lists.
-#![tactic(auto, using(rp_store::proofs::Shapes::goes_on))]
+#![tactic(auto, using(rp_store::proofs::CallerLemmas::goes_on))]
 
 ghost use Rattle.std.specs.Prelude.{◌≡◌, ◌≤◌, ℕ, List, encode_utf8_all, true, IfOk, OnErr};
 ghost use Rattle.std.specs.List.{list_all};
@@ -16,10 +16,10 @@ ghost use Rattle.rp_native.specs.Walked.{are_numbers};
 
 use crate::extremes::have_order;
 use crate::fault::Fault;
-use crate::numbers::number_of;
 use crate::objects::new_container;
 use crate::sums::are_numbers;
 use rp_base::{Memory, Meter, OpEnd, Rock, Side, Text, Value};
+use rp_items::index_number;
 use rp_ops::elements;
 use rp_store::{Object, Store};
 use std::alloc::Global;
@@ -131,7 +131,7 @@ fn text_order(a: &Value, b: &Value) -> Ordering
 fn number_key(value: &Value) -> i64
     ensures { result ≡ number_key value.now }
 {
-    number_of(value).unwrap_or(0)
+    index_number(value).unwrap_or(0)
 }
 
 /// The bytes of a text; none where it is no text.

@@ -7,8 +7,9 @@ ghost use Rattle.rp_native.specs.Numbers.{digit, digits, int, number_found, spel
 ghost use Rattle.rp_native.specs.Saturated.{saturated};
 
 use crate::fault::Fault;
-use crate::numbers::{number_of, number_value};
+use crate::numbers::number_value;
 use rp_base::{OpEnd, Rock, Text, Value};
+use rp_items::index_number;
 use std::alloc::Global;
 
 /// `int(value)` (Python Standard Library, Built-in Functions): a number, a truth value as 0 or 1, or the number that a
@@ -26,7 +27,7 @@ pub(crate) fn int(alloc: Global, value: &Value) -> Result<Value, OpEnd>
     if let Value::Rock(Rock::Text(text)) = value {
         return text_number(alloc, text);
     }
-    match number_of(value) {
+    match index_number(value) {
         Some(n) => Ok(Value::Rock(Rock::Int(n))),
         None => Err(Fault::Argument.end(alloc)),
     }

@@ -1,5 +1,5 @@
 //! Sums of what is walked.
-#![tactic(auto, using(rp_store::proofs::Shapes::goes_on))]
+#![tactic(auto, using(rp_store::proofs::CallerLemmas::goes_on))]
 
 ghost use Rattle.std.specs.Prelude.{◌≡◌, ◌∷◌, ◌≤◌, Err, IfErr, ◌+ℤ◌, List, ℤ, filter_map, is_some, pos, IfOk};
 ghost use Rattle.rp_store.specs.Counters.{KeepsCounters};
@@ -12,8 +12,8 @@ ghost use Rattle.rp_ops.specs.Outcome.{Answers, Meets, State, state_of};
 ghost use Rattle.rp_native.specs.Walked.{are_numbers, sum, sum_of, summed};
 
 use crate::fault::Fault;
-use crate::numbers::number_of;
 use rp_base::{Meter, OpEnd, Rock, Value};
+use rp_items::index_number;
 use rp_ops::{Refusal, elements};
 use rp_store::Store;
 use std::alloc::Global;
@@ -64,7 +64,7 @@ pub(crate) fn are_numbers(values: &[Value]) -> bool
 fn is_number(value: &Value) -> bool
     ensures { result ≡ is_some (index_number value.now) }
 {
-    number_of(value).is_some()
+    index_number(value).is_some()
 }
 
 /// The sum of the numbers among values.
@@ -90,7 +90,7 @@ fn with_number(alloc: Global, total: i64, value: &Value) -> Result<i64, OpEnd>
     ensures fails { IfErr result (λ e. (vs : List Value) (s : State)
         → Meets {A = Value} (Err e) s (number_value (summed total (filter_map index_number (value.now ∷ vs))) s)) }
 {
-    match number_of(value) {
+    match index_number(value) {
         Some(n) => fitted_sum(alloc, total, n),
         None => Ok(total),
     }

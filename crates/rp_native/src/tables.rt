@@ -1,5 +1,5 @@
 //! Lists of tuples.
-#![tactic(auto, using(rp_store::proofs::Shapes::goes_on))]
+#![tactic(auto, using(rp_store::proofs::CallerLemmas::goes_on))]
 
 ghost use Rattle.std.specs.Prelude.{◌≡◌, ◌∷◌, ◌+◌, ◌≤◌, [], ℕ, length, pos, All, IfOk, OnOk};
 ghost use Rattle.rp_store.specs.Counters.{KeepsCounters};

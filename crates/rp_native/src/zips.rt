@@ -1,5 +1,5 @@
 //! Several values walked side by side.
-#![tactic(auto, using(rp_store::proofs::Shapes::goes_on))]
+#![tactic(auto, using(rp_store::proofs::CallerLemmas::goes_on))]
 
 ghost use Rattle.std.specs.Prelude.{◌≡◌, ◌∷◌, ◌++◌, ◌≤◌, [], List, ℕ, fold, length, map, min, All, IfOk, OnOk};
 ghost use Rattle.rp_store.specs.Counters.{KeepsCounters};

@@ -1,5 +1,5 @@
 -- Lemmas that proofs of callers cite too: what operations that use cells answer by what is left, and that what the heap holds is sound.
-use Rattle.std.proofs.Common.{◌≡◌, ℕ, zero, suc, ◌+◌, ◌*◌, ◌<◌, ◌≤◌, Bool, true, false, List, [], ◌∷◌, map, length, encode_utf8_all, ℤ, Option, Some, None, slice_get, IsSomeAnd, Result, Ok, Err, OnOk, IfOk, IfErr, IsErrAnd, refl, sym, ap, ◌∙◌, subst, arith}
+use Rattle.std.proofs.Common.{◌≡◌, ℕ, zero, suc, ◌+◌, ◌*◌, ◌≤◌, Bool, true, false, List, [], ◌∷◌, map, length, encode_utf8_all, ℤ, Option, Some, None, slice_get, Result, Ok, Err, OnOk, IfOk, IfErr, IsErrAnd, refl, sym, ap, ◌∙◌, subst}
 use Rattle.std.proofs.lemmas.Bool.{le-ltb, lt-ltb}
 use Rattle.rp_base.specs.declared.value.Oid.{Oid}
 use Rattle.rp_base.specs.declared.value.OpEnd.{OpEnd}
@@ -25,7 +25,33 @@ use Rattle.rp_ops.specs.Walk.{Cursor, IsWalkHeld, characters_from, elements_from
 use Rattle.rp_ops.specs.declared.operand.Elements.{Elements}
 use Rattle.rp_ops.specs.declared.sequences.Sequence.{Sequence}
 use Rattle.rp_ops.specs.declared.sequences.Sequence.TheVariants as sequence
-use Rattle.rp_ops.specs.Outcome.{Meets, State, Outcome, charged, ends, gives, no_cell, state_of, with_used}
+use Rattle.rp_ops.specs.Outcome.{Meets, Raises, State, Outcome, charged, ends, gives, no_cell, on_value, raised, state_of, with_used}
+use Rattle.rp_base.specs.declared.value.Raised.{Raised}
+use Rattle.rp_store.proofs.CallerLemmas.{KeepsShape-of, ShapeStays-grown, named_held}
+use Rattle.rp_ops.specs.Growth.{Gains}
+
+-- ends
+
+-- another end than a value passes through
+pub meets-passes : {A B : Type 0} (e : OpEnd) (s : State) (o : Outcome A) (go : A → State → Outcome B) → Meets {A = A} (Err e) s o → Meets {A = B} (Err e) s (on_value o go)
+meets-passes (end.Raised r) s o go h = ap (λ o. on_value o go) h
+meets-passes end.StopSteps s o go h = ap (λ o. on_value o go) h
+meets-passes end.StopCells s o go h = ap (λ o. on_value o go) h
+meets-passes end.Memory s o go h = tt
+
+pub passes-on : {A B : Type 0} (r : Result B OpEnd) (f : OpEnd) (s : State) (o : Outcome A) (go : A → State → Outcome B)
+    → IsErrAnd r (λ e. e ≡ f) → Meets {A = A} (Err f) s o → Meets r s (on_value o go)
+passes-on (Ok b) f s o go is h = absurd is
+passes-on {A} {B} (Err e) f s o go is h = subst (λ (e : OpEnd). Meets {A = B} (Err e) s (on_value o go)) (sym is) (meets-passes {A = A} {B = B} f s o go h)
+
+-- an exception is raised where the store is as before, or there was no memory for its text
+pub Meets-raised : {A : Type 0} (e : OpEnd) (r : Raised) (old new : Cells) (steps : ℕ) (o : Outcome A) → Raises e r → new ≡ old → o ≡ ends (raised r) (state_of old steps)
+    → Meets (Err e) (state_of new steps) o
+Meets-raised (end.Raised x) r old new steps o h same is =
+    is ∙ ap (λ (s : Cells). ends (raised r) (state_of s steps)) (sym same) ∙ ap (λ (r : Raised). ends (raised r) (state_of new steps)) (sym h)
+Meets-raised end.StopSteps r old new steps o h same is = absurd h
+Meets-raised end.StopCells r old new steps o h same is = absurd h
+Meets-raised end.Memory r old new steps o h same is = tt
 
 -- cells
 
@@ -117,14 +143,13 @@ repeat-cells n copies size kind xs e l =
 
 -- what the heap holds
 
-held : (P : Content → Type 0) (heap : List Owned) (i : ℕ) → IsSomeAnd (option_map (λ o. o.content) (slice_get heap i)) P → i < length heap
-held P [] i h = absurd h
-held P (o ∷ os) zero h = omega arith
-held P (o ∷ os) (suc i) h = omega (arith, held P os i h)
+-- what gained objects kept its shape
+pub KeepsShape-Gains : (P : Owned → Type 0) (old new : List Owned) → Gains P old new → KeepsShape old new
+KeepsShape-Gains P old new gains = KeepsShape-of old new (ShapeStays-grown old new gains.0 gains.1.0)
 
 -- what names an object is held
 pub IsHeld-Names : (P : Content → Type 0) (heap : List Owned) (at : Oid) → Names heap P at → IsHeld heap at
-IsHeld-Names P heap at h = held P heap at.0 h
+IsHeld-Names P heap at h = named_held P heap at.0 h
 
 -- the elements of what the heap holds are sound
 

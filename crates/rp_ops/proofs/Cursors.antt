@@ -3,7 +3,7 @@ use Rattle.std.proofs.Common.{◌≡◌, ℕ, zero, suc, ◌+◌, ◌≤◌, ◌
 use Rattle.std.proofs.lemmas.Bool.{eq-eqb}
 use Rattle.std.proofs.lemmas.List.{length-map}
 use Rattle.std.proofs.lemmas.List.{drop_all}
-use Rattle.std.proofs.lemmas.Str.{IsCharBoundary-past_char, IsUtf8-drop, chars-nil, chars_past_char, drop_past_char, encodes-chars}
+use Rattle.std.proofs.lemmas.Str.{IsCharBoundary-past_char, IsUtf8-drop, chars-nil, chars_past_char, drop_past_char}
 use Rattle.std.specs.Char.{len_utf8}
 use Rattle.std.specs.Str.{IsCharBoundary, chars}
 use Rattle.std.specs.Option.{IfSome, option_map_or}
@@ -27,6 +27,7 @@ use Rattle.rp_ops.specs.Standing.{letters_left}
 use Rattle.rp_ops.specs.View.{handed, held_by, key_rock}
 use Rattle.rp_ops.specs.Walk.{Cursor, GivesElements, Walks, WalksFrom, at_end, characters_from, content_elements, content_walk, cut_off, elements_from, elements_in, further, keys_from, keys_in, next_character, next_key, next_of, not_walked, rock_elements, rock_walk, spelled_out, taken, walked, with_cursor}
 use Rattle.rp_ops.specs.Numbers.{refused}
+use Rattle.rp_base.proofs.CallerLemmas.{bytes_from_view}
 
 -- what is left of a list begins with the element at the index
 
@@ -132,27 +133,23 @@ gives-elements (value.Rock r) s = rock-gives r s
 gives-elements (value.Ref at) s = object-gives false at s.store s.steps (content_at s.store.heap at) refl
 gives-elements (value.Prox at) s = object-gives true at s.store s.steps (content_at s.store.heap at) refl
 
--- the bytes of a text
-pub text-bytes : (bs t : List ℕ) → IsUtf8 bs → chars bs ≡ t → encode_utf8_all t ≡ bs
-text-bytes bs t utf8 e = ap encode_utf8_all (sym e) ∙ encodes-chars bs utf8
-
 module _ (bs t rest : List ℕ) (i c : ℕ) (utf8 : IsUtf8 bs) (is : chars bs ≡ t) (boundary : IsCharBoundary (encode_utf8_all t) i) (next : drop i bs ≡ encode_utf8 c ++ rest) where
   abbrev here : IsCharBoundary bs i
-  here = subst (λ (l : List ℕ). IsCharBoundary l i) (text-bytes bs t utf8 is) boundary
+  here = subst (λ (l : List ℕ). IsCharBoundary l i) (bytes_from_view bs t utf8 is) boundary
 
   -- the character that begins at a byte, and those that are left
   pub letters-first : letters_left t i ≡ c ∷ letters_left t (i + len_utf8 c)
   letters-first =
-      ap (λ l. chars (drop i l)) (text-bytes bs t utf8 is) ∙ chars_past_char (drop i bs) rest c (IsUtf8-drop bs i utf8 here) next
-      ∙ ap (λ l. c ∷ chars l) (sym (drop_past_char bs rest i c next)) ∙ ap (λ l. c ∷ chars (drop (i + len_utf8 c) l)) (sym (text-bytes bs t utf8 is))
+      ap (λ l. chars (drop i l)) (bytes_from_view bs t utf8 is) ∙ chars_past_char (drop i bs) rest c (IsUtf8-drop bs i utf8 here) next
+      ∙ ap (λ l. c ∷ chars l) (sym (drop_past_char bs rest i c next)) ∙ ap (λ l. c ∷ chars (drop (i + len_utf8 c) l)) (sym (bytes_from_view bs t utf8 is))
 
   pub letters-after : IsCharBoundary (encode_utf8_all t) (i + len_utf8 c)
   letters-after =
-      subst (λ (l : List ℕ). IsCharBoundary l (i + len_utf8 c)) (sym (text-bytes bs t utf8 is))
+      subst (λ (l : List ℕ). IsCharBoundary l (i + len_utf8 c)) (sym (bytes_from_view bs t utf8 is))
       (IsCharBoundary-past_char bs rest i c here.0 (IsUtf8-drop bs i utf8 here) next)
 
 pub letters-end : (bs t : List ℕ) (i : ℕ) → IsUtf8 bs → chars bs ≡ t → length bs ≤ i → letters_left t i ≡ []
-letters-end bs t i utf8 is past = ap (λ l. chars (drop i l)) (text-bytes bs t utf8 is) ∙ ap chars (drop_all i bs past) ∙ chars-nil
+letters-end bs t i utf8 is past = ap (λ l. chars (drop i l)) (bytes_from_view bs t utf8 is) ∙ ap chars (drop_all i bs past) ∙ chars-nil
 
 -- what was proved of a part is so of the whole
 

@@ -17,18 +17,11 @@ use Rattle.rp_store.specs.Parts.{IsList}
 use Rattle.rp_store.specs.Store.{Cells, IsOver, written}
 use Rattle.rp_store.specs.Writers.{with_elements}
 use Rattle.rp_ops.specs.Binary.{binary, repeated, times}
-use Rattle.rp_ops.specs.Growth.{Gains}
 use Rattle.rp_ops.specs.Inplace.{content_inplace, extends, inplace, list_inplace, repeats_list}
 use Rattle.rp_ops.specs.Operand.{number_of, operand}
 use Rattle.rp_ops.specs.Outcome.{Meets, State, ends, gives, no_cell, state_of, with_change}
-use Rattle.rp_store.specs.Shape.{KeepsShape}
 use Rattle.rp_ops.specs.View.{elements_of, held_by, list_place, place_if_list}
-use Rattle.rp_ops.proofs.CallerLemmas.{charged-over, charged-within, used}
-use Rattle.rp_store.proofs.Shapes.{KeepsShape-of, ShapeStays-grown}
-
--- what gained objects kept its shape
-pub KeepsShape-Gains : (P : Owned → Type 0) (old new : List Owned) → Gains P old new → KeepsShape old new
-KeepsShape-Gains P old new gains = KeepsShape-of old new (ShapeStays-grown old new gains.0 gains.1.0)
+use Rattle.rp_ops.proofs.CallerLemmas.{KeepsShape-Gains, charged-over, charged-within, used}
 
 -- elements that are not lent are as they are
 pub elements_of-own : (heap : List Owned) (at : Oid) → elements_of heap (record { at = at; lent = false }) ≡ option_map_or held_by (content_at heap at) []

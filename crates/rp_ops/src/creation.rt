@@ -1,5 +1,5 @@
 //! New texts and objects, and their cells.
-#![tactic(auto, using(rp_store::proofs::Shapes::goes_on))]
+#![tactic(auto, using(rp_store::proofs::CallerLemmas::goes_on))]
 
 ghost use Rattle.std.specs.Prelude.{◌≡◌, ◌∷◌, List, [], ℕ, chars, IfOk, OnErr, OnOk};
 ghost use Rattle.rp_store.specs.Counters.{KeepsCounters};

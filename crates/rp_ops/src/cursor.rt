@@ -1,5 +1,5 @@
 //! A walk over a value, one element at a time.
-#![tactic(auto, using(rp_store::proofs::Shapes::goes_on))]
+#![tactic(auto, using(rp_store::proofs::CallerLemmas::goes_on))]
 
 ghost use Rattle.std.specs.Prelude.{◌≡◌, ◌∷◌, codes, Ok, ◌+◌, ◌<◌, ◌≤◌, ◌^◌, [], List, ℕ, Some, encode_utf8_all};
 ghost use Rattle.std.specs.Prelude.{IfNone, IfOk, IfSome, OnErr};

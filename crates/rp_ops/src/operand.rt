@@ -105,3 +105,16 @@ pub fn elements_at(store: &Store, at: Oid) -> &[Value]
         _ => &[],
     }
 }
+
+/// The number that a rock is; True and False count as 1 and 0 (Python Standard Library, Boolean Type).
+#[inline(always)]
+pub fn rock_number(rock: &Rock) -> Option<i64>
+    ensures { result ≡ number_of (rock_operand rock.now) }
+{
+    match rock {
+        Rock::Int(n) => Some(*n),
+        Rock::Truth(true) => Some(1),
+        Rock::Truth(false) => Some(0),
+        Rock::Nil | Rock::Text(_) | Rock::Exc(_, _) | Rock::Kind(_) | Rock::Native(_) => None,
+    }
+}

@@ -1,5 +1,5 @@
 //! Lists and tuples joined and repeated.
-#![tactic(auto, using(rp_store::proofs::Shapes::goes_on))]
+#![tactic(auto, using(rp_store::proofs::CallerLemmas::goes_on))]
 
 ghost use Rattle.std.specs.Prelude.{◌≡◌, ◌∷◌, ◌++◌, ◌+◌, [], ℕ, length, IfErr, IfOk, OnErr, OnOk};
 ghost use Rattle.std.specs.List.{repeat};
@@ -207,4 +207,18 @@ pub fn handed(value: &Value, lent: bool) -> Result<Value, Memory>
         Value::Ref(at) => Ok(Value::Ref(*at)),
         Value::Prox(at) => Ok(Value::Prox(*at)),
     }
+}
+
+/// Copies of values.
+///
+/// # Errors
+/// `Memory` where a growth was refused, or the count of a text's owners is full.
+pub fn copies(alloc: Global, values: &[Value]) -> Result<Vec<Value>, Memory>
+    ensures { IfOk result (λ all. all.items ≡ values.now) }
+{
+    let mut all = Vec::with_capacity(alloc, values.len())?;
+    for value in values {
+        all.push(value.copy()?)?;
+    }
+    Ok(all)
 }

@@ -1,5 +1,5 @@
 //! Values walked to their ends.
-#![tactic(auto, using(rp_store::proofs::Shapes::goes_on))]
+#![tactic(auto, using(rp_store::proofs::CallerLemmas::goes_on))]
 
 ghost use Rattle.std.specs.Prelude.{◌≡◌, ◌<◌, ◌≤◌, ◌∷◌, [], List, Some, length, map, IfOk};
 ghost use Rattle.std.specs.Option.{option_map, option_map_or};

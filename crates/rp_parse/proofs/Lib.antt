@@ -1,4 +1,6 @@
 pub mod Turns
 pub mod Stops
 pub mod Rounds
+pub mod Scripted
+pub mod Refused
 mod Halving

@@ -44,7 +44,7 @@ fn compound<'a>(
 /// A statement, or the statements of a line, which are put behind those found before.
 #[cycle(statements)]
 #[tactic(auto, unfolding(rp_grammar::specs::StatementReading::statement_at))]
-fn statement<'a>(
+pub fn statement<'a>(
     alloc: Global,
     found: &mut Vec<Stmt>,
     tokens: &'a [Token],
@@ -200,24 +200,5 @@ pub fn block<'a>(alloc: Global, tokens: &'a [Token], setting: Setting<'_>) -> Fo
     match block_inside(alloc, tokens, setting.below()) {
         Ok(found) => Ok(found),
         Err(stop) => Err(stop.at(tokens)),
-    }
-}
-
-/// A whole script, whose last token is END.
-#[tactic(auto, unfolding(rp_grammar::specs::StatementReading::program_at))]
-pub fn program(alloc: Global, tokens: &[Token]) -> Found<'_, Vec<Stmt>>
-    ensures { Gives (λ x. (stmt_views.view_stmts x.0.items, x.1.now)) result
-        (stmt_reading.program_at deep 199 tokens.now) }
-{
-    let mut found = Vec::new(alloc);
-    let rest = statements(alloc, &mut found, tokens, Setting::top())?;
-    match rest {
-        [
-            Token {
-                kind: TokenKind::End,
-                ..
-            },
-        ] => Ok((found, rest)),
-        _ => Err(Stop::Syntax(Some(rest))),
     }
 }

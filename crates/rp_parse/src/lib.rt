@@ -17,40 +17,38 @@ mod fault;
 mod lines;
 mod look;
 mod parameters;
+mod script;
 mod simple_statements;
 
-use blocks::program;
 pub use fault::ParseFault;
-use fault::Stop;
-use rp_expr::look::line_at;
 use rp_token::Token;
 use rp_tree::Tree;
+use script::program;
 use std::alloc::Global;
 
 /// The tree of a script (Python Language Reference, File input). No place of the tokens stands within more than 450
 /// open brackets; those of a text open at most 200.
 ///
 /// The tree has height at most 200, and is the only one that the tokens spell. It has no guard marks and no numbers of
-/// code blocks, and each of its names and of its numbers is one of a token.
+/// code blocks, and each of its names and of its numbers is one of a token. The tokens are given back while they are
+/// read.
 ///
 /// # Errors
 /// `Syntax` where the tokens spell no such tree. Its line is that of the token behind the longest front that can be
 /// ended to a whole script. `Memory` where a growth was refused.
-pub fn parse(alloc: Global, tokens: &[Token]) -> Result<Tree, ParseFault>
-    requires shallow { IsWithin 450 0 tokens.now }
-    ensures spelled { IfOk result (λ tree. Spells (view_tree tree) tokens.now) }
-    ensures only { (tree : Stmts) → Spells tree tokens.now
+pub fn parse(alloc: Global, tokens: Vec<Token>) -> Result<Tree, ParseFault>
+    requires shallow { IsWithin 450 0 tokens.items }
+    ensures spelled { IfOk result (λ tree. Spells (view_tree tree) tokens.items) }
+    ensures only { (tree : Stmts) → Spells tree tokens.items
         → MatchResult result (λ t. view_tree t ≡ tree) (λ e. e ≡ ParseFault.Memory) }
-    ensures one { (a b : Stmts) → Spells a tokens.now → Spells b tokens.now → a ≡ b }
+    ensures one { (a b : Stmts) → Spells a tokens.items → Spells b tokens.items → a ≡ b }
     ensures plain { IfOk result (λ tree. HasNoGuards (view_tree tree)) }
-    ensures leaves { IfOk result (λ tree. HasLeavesOf tokens.now (view_tree tree)) }
+    ensures leaves { IfOk result (λ tree. HasLeavesOf tokens.items (view_tree tree)) }
     ensures syntax { IfErr result (λ e. e ≢ ParseFault.Memory → (front : Tokens) × (rest : Tokens)
-        × (e ≡ ParseFault.Syntax (line_at rest)) × IsLongestGood front rest tokens.now) }
+        × (e ≡ ParseFault.Syntax (line_at rest)) × IsLongestGood front rest tokens.items) }
 {
     match program(alloc, tokens) {
-        Ok((body, _)) => Ok(Tree { body }),
-        Err(Stop::Memory) => Err(ParseFault::Memory),
-        Err(Stop::Syntax(None)) => Err(ParseFault::Syntax(line_at(tokens))),
-        Err(Stop::Syntax(Some(place))) => Err(ParseFault::Syntax(line_at(place))),
+        Ok(body) => Ok(Tree { body }),
+        Err(fault) => Err(fault),
     }
 }

@@ -150,7 +150,7 @@ fn simple_at<'a>(alloc: Global, tokens: &'a [Token], setting: Setting<'_>) -> Fo
 
 /// A simple statement, and whether another follows on its line.
 #[tactic(auto, unfolding(rp_grammar::specs::StatementReading::item_at))]
-fn item<'a>(alloc: Global, tokens: &'a [Token], setting: Setting<'_>) -> Found<'a, (Stmt, bool)>
+pub fn item<'a>(alloc: Global, tokens: &'a [Token], setting: Setting<'_>) -> Found<'a, (Stmt, bool)>
     ensures { Gives (λ x. ((stmt_views.view_stmt x.0.0, x.0.1), x.1.now)) result
         (stmt_reading.item_at deep setting.entry.height
         (context_of setting.entry.context) setting.entry.members tokens.now) }

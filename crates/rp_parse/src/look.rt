@@ -29,13 +29,6 @@ pub fn is_elif(tokens: &[Token]) -> bool
     matches!(kind_at(tokens), Some(TokenKind::Elif))
 }
 
-/// Whether `else` comes.
-pub fn is_else(tokens: &[Token]) -> bool
-    ensures { result ≡ stmt_reading.is_else (first tokens.now) }
-{
-    matches!(kind_at(tokens), Some(TokenKind::Else))
-}
-
 /// Whether `finally` comes.
 pub fn is_finally(tokens: &[Token]) -> bool
     ensures { result ≡ stmt_reading.is_finally (first tokens.now) }

@@ -1,6 +1,6 @@
 //! The parameters of a function whose block is read.
 
-ghost use Rattle.std.specs.Prelude.{◌≡◌, IfOk, Some, map};
+ghost use Rattle.std.specs.Prelude.{◌≡◌, Some, map};
 ghost use Rattle.std.specs.List.{list_any};
 ghost use Rattle.rp_tree.specs.ExpressionViews as views;
 ghost use Rattle.rp_grammar.specs.Expressions.{parameter_names, same_name};
@@ -9,7 +9,7 @@ ghost use Rattle.rp_expr.specs.Gives.{Gives};
 use rp_base::Name;
 use rp_expr::Fault;
 use rp_tree::Params;
-use std::alloc::{AllocError, Global};
+use std::alloc::Global;
 use std::marker::Model;
 
 /// The names of parameters in order, and their places sorted: a name is found among any number of them by halving.
@@ -42,7 +42,7 @@ impl Parameters {
         ensures { Gives (λ p. p) result (Some (parameter_names (views.view_params params.now))) }
     {
         let names = rp_expr::parameter_names(alloc, params)?;
-        let mut sorted = places(alloc, &names)?;
+        let mut sorted = rp_expr::name_places(alloc, &names)?;
         sorted.sort()?;
         Ok(Parameters { names, sorted })
     }
@@ -53,15 +53,4 @@ impl Parameters {
     {
         self.sorted.binary_search(&name.0).is_ok()
     }
-}
-
-/// The places of names.
-fn places(alloc: Global, names: &[Name]) -> Result<Vec<usize>, AllocError>
-    ensures { IfOk result (λ v. v.items ≡ map (λ n. n.0) names.now) }
-{
-    let mut places = Vec::with_capacity(alloc, names.len())?;
-    'names: for name in names {
-        places.push(name.0)?;
-    }
-    Ok(places)
 }

@@ -1,7 +1,6 @@
 -- The interactions of a run answer in its world.
-use Rattle.std.proofs.Common.{◌≡◌, ℕ, List, [], ◌∷◌, map, get_or, sym, subst}
+use Rattle.std.proofs.Common.{◌≡◌, ℕ, List, get_or, sym, subst}
 use Rattle.std.specs.List.{All}
-use Rattle.std.proofs.lemmas.List.Elements.{All-cons, All-head, All-nil, All-tail}
 use Rattle.rp_decl.specs.InOrder.{AreInOrder}
 use Rattle.rp_decl.specs.Places.{IsHeldBy}
 use Rattle.rp_decl.specs.View.{Placed, declarations_view}
@@ -11,7 +10,6 @@ use Rattle.rp_proxy.specs.Faithful.{MayGrowTo}
 use Rattle.rp_proxy.specs.declared.world.World.{World}
 use Rattle.rp_proxy.proofs.LaterRecords.{declarations-later}
 use Rattle.rp_session.specs.Ready.{AnswersIn}
-use Rattle.rp_play.specs.declared.parts.SessionScript.{SessionScript}
 
 -- it answers as the declarations, by whatever names
 abbrev Answers : Placed → Interacting → Type 0
@@ -23,18 +21,10 @@ answers-in names d w who same-names same-decl held ordered answers later grows =
     let there : AreInOrder (declarations_view later d) = subst AreInOrder (sym (declarations-later names later grown.grown d held)) ordered in
     subst (λ (d : Placed). AnswersAs later d who) (sym same-decl) (answers later there)
 
-all-in : (names : List (List ℕ)) (d : Placed) (w : World) (scripts : List SessionScript) → w.names ≡ names → w.decl ≡ d → IsHeldBy names d → AreInOrder (declarations_view names d)
-    → All (λ s. (all : List (List ℕ)) → AreInOrder (declarations_view all d) → AnswersAs all d s.who) scripts → All (AnswersIn w) (map (λ s. s.who) scripts)
-all-in names d w [] same-names same-decl held ordered answer = All-nil (AnswersIn w)
-all-in names d w (s ∷ ss) same-names same-decl held ordered answer =
-    let P : SessionScript → Type 0 = λ s. Answers d s.who in
-    All-cons (AnswersIn w) s.who (map (λ s. s.who) ss) (answers-in names d w s.who same-names same-decl held ordered (All-head P s ss answer))
-    (all-in names d w ss same-names same-decl held ordered (All-tail P s ss answer))
-
-pub all-answer : (names : List (List ℕ)) (d : Placed) (w : World) (scripts : List SessionScript) (whos : List Interacting) → w.names ≡ names → w.decl ≡ d → IsHeldBy names d → AreInOrder (declarations_view names d)
-    → All (λ s. (all : List (List ℕ)) → AreInOrder (declarations_view all d) → AnswersAs all d s.who) scripts → whos ≡ map (λ s. s.who) scripts → All (AnswersIn w) whos
-all-answer names d w scripts whos same-names same-decl held ordered answer are =
-    subst (λ (whos : List Interacting). All (AnswersIn w) whos) (sym are) (all-in names d w scripts same-names same-decl held ordered answer)
+pub all-answer : (names : List (List ℕ)) (d : Placed) (w : World) (whos : List Interacting) → w.names ≡ names → w.decl ≡ d → IsHeldBy names d → AreInOrder (declarations_view names d)
+    → All (λ who. (all : List (List ℕ)) → AreInOrder (declarations_view all d) → AnswersAs all d who) whos → All (AnswersIn w) whos
+all-answer names d w whos same-names same-decl held ordered answer i who inside =
+    answers-in names d w (get_or whos i who) same-names same-decl held ordered (answer i who inside)
 
 -- and in every world with the same names and declarations
 pub still-answer : (w v : World) (whos : List Interacting) → v.names ≡ w.names → v.decl ≡ w.decl → All (AnswersIn w) whos → All (AnswersIn v) whos

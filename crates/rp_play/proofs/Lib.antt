@@ -1,11 +1,7 @@
 mod Answering
 mod Endings
-mod Finished
-mod GlobalNames
+pub mod Finished
 mod Lists
-mod Numbered
-pub mod Numbering
-pub mod Once
-mod Placing
-mod Runs
+pub mod Placing
+pub mod Resolved
 mod Sessions

@@ -1,103 +1,91 @@
 -- What the sessions of a run come to is what its meaning does.
-use Rattle.std.proofs.Common.{◌≡◌, ℕ, List, [], ◌∷◌, ◌++◌, map, length, refl, sym, ap, subst, ◌∙◌}
+use Rattle.std.proofs.Common.{◌≡◌, ℕ, List, [], ◌∷◌, map, length, refl, sym, ap, subst, ◌∙◌}
 use Rattle.std.specs.List.{All, AllZip}
 use Rattle.std.specs.Option.{IsSome}
 use Rattle.std.proofs.lemmas.List.Elements.{All-head, All-tail}
-use Rattle.rp_base.specs.Names.{HoldsEachOnce, word_of}
-use Rattle.rp_decl.specs.Apart.{AreNamesApart}
-use Rattle.rp_decl.specs.InOrder.{AreInOrder}
-use Rattle.rp_decl.specs.Places.{IsHeldBy}
-use Rattle.rp_decl.specs.View.{Placed, declarations_view}
+use Rattle.rp_base.specs.Names.{HoldsEachOnce}
+use Rattle.rp_compile.specs.Compiled.{Compilation, source_tree}
+use Rattle.rp_decl.specs.View.{declarations_view}
+use Rattle.rp_engine.specs.Moment as engine
+use Rattle.rp_engine.specs.Moment.{program_view}
+use Rattle.rp_engine.specs.declared.units.Program.{Program as CodeProgram}
+use Rattle.rp_engine.specs.declared.units.Units.{Units}
 use Rattle.rp_interact.specs.Interacting.{Interacting}
-use Rattle.rp_meaning.specs.Frame.{Program, Run}
-use Rattle.rp_meaning.specs.Load.{load, locals_of, trusted}
+use Rattle.rp_mark_laws.proofs.Sessions.{marks-mean-nothing, sessions-begin-alike}
+use Rattle.rp_mark_laws.specs.Unmarked.{unmarked}
+use Rattle.rp_meaning.specs.Frame.{Run}
+use Rattle.rp_meaning.specs.Load.{with_new_session}
 use Rattle.rp_meaning.specs.Sessions as meant
 use Rattle.rp_meaning.specs.Sessions.{run_all}
-use Rattle.rp_meaning.specs.Unmonitored.{told_of}
 use Rattle.rp_program.specs.Leaves.{IsTreeHeld}
 use Rattle.rp_proxy.specs.declared.world.World.{World}
 use Rattle.rp_scope.specs.Numbers.{IsNumbered}
 use Rattle.rp_session.specs.Ready.{AreNumberedFrom}
 use Rattle.rp_session.specs.View.{session_view}
 use Rattle.rp_session.specs.declared.session.Session.{Session}
-use Rattle.rp_engine.specs.Moment as step
-use Rattle.rp_engine.specs.declared.units.Program.{Program as CodeProgram}
-use Rattle.rp_engine.specs.declared.units.Units.{Units}
-use Rattle.rp_tree.specs.Maps.{named}
-use Rattle.rp_tree.specs.Statements.{Stmts, no_stmts}
-use Rattle.rp_tree.specs.StatementViews.{view_tree}
-use Rattle.rp_machine.specs.Globals.{placed_names}
-use Rattle.rp_world.specs.Worlds.{IsEmptyModule, IsLoaded, world_view}
-use Rattle.rp_play.specs.Played.{Comes, Plays, placed, program_in, run_of, with_new_sessions}
-use Rattle.rp_play.specs.Programs.{AreOf, IsNumberedWhereFew, IsProgramOf}
-use Rattle.rp_play.specs.declared.parts.SessionScript.{SessionScript}
+use Rattle.rp_tree.specs.Marks.{HasNoGuards}
+use Rattle.rp_tree.specs.Statements.{Stmts}
+use Rattle.rp_world.specs.Globals.{placed_names}
+use Rattle.rp_world.specs.Worlds.{world_view}
+use Rattle.rp_play.specs.Played.{Reaches, placed, source_text, with_new_sessions}
+use Rattle.rp_module.specs.Runs.{IsProgramOf, program_in, run_of}
+use Rattle.rp_proxy.specs.Faithful.{IsFaithful}
 use Rattle.rp_play.proofs.Endings.{all-ended}
 use Rattle.rp_play.proofs.Finished.{AllStand, new-stand}
-use Rattle.rp_play.proofs.GlobalNames.{module-is, module-locals}
-use Rattle.rp_play.proofs.Placing.{placed-back}
-use Rattle.rp_play.proofs.Runs.{run-is}
+use Rattle.rp_play.proofs.Placing.{numbered-back}
+use Rattle.rp_module.proofs.GlobalNames.{module-is}
+use Rattle.rp_module.proofs.ProgramsOn.{run-is}
 
--- a program that is the one of a module without a text is that of an empty module
-empty-module : (names : List (List ℕ)) (d : Placed) → AreInOrder (declarations_view names d) → AreNamesApart (declarations_view names d) → (program : Program) → program ≡ program_in (placed_names d) no_stmts → IsEmptyModule d program
-empty-module names d ordered apart program is = record {
-  empty = ap (λ p. p.body) is;
-  globals = ap locals_of is ∙ module-locals names d ordered apart;
-}
-
--- the trees of the programs are those of the scripts, numbered
-all-numbered : (names : List (List ℕ)) → HoldsEachOnce names → (scripts : List SessionScript) (trees : List Stmts) (us : List CodeProgram) → All (λ s. IsTreeHeld names (view_tree s.tree)) scripts
-    → AllZip IsNumberedWhereFew (map (λ s. view_tree s.tree) scripts) trees → AllZip IsProgramOf trees us
-    → AllZip (λ tree script. IsNumbered (placed names tree) script) (map (λ s. named (word_of names) (view_tree s.tree)) scripts) trees
-all-numbered names once [] [] us held few are = tt
-all-numbered names once [] (t ∷ ts) us held few are = absurd few
-all-numbered names once (s ∷ ss) [] us held few are = absurd few
-all-numbered names once (s ∷ ss) (t ∷ ts) [] held few are = absurd are
-all-numbered names once (s ∷ ss) (t ∷ ts) (u ∷ us) held few are =
-    let P : SessionScript → Type 0 = λ s. IsTreeHeld names (view_tree s.tree) in (
-      subst (λ (source : Stmts). IsNumbered source t) (sym (placed-back names once (view_tree s.tree) (All-head P s ss held))) (few.0 are.0.few),
-      all-numbered names once ss ts us (All-tail P s ss held) few.1 are.1,
+-- the sources of the programs are the trees of the scripts, numbered
+all-numbered : (names : List (List ℕ)) → HoldsEachOnce names → (scripts : List Compilation) (us : List CodeProgram) → All (λ s. IsTreeHeld names (source_tree s)) scripts
+    → AllZip IsProgramOf (map source_tree scripts) us
+    → AllZip (λ tree script. IsNumbered (placed names tree) script) (map (source_text names) scripts) (map source_tree scripts)
+all-numbered names once [] us held are = tt
+all-numbered names once (s ∷ ss) [] held are = absurd are
+all-numbered names once (s ∷ ss) (u ∷ us) held are =
+    let P : Compilation → Type 0 = λ s. IsTreeHeld names (source_tree s) in (
+      numbered-back names once (source_tree s) (All-head P s ss held) are.0.numbers,
+      all-numbered names once ss us (All-tail P s ss held) are.1,
     )
 
--- the ids of the principals of scripts
-ids-of : (scripts : List SessionScript) → map (λ (who : Interacting). who.ids) (map (λ s. s.who) scripts) ≡ map (λ s. s.who.ids) scripts
-ids-of [] = refl
-ids-of (s ∷ ss) = ap (λ ids. s.who.ids ∷ ids) (ids-of ss)
+-- new sessions begin as without marks
+begin-alike : (run : Run) (whos : List (List (List ℕ))) (steps : ℕ) (w : meant.World) → with_new_sessions (unmarked run) whos steps w ≡ with_new_sessions run whos steps w
+begin-alike run [] steps w = refl
+begin-alike run (who ∷ whos) steps w =
+    begin-alike run whos steps (with_new_session (unmarked run) who steps w) ∙ ap (with_new_sessions run whos steps) (sessions-begin-alike run who steps w)
 
--- the sessions of the scripts take their turns in the world that loading gives
-pub plays : (names : List (List ℕ)) (d : Placed) (scripts : List SessionScript) (trees : List Stmts) (whos : List Interacting) (listed : List ℕ) (steps cells : ℕ) (units : Units) (w : World) (first begun last : meant.World)
-    → HoldsEachOnce names → IsHeldBy names d → AreInOrder (declarations_view names d) → AreNamesApart (declarations_view names d) → All (λ s. IsTreeHeld names (view_tree s.tree)) scripts
-    → AllZip IsNumberedWhereFew (map (λ s. view_tree s.tree) scripts) trees → AreOf d trees units → whos ≡ map (λ s. s.who) scripts → IsLoaded names d cells w → first ≡ world_view w
-    → ((base : Run) → begun ≡ with_new_sessions (step.run_of base units) (map (λ who. who.ids) whos) steps first)
-    → ((base : Run) → last ≡ run_all (step.run_of base units) listed begun)
-    → Plays names (declarations_view names d) (map (λ s. named (word_of names) (view_tree s.tree)) scripts) (map (λ s. s.who.ids) scripts) listed steps cells (map told_of last.sessions) last.log
-plays names d scripts trees whos listed steps cells units w first begun last once held ordered apart trees-held few of whos-are loaded is-first begins runs =
-    let run : Run = run_of names (declarations_view names d) trees in
-    let is_module = of.empty ∙ module-is names d once held in
-    let same : step.run_of run units ≡ run = run-is names (declarations_view names d) trees units is_module of.scripts in
-    let ids : map (λ (who : Interacting). who.ids) whos ≡ map (λ s. s.who.ids) scripts = ap (map (λ (who : Interacting). who.ids)) whos-are ∙ ids-of scripts in
-    let whole : last ≡ run_all run listed (with_new_sessions run (map (λ s. s.who.ids) scripts) steps (world_view w)) =
-    runs run ∙ ap (run_all (step.run_of run units) listed) (begins run)
-    ∙ (λ i. run_all (same i) listed (with_new_sessions (same i) (ids i) steps (is-first i))) in
+-- the sessions of the scripts take their turns from the world, and come to another
+pub reaches : (w : World) (body : Stmts) (scripts : List Compilation) (whos : List Interacting) (listed : List ℕ) (steps : ℕ) (units : Units) (first begun last : meant.World)
+    → IsFaithful w → HasNoGuards body → All (λ s. IsTreeHeld w.names (source_tree s)) scripts
+    → program_view units.module ≡ program_in (placed_names w.decl) body → AllZip IsProgramOf (map source_tree scripts) units.scripts.items → first ≡ world_view w
+    → ((base : Run) → begun ≡ with_new_sessions (engine.run_of base units) (map (λ who. who.ids) whos) steps first)
+    → ((base : Run) → last ≡ run_all (engine.run_of base units) listed begun)
+    → Reaches (world_view w) body (map (source_text w.names) scripts) (map (λ who. who.ids) whos) listed steps last
+reaches w body scripts whos listed steps units first begun last faithful plain held of of-scripts is-first begins runs =
+    let ds = declarations_view w.names w.decl in
+    let sources = map source_tree scripts in
+    let ids = map (λ (who : Interacting). who.ids) whos in
+    let run : Run = run_of w.names ds body sources in
+    let made : Run = engine.run_of run units in
+    let same : unmarked made ≡ run = run-is w.names ds body sources units plain (of ∙ module-is w.names w.decl faithful.read.distinct faithful.read.held body) of-scripts in
+    let whole : last ≡ run_all run listed (with_new_sessions run ids steps (world_view w)) =
+    runs run ∙ ap (run_all made listed) (begins run) ∙ sym (marks-mean-nothing made listed (with_new_sessions made ids steps first))
+    ∙ ap (run_all (unmarked made) listed) (sym (begin-alike made ids steps first))
+    ∙ (λ i. run_all (same i) listed (with_new_sessions (same i) ids steps (is-first i))) in
     record {
-      scripts = trees;
-      numbered = all-numbered names once scripts trees units.scripts.items trees-held few of.scripts;
-      comes = record {
-        world = world_view w;
-        loaded = loaded run (empty-module names d ordered apart (run.programs trusted) (sym (module-is names d once held)));
-        sessions = sym (ap (λ (v : meant.World). map told_of v.sessions) whole);
-        entries = sym (ap (λ (v : meant.World). v.log) whole);
-      };
+      scripts = sources;
+      numbered = all-numbered w.names faithful.read.distinct scripts units.scripts.items held of-scripts;
+      comes = sym whole;
     }
 
 -- and then each has ended
-pub all-end : (names : List (List ℕ)) (d : Placed) (whos : List (List (List ℕ))) (listed : List ℕ) (steps : ℕ) (units : Units) (first begun last : meant.World) (js ks : List Session) → first.sessions ≡ []
-    → ((base : Run) → begun ≡ with_new_sessions (step.run_of base units) whos steps first)
-    → ((base : Run) → last ≡ run_all (step.run_of base units) listed begun)
+pub all-end : (base : Run) (whos : List (List (List ℕ))) (listed : List ℕ) (steps : ℕ) (units : Units) (first begun last : meant.World) (js ks : List Session) → first.sessions ≡ []
+    → ((base : Run) → begun ≡ with_new_sessions (engine.run_of base units) whos steps first)
+    → ((base : Run) → last ≡ run_all (engine.run_of base units) listed begun)
     → begun.sessions ≡ map session_view js → last.sessions ≡ map session_view ks
     → AreNumberedFrom 1 js → AreNumberedFrom 1 ks → length ks ≡ length js → All (λ k. IsSome k.end) ks
-all-end names d whos listed steps units first begun last js ks none begins runs before after numbered-before numbered-after count =
-    let base = run_of names (declarations_view names d) [] in
-    let run = step.run_of base units in
+all-end base whos listed steps units first begun last js ks none begins runs before after numbered-before numbered-after count =
+    let run = engine.run_of base units in
     let stand = new-stand run whos steps first (subst (λ (l : List meant.Session). AllStand run l) (sym none) tt) in
     all-ended run listed begun last js ks before after numbered-before numbered-after count
     (subst (λ (w : meant.World). AllStand run w.sessions) (sym (begins base)) stand) (runs base)

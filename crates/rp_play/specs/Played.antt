@@ -1,71 +1,49 @@
--- What scripts come to that take turns over declarations without a module: their direct meaning.
-use Rattle.std.specs.Prelude.{◌≡◌, ℕ, zero, suc, List, [], ◌∷◌, map, slice_get, Option, Ok}
+-- What scripts come to that take turns over a world: their direct meaning.
+use Rattle.std.specs.Prelude.{◌≡◌, ℕ, List, [], ◌∷◌, map, Option}
 use Rattle.std.specs.List.{AllZip}
-use Rattle.std.specs.Option.{option_map_or}
-use Rattle.rp_access.specs.Natives.{natives}
-use Rattle.rp_base.specs.Identifier.{is_identifier_word}
-use Rattle.rp_base.specs.declared.value.Name.{Name}
-use Rattle.rp_decl.specs.Records.{Declarations}
-use Rattle.rp_machine.specs.Store.{global_names}
+use Rattle.rp_base.specs.Names.{word_of}
+use Rattle.rp_compile.specs.Compiled.{Compilation, source_tree}
 use Rattle.rp_meaning.specs.BuiltIn.{name_of}
-use Rattle.rp_meaning.specs.Frame.{Program, Run, program_of}
-use Rattle.rp_meaning.specs.Load.{load, with_new_session}
+use Rattle.rp_meaning.specs.Frame.{Run}
+use Rattle.rp_meaning.specs.Load.{with_new_session}
 use Rattle.rp_meaning.specs.Sessions.{SessionEnd, World, run_all}
 use Rattle.rp_meaning.specs.Unmonitored.{told_of}
-use Rattle.rp_policy.specs.Forbidden.{is_forbidden_attribute}
-use Rattle.rp_proxy.specs.Decide.{decide}
+use Rattle.rp_module.specs.Runs.{run_of}
 use Rattle.rp_scope.specs.Numbers.{IsNumbered}
-use Rattle.rp_scope.specs.Scopes.{scopes}
-use Rattle.rp_engine.specs.Moment.{layouts_view}
 use Rattle.rp_trail.specs.Entry.{Entry}
-use Rattle.rp_tree.specs.Maps.{named}
-use Rattle.rp_tree.specs.Statements.{Stmts, no_stmts}
+use Rattle.rp_tree.specs.Maps.{named, without_blocks}
+use Rattle.rp_tree.specs.Statements.{Stmts}
 use Rattle.rp_tree.specs.StatementTrees.{Stmts as TextStmts}
-
--- a program, whose global names begin with these
-abbrev pub program_in : List Name → Stmts → Program
-program_in first body = program_of body (layouts_view (scopes first body))
-
--- The program of a module without a text (Python Language Reference, Complete Python programs): it does nothing. Its global names are those of the
--- declared classes and then of the declared objects.
-abbrev pub module_in : List (List ℕ) → Declarations → Program
-module_in names d = program_in (map (name_of names) (global_names d)) no_stmts
-
--- the program of the side of a number: that of the script of this number, from 1 on; where there is none it is the one of the module
-abbrev pub program_on : Program → List Stmts → ℕ → Program
-program_on of_module scripts zero = of_module
-program_on of_module scripts (suc place) = option_map_or (program_in []) (slice_get scripts place) of_module
-
--- The run of some scripts: what is done through a proxy is decided (zope.security, checkers), the built-in functions and methods are those of the
--- library, and `getattr` and `setattr` take the identifiers that the policy of names lets pass.
-abbrev pub run_of : List (List ℕ) → Declarations → List Stmts → Run
-run_of names d scripts = record {
-  programs = λ side. program_on (module_in names d) scripts side.0;
-  natives = natives;
-  is_identifier = is_identifier_word;
-  is_forbidden = is_forbidden_attribute;
-  decide = decide;
-}
 
 -- the world with a session more for each of these, one after another
 abbrev pub with_new_sessions : Run → List (List (List ℕ)) → ℕ → World → World
 with_new_sessions run [] steps w = w
 with_new_sessions run (who ∷ whos) steps w = with_new_sessions run whos steps (with_new_session run who steps w)
 
--- Sessions of these principals, which take the listed turns in the world that loading gives and then run to their ends, came to this: how each ended
--- and what it printed, and beside that the log.
-pub record Comes (run : Run) (names : List (List ℕ)) (d : Declarations) (whos : List (List (List ℕ))) (listed : List ℕ) (steps cells : ℕ) (told : List (Option SessionEnd × List ℕ)) (log : List Entry) : Type 0 where
-  pub world : World
-  pub loaded : load run names d cells ≡ Ok world
-  pub sessions : map told_of (run_all run listed (with_new_sessions run whos steps world)).sessions ≡ told
-  pub entries : (run_all run listed (with_new_sessions run whos steps world)).log ≡ log
-
 -- a tree with each name in the place of its word among the words
 abbrev pub placed : List (List ℕ) → TextStmts (List ℕ) → Stmts
 placed words tree = named (name_of words) tree
 
--- the same of scripts by their trees: each name in its place among the names of the run, and the code blocks numbered
-pub record Plays (names : List (List ℕ)) (d : Declarations) (trees : List (TextStmts (List ℕ))) (whos : List (List (List ℕ))) (listed : List ℕ) (steps cells : ℕ) (told : List (Option SessionEnd × List ℕ)) (log : List Entry) : Type 0 where
+-- the tree of a script by the words of names, without the numbers of its code blocks
+abbrev pub source_text : List (List ℕ) → Compilation → TextStmts (List ℕ)
+source_text names c = without_blocks (named (word_of names) (source_tree c))
+
+-- sessions of these principals, each of so many steps, that take the listed turns in a world and then run to their ends
+abbrev pub played_from : Run → World → List (List (List ℕ)) → List ℕ → ℕ → World
+played_from run w whos listed steps = run_all run listed (with_new_sessions run whos steps w)
+
+-- Sessions of scripts by their trees come to this world, from a world whose module has this body: each name in its
+-- place among the names of the world, and the code blocks numbered.
+pub record Reaches (w : World) (body : Stmts) (trees : List (TextStmts (List ℕ))) (whos : List (List (List ℕ)))
+    (listed : List ℕ) (steps : ℕ) (last : World) : Type 0 where
   pub scripts : List Stmts
-  pub numbered : AllZip (λ tree script. IsNumbered (placed names tree) script) trees scripts
-  pub comes : Comes (run_of names d scripts) names d whos listed steps cells told log
+  pub numbered : AllZip (λ tree script. IsNumbered (placed w.names tree) script) trees scripts
+  pub comes : played_from (run_of w.names w.declarations body scripts) w whos listed steps ≡ last
+
+-- The same by what is told of it: how each of the sessions ended and what it printed, and beside that the log.
+pub record Plays (w : World) (body : Stmts) (trees : List (TextStmts (List ℕ))) (whos : List (List (List ℕ)))
+    (listed : List ℕ) (steps : ℕ) (told : List (Option SessionEnd × List ℕ)) (log : List Entry) : Type 0 where
+  pub last : World
+  pub reaches : Reaches w body trees whos listed steps last
+  pub sessions : map told_of last.sessions ≡ told
+  pub entries : last.log ≡ log

@@ -1,9 +1,5 @@
 //! Why a run has no outcome.
 
-ghost use Rattle.std.specs.Prelude.{ℕ};
-ghost use Rattle.rp_play.specs.Causes.{IsAmong};
-ghost use Rattle.rp_session.specs.View.{IsHaltOf};
-
 use rp_base::Memory;
 use rp_engine::Halt;
 use rp_session::SessionHalt;
@@ -13,19 +9,16 @@ use rp_session::SessionHalt;
 pub enum NoOutcome {
     /// A growth was refused.
     Memory,
-    /// The script of the session of this number, from 1, comes to a form that does not run yet (`Halt::NotBuilt`), or
-    /// its machine has made all the steps that it can count (`Halt::TooLong`).
-    NotYet(u32),
+    /// The machine of a session has made 2^64 - 1 steps.
+    TooLong,
 }
 
 impl NoOutcome {
     /// The cause that a session's halt is.
-    pub(crate) fn of(halt: SessionHalt) -> NoOutcome
-        ensures { (sessions : ℕ) → IsHaltOf sessions halt → IsAmong sessions result }
-    {
+    pub(crate) fn of(halt: SessionHalt) -> NoOutcome {
         match halt.halt {
             Halt::Memory => NoOutcome::Memory,
-            Halt::NotBuilt | Halt::TooLong => NoOutcome::NotYet(halt.session),
+            Halt::TooLong => NoOutcome::TooLong,
         }
     }
 }

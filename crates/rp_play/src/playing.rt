@@ -1,89 +1,73 @@
 //! The sessions of a run.
 
-ghost use Rattle.std.specs.Prelude.{◌≡◌, ◌<◌, ◌-◌, ◌^◌, ℕ, IfErr, IfOk, IsSome, List, None, OnOk, length, map};
+ghost use Rattle.std.specs.Prelude.{◌≡◌, ◌<◌, ◌-◌, ◌^◌, ℕ, IfOk, IsSome, List, OnOk, length, map};
 ghost use Rattle.std.specs.List.{All};
-ghost use Rattle.rp_base.specs.Names.{first_words, word_of};
-ghost use Rattle.rp_decl.specs.Apart.{AreNamesApart};
-ghost use Rattle.rp_decl.specs.Consistency.{IsConsistent};
+ghost use Rattle.rp_compile.specs.Compiled.{source_tree};
 ghost use Rattle.rp_decl.specs.InOrder.{AreInOrder};
-ghost use Rattle.rp_decl.specs.Places.{GrowsTo, IsHeldBy};
 ghost use Rattle.rp_decl.specs.View.{declarations_view};
+ghost use Rattle.rp_engine.specs.Moment.{run_of};
 ghost use Rattle.rp_interact.specs.Answers.{AnswersAs};
-ghost use Rattle.rp_load.specs.Load.{fault_of};
 ghost use Rattle.rp_meaning.specs.Frame.{Run};
-ghost use Rattle.rp_meaning.specs.Unmonitored.{told_of};
-ghost use Rattle.rp_play.specs.Causes.{IsAmong};
-ghost use Rattle.rp_play.specs.Played.{Plays, with_new_sessions};
+ghost use Rattle.rp_module.specs.Loads.{HasModule};
+ghost use Rattle.rp_play.specs.Played.{Reaches, source_text, with_new_sessions};
 ghost use Rattle.rp_program.specs.Leaves.{IsTreeHeld};
 ghost use Rattle.rp_proxy.specs.Faithful.{IsFaithful};
 ghost use Rattle.rp_session.specs.Ready.{AnswersIn, AreLaidOut, AreReady};
 ghost use Rattle.rp_session.specs.View.{sessions_view};
-ghost use Rattle.rp_engine.specs.Moment.{run_of};
-ghost use Rattle.rp_tree.specs.Maps.{named};
 ghost use Rattle.rp_tree.specs.StatementViews.{view_tree};
-ghost use Rattle.rp_world.specs.Worlds.{IsLoaded};
+ghost use Rattle.rp_world.specs.Worlds.{world_view};
 
 use crate::no_outcome::NoOutcome;
-use crate::parts::{Parts, SessionScript, parts_of};
 use crate::programs::units_of;
-use crate::trees::Trees;
-use rp_base::{Memory, Meter, Names, Printed};
-use rp_decl::Decl;
+use crate::trees::{Parts, parts_of};
+use rp_base::Memory;
+use rp_compile::Compiled;
 use rp_engine::Units;
-use rp_interact::{Interaction, WhoFault};
-use rp_proxy::{Running, World};
+use rp_interact::Interaction;
+use rp_module::Loaded;
 use rp_session::Sessions;
-use rp_world::{NoWorld, load};
 use std::alloc::Global;
 
-/// How many steps a session may take, and how many cells a run may use.
-#[derive(Clone, Copy, Debug, PartialEq, Eq)]
-pub struct Limits {
-    pub steps: u64,
-    pub cells: u64,
-}
-
-/// Runs scripts as sessions, which are numbered from 1 in the order of the scripts, over declarations without a module:
-/// first the listed turns, in which a number of no session does nothing, and then each session to its end, in order.
-/// All was read into the names, each script as its tree. It gives the sessions as they ended.
+/// Runs scripts as sessions, which are numbered from 1 in the order of the scripts, over a world with its module, as
+/// loading gives them: first the listed turns, in which a number of no session does nothing, and then each session to
+/// its end, in order. Each session may take so many steps. Each script was compiled by the names of the world, and runs
+/// for the principals at its place. It gives the sessions as they ended.
 ///
 /// # Errors
-/// `NotYet` with the number of a session whose script comes to a form that does not run yet. Whether one does is not
-/// said. `Memory` where a growth was refused.
+/// `TooLong` where the machine of a session has made 2^64 - 1 steps. Whether there is one is not said. `Memory` where a
+/// growth was refused.
 pub fn play(
     alloc: Global,
-    decl: Decl,
-    names: Names,
-    scripts: Vec<SessionScript>,
+    loaded: Loaded,
+    whos: Vec<Interaction>,
+    scripts: Vec<Compiled>,
     listed: &[u32],
-    limits: Limits,
+    steps: u64,
 ) -> Result<Sessions, NoOutcome>
-    requires first { GrowsTo first_words names }
-    requires held { IsHeldBy names decl }
-    requires consistent { IsConsistent (declarations_view names decl) }
-    requires ordered { AreInOrder (declarations_view names decl) }
-    requires apart { AreNamesApart (declarations_view names decl) }
-    requires runs { fault_of (declarations_view names decl) ≡ None }
+    requires faithful { IsFaithful loaded.world }
+    requires whole { HasModule loaded }
     requires few { length scripts.items < 2 ^ 32 - 1 }
-    requires grants { All (λ script. (all : List (List ℕ)) → AreInOrder (declarations_view all decl)
-        → AnswersAs all decl script.who) scripts.items }
-    requires trees { All (λ script. IsTreeHeld names (view_tree script.tree)) scripts.items }
-    ensures plays { IfOk result (λ sessions. Plays names (declarations_view names decl)
-        (map (λ script. named (word_of names) (view_tree script.tree)) scripts.items)
-        (map (λ script. script.who.ids) scripts.items) listed.now limits.steps limits.cells
-        (map told_of (sessions_view sessions).sessions) (sessions_view sessions).log) }
+    requires as_many { length whos.items ≡ length scripts.items }
+    requires grants { All (λ who. (all : List (List ℕ)) → AreInOrder (declarations_view all loaded.world.decl)
+        → AnswersAs all loaded.world.decl who) whos.items }
+    requires held { All (λ script. IsTreeHeld loaded.world.names (source_tree script)) scripts.items }
+    ensures reaches { IfOk result (λ sessions. Reaches (world_view loaded.world) (view_tree loaded.module)
+        (map (source_text loaded.world.names) scripts.items)
+        (map (λ who. who.ids) whos.items) listed.now steps (sessions_view sessions)) }
     ensures ended { IfOk result (λ sessions. All (λ session. IsSome session.end) sessions.list.items) }
     ensures count { IfOk result (λ sessions. length sessions.list.items ≡ length scripts.items) }
     ensures ready { IfOk result AreReady }
-    ensures cause { IfErr result (IsAmong (length scripts.items)) }
 {
-    let parts = parts_of(alloc, scripts)?;
-    let Parts { whos, trees } = parts;
-    let trees = Trees::of_scripts(alloc, trees)?;
-    let units = units_of(alloc, &decl, &trees)?;
-    let world = empty_world(alloc, decl, names, limits.cells)?;
+    let Loaded {
+        world,
+        module,
+        layouts,
+    } = loaded;
+    let parts = parts_of(alloc, module, layouts, scripts)?;
+    let Parts { trees, tables } = parts;
+    let units = units_of(alloc, &trees, tables)?;
     let mut sessions = Sessions::new(alloc, world);
-    begin_all(&mut sessions, &units, whos, limits.steps)?;
+    begin_all(&mut sessions, &units, whos, steps)?;
     match sessions.run_all(&units, listed) {
         Ok(()) => Ok(sessions),
         Err(halt) => Err(NoOutcome::of(halt)),
@@ -115,41 +99,4 @@ fn begin_all(
         sessions.begin(units, who, steps)?;
     }
     Ok(())
-}
-
-/// The world of declarations without a module, with nobody in it.
-fn empty_world(alloc: Global, decl: Decl, names: Names, cells: u64) -> Result<World, Memory>
-    requires first { GrowsTo first_words names }
-    requires held { IsHeldBy names decl }
-    requires consistent { IsConsistent (declarations_view names decl) }
-    requires ordered { AreInOrder (declarations_view names decl) }
-    requires runs { fault_of (declarations_view names decl) ≡ None }
-    ensures loaded { IfOk result (IsLoaded names decl cells) }
-    ensures faithful { IfOk result IsFaithful }
-    ensures decl { IfOk result (λ w. w.decl ≡ decl) }
-    ensures names { IfOk result (λ w. w.names ≡ names) }
-{
-    let running = Running {
-        session: 0,
-        interaction: nobody(alloc, &decl)?,
-        meter: Meter { left: 0 },
-        printed: Printed::new(alloc),
-    };
-    match load(alloc, decl, names, cells, running) {
-        Ok(world) => Ok(world),
-        Err(NoWorld::Memory) => Err(Memory),
-        Err(NoWorld::Fault(_, _)) => unreachable!(),
-    }
-}
-
-/// The interaction of no principals.
-fn nobody(alloc: Global, decl: &Decl) -> Result<Interaction, Memory>
-    ensures { IfOk result (λ i. (names : List (List ℕ)) → AreInOrder (declarations_view names decl.now)
-        → AnswersAs names decl.now i) }
-{
-    match Interaction::new(alloc, decl, &[]) {
-        Ok(nobody) => Ok(nobody),
-        Err(WhoFault::Memory) => Err(Memory),
-        Err(WhoFault::Unknown(_)) => unreachable!(),
-    }
 }

@@ -1,70 +1,70 @@
-//! The trees of the programs of a run.
+//! The trees of the programs of a run, and the tables of their scopes.
 
 ghost use Rattle.std.specs.Prelude.{◌≡◌, IfOk, map};
 ghost use Rattle.std.specs.List.{AllZip};
-ghost use Rattle.rp_play.specs.Programs.{AreNumbered, IsNumberedWhereFew};
-ghost use Rattle.rp_tree.specs.StatementViews.{view_tree};
-ghost use Rattle.rp_tree.specs.Statements.{no_stmts};
+ghost use Rattle.rp_play.specs.Programs.{IsResolved};
 
 use rp_base::Memory;
-use rp_scope::number;
+use rp_compile::Compiled;
+use rp_scope::Layouts;
 use rp_tree::Tree;
 use std::alloc::Global;
 
-/// The trees of the programs of a run: that of a module without a text, and those of the scripts, whose code blocks
-/// have their numbers. The programs borrow them.
+/// The trees of the programs of a run: that of the trusted module, and those of the scripts, with their guards. The
+/// programs borrow them.
 #[derive(Drop)]
 pub struct Trees {
     pub module: Tree,
     pub scripts: Vec<Tree>,
 }
 
-impl Trees {
-    /// The trees of some scripts, in order, with the code blocks numbered, as `rp_scope::number` sets them.
-    ///
-    /// # Errors
-    /// `Memory` where a growth was refused.
-    pub fn of_scripts(alloc: Global, scripts: Vec<Tree>) -> Result<Trees, Memory>
-        ensures scripts { IfOk result (λ trees. AllZip IsNumberedWhereFew
-            (map view_tree scripts.items) (map view_tree trees.scripts.items)) }
-        ensures numbered { IfOk result AreNumbered }
-    {
-        let scripts = all_numbered(alloc, scripts)?;
-        let module = empty_tree(alloc);
-        Ok(Trees { module, scripts })
-    }
+/// The tables of the scopes of these programs. Each program takes its own.
+#[derive(Drop)]
+pub struct Tables {
+    pub module: Layouts,
+    pub scripts: Vec<Layouts>,
 }
 
-/// The tree of a program without a text.
-fn empty_tree(alloc: Global) -> Tree
-    ensures { view_tree result ≡ no_stmts }
-{
-    Tree {
-        body: Vec::new(alloc),
-    }
+/// The trees of the programs of a run, and their tables.
+#[derive(Drop)]
+pub(crate) struct Parts {
+    pub trees: Trees,
+    pub tables: Tables,
 }
 
-/// Trees with their code blocks numbered, in order.
+/// The trees and the tables of a module, whose tree and table these are, and of some scripts, in order.
 ///
 /// # Errors
 /// `Memory` where a growth was refused.
-fn all_numbered(alloc: Global, trees: Vec<Tree>) -> Result<Vec<Tree>, Memory>
-    ensures { IfOk result (λ all. AllZip IsNumberedWhereFew
-        (map view_tree trees.items) (map view_tree all.items)) }
+pub(crate) fn parts_of(
+    alloc: Global,
+    tree: Tree,
+    table: Layouts,
+    scripts: Vec<Compiled>,
+) -> Result<Parts, Memory>
+    ensures tree { IfOk result (λ parts. parts.trees.module ≡ tree) }
+    ensures table { IfOk result (λ parts. parts.tables.module ≡ table) }
+    ensures scripts { IfOk result (λ parts. parts.trees.scripts.items
+        ≡ map (λ script. script.rewritten) scripts.items) }
+    ensures resolved { IfOk result (λ parts. AllZip IsResolved parts.trees.scripts.items
+        parts.tables.scripts.items) }
 {
-    let mut all = Vec::new(alloc);
-    for tree in trees {
-        let tree = numbered(tree);
-        all.push(tree)?;
+    let mut trees = Vec::new(alloc);
+    let mut tables = Vec::new(alloc);
+    for script in scripts {
+        let parts = script.into_parts();
+        let (rewritten, layouts) = parts;
+        trees.push(rewritten)?;
+        tables.push(layouts)?;
     }
-    Ok(all)
-}
-
-/// A tree with its code blocks numbered.
-fn numbered(tree: Tree) -> Tree
-    ensures { IsNumberedWhereFew (view_tree tree) (view_tree result) }
-{
-    let mut numbered = tree;
-    number(&mut numbered);
-    numbered
+    Ok(Parts {
+        trees: Trees {
+            module: tree,
+            scripts: trees,
+        },
+        tables: Tables {
+            module: table,
+            scripts: tables,
+        },
+    })
 }

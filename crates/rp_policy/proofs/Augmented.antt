@@ -14,14 +14,7 @@ use Rattle.rp_policy.specs.Spots as tree_spots
 use Rattle.rp_policy.specs.declared.spot.Spot.{Spot}
 use Rattle.rp_policy.specs.declared.spot.Suite.{Suite}
 use Rattle.rp_policy.specs.declared.spot.Suite.TheVariants.{OfClass, Other}
-
-front_empty : {X : Type 0} (xs ys : List X) → xs ++ ys ≡ [] → xs ≡ []
-front_empty [] ys e = refl
-front_empty (x ∷ xs) ys e = absurd (cc)
-
-rest_empty : {X : Type 0} (xs ys : List X) → xs ++ ys ≡ [] → ys ≡ []
-rest_empty [] ys e = e
-rest_empty (x ∷ xs) ys e = absurd (cc)
+use Rattle.rp_base.proofs.CallerLemmas.{nil-front, nil-rest}
 
 module _ {A : Type 0} (word : A → List ℕ) where
   -- spots of which none is an offence
@@ -29,10 +22,10 @@ module _ {A : Type 0} (word : A → List ℕ) where
   IsClean xs = filter_map (offence word) xs ≡ []
 
   front : (xs ys : List (Spot A)) → IsClean (xs ++ ys) → IsClean xs
-  front xs ys e = front_empty (filter_map (offence word) xs) (filter_map (offence word) ys) (sym (filter_map-append (offence word) xs ys) ∙ e)
+  front xs ys e = nil-front (filter_map (offence word) xs) (filter_map (offence word) ys) (sym (filter_map-append (offence word) xs ys) ∙ e)
 
   rest : (xs ys : List (Spot A)) → IsClean (xs ++ ys) → IsClean ys
-  rest xs ys e = rest_empty (filter_map (offence word) xs) (filter_map (offence word) ys) (sym (filter_map-append (offence word) xs ys) ∙ e)
+  rest xs ys e = nil-rest (filter_map (offence word) xs) (filter_map (offence word) ys) (sym (filter_map-append (offence word) xs ys) ∙ e)
 
   operator_names : (x : Place A) (at : Line) → IsClean (tree_spots.operator_spots x at) → inplace_site x ≡ inplace_name
   unfolding offence

@@ -1,33 +1,21 @@
 -- Words of ASCII in a text: what its bytes tell of them is what its characters tell.
-use Rattle.std.proofs.Common.{◌≡◌, ℕ, ◌-◌, Bool, true, false, ◌||◌, List, [], ◌∷◌, ◌++◌, length, take, drop, chars, encode_utf8_all, nat_eq, refl, sym, ap, ◌∙◌, subst}
+use Rattle.std.proofs.Common.{◌≡◌, ℕ, ◌-◌, true, ◌||◌, List, [], ◌∷◌, ◌++◌, length, take, drop, chars, encode_utf8_all, nat_eq, refl, sym, ap, ◌∙◌, subst}
 use Rattle.std.specs.Char.{is_ascii}
 use Rattle.std.specs.Cmp.Lexicographic.{pointwise}
 use Rattle.std.specs.List.{list_all, list_any, starts_with, ends_with}
 use Rattle.std.specs.Str.{IsAscii, IsUtf8}
 use Rattle.std.proofs.Math.Seq.{take-append_seam}
-use Rattle.std.proofs.lemmas.Bool.{and_parts, ltb-true}
+use Rattle.std.proofs.lemmas.Bool.{and_parts}
 use Rattle.std.proofs.lemmas.Bool.Decides.{Decides-eqb}
 use Rattle.std.proofs.lemmas.Slice.Eq.{starts_is, ends_is}
 use Rattle.std.proofs.lemmas.Str.{chars-append, chars-IsAscii, encodes-append, encodes-chars, encodes-IsAscii, IsUtf8-from_ascii, IsUtf8-take, IsCharBoundary-at_seam}
-use Rattle.std.proofs.lemmas.Str.Ascii.{IsAscii-nil, IsAscii-cons}
+use Rattle.rp_base.proofs.CallerLemmas.{IsAscii-tested, same_truth}
 use Rattle.rp_base.specs.Same.{same_text}
 use Rattle.rp_policy.specs.Forbidden.{is_among}
 
--- a word of which each byte passes the test is ASCII
-pub IsAscii-tested : (word : List ℕ) → list_all is_ascii word ≡ true → IsAscii word
-IsAscii-tested [] h = IsAscii-nil
-IsAscii-tested (c ∷ cs) h =
-    let parts = and_parts (is_ascii c) (list_all is_ascii cs) h in
-    IsAscii-cons c cs (ltb-true c 128 parts.0) (IsAscii-tested cs parts.1)
-
-equal_tests : (a b : Bool) → (a ≡ true → b ≡ true) → (b ≡ true → a ≡ true) → a ≡ b
-equal_tests true b to from = sym (to refl)
-equal_tests false true to from = from refl
-equal_tests false false to from = refl
-
 pub starts_with-chars : (bs word : List ℕ) → IsUtf8 bs → IsAscii word → starts_with nat_eq bs word ≡ starts_with nat_eq (chars bs) word
 starts_with-chars bs word text ascii =
-    equal_tests _ _
+    same_truth _ _
     (λ h.
     let rest = drop (length word) bs in
     let cut : bs ≡ word ++ rest = (starts_is Decides-eqb bs word _ refl).0 h in
@@ -41,7 +29,7 @@ starts_with-chars bs word text ascii =
 
 pub ends_with-chars : (bs word : List ℕ) → IsUtf8 bs → IsAscii word → ends_with nat_eq bs word ≡ ends_with nat_eq (chars bs) word
 ends_with-chars bs word text ascii =
-    equal_tests _ _
+    same_truth _ _
     (λ h.
     let front = take (length bs - length word) bs in
     let cut : bs ≡ front ++ word = (ends_is Decides-eqb bs word _ refl).0 h in

@@ -12,7 +12,7 @@ use crate::forbidden_words::{
     is_forbidden_attribute, is_forbidden_name, is_initializer, is_reserved, is_uncallable,
 };
 use crate::spot::Spot;
-use rp_base::{Line, Memory, Name, Names};
+use rp_base::{Line, Memory, Name, Names, word_of};
 use std::alloc::Global;
 
 /// What is wrong with a place of a script.
@@ -137,17 +137,6 @@ fn at(line: Line, what: Option<What>) -> Option<Offence>
     ensures { result ≡ option_map (at_line line) what }
 {
     Some(Offence { line, what: what? })
-}
-
-/// The word of a name, empty where it isn't held.
-fn word_of(names: &Names, name: Name) -> &str
-    ensures { chars result.now ≡ word_of names.now name }
-{
-    if name.0 < names.len() {
-        names.text(name)
-    } else {
-        ""
-    }
 }
 
 fn wrong_reading(word: &str, name: Name) -> Option<What>

@@ -1,4 +1,3 @@
-mod Ascii
 pub mod Counts
 pub mod Pages
 mod PrintedExamples

@@ -10,8 +10,7 @@ ghost use Rattle.rp_print.specs.PageSteps.{gap, written};
 ghost use Rattle.rp_print.specs.Texts.{indentation};
 
 use itoa::Buffer;
-use rp_base::{Memory, Name, Names, Rock, Text};
-use rp_ops::word_of;
+use rp_base::{Memory, Name, Names, Rock, Text, word_of};
 use rp_show::shown_inside;
 use std::alloc::Global;
 use std::marker::Model;

@@ -47,6 +47,8 @@ use Rattle.rp_token.specs.Tokens.{taken_or, tokens_from, tokens_of, with_token, 
 use Rattle.rp_token.specs.View.{IsHeld, IsHeldKind, form_view, item_view}
 use Rattle.rp_token.proofs.Rules.{number_limit}
 use Rattle.rp_printed.proofs.Reading.{AreGood, IsGoodKind, IsGoodWord, scalars-append}
+use Rattle.rp_token.proofs.Laws.{scalars-drop}
+use Rattle.rp_token.proofs.Steps.{closed_to-left}
 
 -- ---- characters of identifiers are characters
 
@@ -277,11 +279,6 @@ literal_good quotes zero (c ∷ cs) e =
     behind_slash all (Some e) good = front_good e.stands_for (line_ends cs) (literal_behind quotes e.taken cs) good
         (all e.taken)
 
-scalars-drop : (n : ℕ) (cs : List ℕ) → scalars cs ≡ true → scalars (drop n cs) ≡ true
-scalars-drop zero cs e = e
-scalars-drop (suc n) [] e = refl
-scalars-drop (suc n) (c ∷ cs) e = scalars-drop n cs (and_parts (scalar c) (scalars cs) e).1
-
 reading_read : (r : Reading) (s : State) → GoodReading r → Fine s → After (behind_reading r s)
 reading_read (closed value rest lines) s good fine = pushed (literal value) s.left rest s.line s good fine
 reading_read unclosed s good fine = tt
@@ -357,18 +354,6 @@ Ready-if : (left : List ℕ) (b : Bool) (x y : Result State TokenFault) → Read
 Ready-if left true x y one other = one
 Ready-if left false x y one other = other
 
-closed_left : (n : ℕ) (rest : List ℕ) (line : ℕ) (columns : List ℕ) (s : State) → (closed_to n rest line columns s).left
-    ≡ s.left
-closed_left n rest line [] s = refl
-closed_left n rest line (c ∷ cs) s = by (closed_left n rest line cs (with_token dedent rest rest line s)) (nat_lt n c)
-  where
-    by : (closed_to n rest line cs (with_token dedent rest rest line s)).left ≡ s.left → (b : Bool)
-        → (if b then closed_to n rest line cs (with_token dedent rest rest line s) else record s {
-          columns = c ∷ cs;
-        }).left ≡ s.left
-    by further true = further
-    by further false = refl
-
 line_begun : (s : State) → Fine s → Ready s.left (begun s)
 unfolding begun indented
 line_begun s fine =
@@ -379,7 +364,7 @@ line_begun s fine =
     (list_any (λ c. c == 9) (take_while is_blank s.left)) _ _ tt
     (Ready-if s.left (nat_lt (first s.columns) n) _ _ (pushed indent rest rest line s tt fine, refl)
     (Ready-if s.left (first (closed_to n rest line s.columns s).columns == n) _ _
-    (columns_closed n rest line s.columns s fine, closed_left n rest line s.columns s) tt)))
+    (columns_closed n rest line s.columns s fine, closed_to-left n rest line s.columns s) tt)))
 
 step_read : (s : State) → scalars s.left ≡ true → Fine s → After (step s)
 unfolding step

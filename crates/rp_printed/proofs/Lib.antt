@@ -16,3 +16,7 @@ pub mod SimpleBack
 pub mod StatementsBack
 pub mod GoodForms
 pub mod Printed
+pub mod Untouched
+pub mod UntouchedExpressions
+pub mod UntouchedStatements
+pub mod Expanding

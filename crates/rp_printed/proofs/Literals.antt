@@ -3,7 +3,7 @@ use Rattle.std.proofs.Common.{◌≡◌, inl, inr, refl, sym, ap, ◌∙◌, sub
 use Rattle.std.proofs.Common.{true, false, ◌&&◌, ◌||◌, not, nat_eq, nat_lt, if◌then◌else◌}
 use Rattle.std.proofs.Common.{List, [], ◌∷◌, ◌++◌, length, drop, codes, Some, Ok, append_assoc, lt-ltb, arith, add-zero}
 use Rattle.std.specs.Char.{digit_char, digit_value}
-use Rattle.std.proofs.lemmas.Bool.{and_parts, eqb-true, ltb-true, or_cases}
+use Rattle.std.proofs.lemmas.Bool.{and_parts, eqb-true, ltb-true, or_cases, or_parts}
 use Rattle.std.proofs.lemmas.Str.{digit_value-digit_char}
 use lib.Utf8.{low_scalar, scalar, scalars}
 use Rattle.rp_base.specs.Identifier.{is_start}
@@ -16,7 +16,7 @@ use Rattle.rp_token.specs.Tokens.{State, behind_literal, behind_reading, in_line
 use Rattle.rp_token.proofs.Rules.{behind_token-literal, in_line-token, step-within}
 use Rattle.unicode_ident.proofs.IdentLemmas.{is_xid_start-ascii}
 use Rattle.rp_printed.proofs.Reading.{Reads, Tok, one_token, scalars-append, state_at, inside, not_fresh}
-use Rattle.rp_printed.proofs.Lexemes.{EndsWord, Opens, not-true, not_empty, or-false, opens_operand, turned}
+use Rattle.rp_printed.proofs.Lexemes.{EndsWord, Opens, not-true, not_empty, opens_operand, turned}
 
 -- the quote, by whether it is the double one
 abbrev quote_by : Bool → ℕ
@@ -177,7 +177,7 @@ second_differs false (c ∷ cs) e = rw e refl
 ends_quote : (b : Bool) (behind : List ℕ) → EndsWord behind → nat_eq (quote_by b) (first behind) ≡ false
 ends_quote b behind g =
     let c = first behind in
-    let parts = or-false (c == 39) (c == 34) (not-true _ (and_parts _ (not ((c == 39) || (c == 34))) g).1) in
+    let parts = or_parts (c == 39) (c == 34) (not-true _ (and_parts _ (not ((c == 39) || (c == 34))) g).1) in
     by b parts.0 parts.1
   where
     by : (b : Bool) → (first behind == 39) ≡ false → (first behind == 34) ≡ false → nat_eq (quote_by b) (first behind)

@@ -1,5 +1,5 @@
 -- A number that is printed is read back.
-use Rattle.std.proofs.Common.{◌≡◌, refl, sym, ap, ◌∙◌, ℕ, zero, suc, ◌<◌, ◌≤◌, ◌==◌, Bool, true, false, ◌||◌, nat_le}
+use Rattle.std.proofs.Common.{◌≡◌, refl, sym, ap, ◌∙◌, ℕ, zero, suc, ◌<◌, ◌≤◌, ◌==◌, true, false, ◌||◌, nat_le}
 use Rattle.std.proofs.Common.{decimal, le-leb, lt-ltb}
 use Rattle.std.proofs.Common.{List, [], ◌∷◌, ◌++◌, length, get_or, pos, Some, option_map, option_and_then, arith}
 use Rattle.std.specs.Char.{digit_value, is_ascii_digit, is_digit}
@@ -19,11 +19,11 @@ use Rattle.rp_token.specs.Form.{number}
 use Rattle.rp_token.specs.Number.{greatest_number, in_base, number_of, ungrouped, value_in}
 use Rattle.rp_token.specs.Tokens.{State, behind_number, in_line}
 use Rattle.rp_token.proofs.Rules.{behind_number-taken, behind_token-number, in_line-token, step-within}
-use Rattle.unicode_ident.proofs.IdentLemmas.{is_xid_continue-ascii, is_xid_start-ascii}
-use Rattle.unicode_ident.specs.Ident.{is_xid_continue}
+use Rattle.unicode_ident.proofs.IdentLemmas.{is_xid_start-ascii}
 use Rattle.rp_printed.proofs.Reading.{Reads, Tok, one_token, state_at, inside, not_fresh}
 use Rattle.rp_printed.proofs.Lexemes.{EndsNumber, Opens, differs, first-append, number_stops, opens_operand, run_left}
 use Rattle.rp_printed.proofs.Lexemes.{run_taken}
+use Rattle.rp_token.proofs.Steps.{digit-numeral}
 
 digit_within : (c : ℕ) → is_ascii_digit c ≡ true → (48 ≤ c) × (c ≤ 57)
 digit_within c e =
@@ -37,16 +37,6 @@ are_digits [] h = refl
 are_digits (c ∷ cs) h =
     let at = digit_from_value c h.0 in
     rw (le-leb 48 c at.0, le-leb c 57 at.1, are_digits cs h.1) refl
-
-digit_numeral : (c : ℕ) → is_ascii_digit c ≡ true → is_numeral c ≡ true
-digit_numeral c e =
-    let at = digit_within c e in
-    let letter : is_xid_continue c ≡ true = is_xid_continue-ascii c (omega arith) ∙ rw e refl in
-    rw letter (or_true (c == 46))
-  where
-    or_true : (b : Bool) → (b || true) ≡ true
-    or_true true = refl
-    or_true false = refl
 
 digit_start : (c : ℕ) → is_ascii_digit c ≡ true → is_start c ≡ false
 digit_start c e =
@@ -75,7 +65,7 @@ are_numerals : (ds : List ℕ) → list_all is_ascii_digit ds ≡ true → list_
 are_numerals [] e = refl
 are_numerals (c ∷ cs) e =
     let parts = and_parts (is_ascii_digit c) (list_all is_ascii_digit cs) e in
-    rw (digit_numeral c parts.0, are_numerals cs parts.1) refl
+    rw (digit-numeral c parts.0, are_numerals cs parts.1) refl
 
 are_of_base : (ds : List ℕ) → AllDigits 10 ds → list_all (λ c. is_digit c 10) ds ≡ true
 are_of_base [] h = refl

@@ -4,6 +4,7 @@ use Rattle.std.proofs.Common.{List, [], ◌∷◌, ◌++◌, length, drop, map, 
 use Rattle.std.proofs.Common.{append-nil, if◌then◌else◌, arith}
 use Rattle.std.specs.List.{All, list_all}
 use Rattle.std.proofs.lemmas.Bool.{and_parts}
+use Rattle.std.proofs.lemmas.List.{map-append}
 use lib.Utf8.{scalars}
 use Rattle.rp_base.specs.Names.{HoldsEachOnce, word_of}
 use Rattle.rp_grammar.specs.Kinds.{Tokens}
@@ -28,7 +29,7 @@ use Rattle.rp_tree.specs.Statements.{Stmts}
 use Rattle.rp_tree.specs.StatementTrees as trees
 use Rattle.rp_tree.proofs.MapLaws.{stmts_after}
 use Rattle.rp_printed.specs.Printed.{EachProgramReadsBack, EachSpelledTreeReadsBack, MayStand, ReadsBack, TokensSpell}
-use Rattle.rp_printed.proofs.Reading.{AreGood, IsGoodKind, Same, fresh, good-append, map-append, read_from, same}
+use Rattle.rp_printed.proofs.Reading.{AreGood, IsGoodKind, Same, fresh, good-append, read_from, same}
 use Rattle.rp_printed.proofs.Lexemes.{Opens, not-true}
 use Rattle.rp_printed.proofs.Lines.{Lines, text_ended}
 use Rattle.rp_printed.proofs.Blocks.{stmts_read}

@@ -3,6 +3,7 @@ use Rattle.std.proofs.Common.{◌≡◌, refl, sym, ap, ◌∙◌, subst, ℕ, z
 use Rattle.std.proofs.Common.{◌∷◌, ◌++◌, length, map, codes, pos, negsuc, Result, Ok, Err, append_assoc, append-nil}
 use Rattle.std.proofs.Common.{arith}
 use Rattle.std.proofs.lemmas.Bool.{and_parts}
+use Rattle.std.proofs.lemmas.List.{map-append}
 use lib.Utf8.{scalar, scalars}
 use Rattle.rp_base.specs.Identifier.{IsIdentifier}
 use Rattle.rp_base.specs.Keyword.{is_keyword}
@@ -134,10 +135,6 @@ token_step size (fresh c l) (inside d m k) form items text behind some is =
 token_step size (fresh c l) (fresh d m) form items text behind some is =
     tokens_from-step (state_at size (fresh c l) items text) (taken form behind (state_at size (fresh d m) items text))
     some is
-
-pub map-append : {A B : Type 0} (f : A → B) (xs ys : List A) → map f (xs ++ ys) ≡ map f xs ++ map f ys
-map-append f [] ys = refl
-map-append f (x ∷ xs) ys = rw (map-append f xs ys) refl
 
 module _ (words : List (List ℕ)) (size : ℕ) where
   -- the tokens that were read, which lead on to what stands behind, and spell it

@@ -1,6 +1,7 @@
 -- That printed text is read back: its tokens spell the same tree, but for lines and the numbers of code blocks (Python
--- Language Reference, Full Grammar specification).
-use Rattle.std.specs.Prelude.{◌≡◌, ℕ, ◌<◌, ◌≤◌, ⊤, pos, negsuc, false, true, List, length, Ok}
+-- Language Reference, Full Grammar specification), and expansion leaves them.
+use Rattle.std.specs.Prelude.{◌≡◌, ℕ, ◌<◌, ◌≤◌, ⊤, pos, negsuc, false, true, List, length}
+use Rattle.std.specs.Prelude.{Ok, encode_utf8_all}
 use Rattle.std.specs.List.{All}
 use lib.Utf8.{scalars}
 use Rattle.rp_base.specs.Identifier.{IsIdentifier}
@@ -9,6 +10,7 @@ use Rattle.rp_base.specs.Names.{HoldsEachOnce, word_of}
 use Rattle.rp_base.specs.declared.value.Name.{Name}
 use Rattle.rp_grammar.specs.Kinds.{Tokens}
 use Rattle.rp_grammar.specs.Program.{Spells}
+use Rattle.rp_more.specs.Expanded.{expanded}
 use Rattle.rp_print.specs.Statements.{printed}
 use Rattle.rp_program.specs.Program.{IsProgram, SpellTree}
 use Rattle.rp_token.specs.declared.token.Token.{Token}
@@ -36,6 +38,19 @@ pub record ReadsBack (tree : Stmts (List ℕ)) : Type 0 where
 -- each program is read back from the text of its tree
 abbrev pub EachProgramReadsBack : Type 0
 EachProgramReadsBack = (bytes : List ℕ) (tree : Stmts (List ℕ)) → IsProgram bytes tree → ReadsBack tree
+
+-- Tokens that spell a tree have no f-literal and no set in them: expansion leaves them.
+abbrev pub EachSpelledListStays : Type 0
+EachSpelledListStays = (items : List Item) (tree : Stmts (List ℕ)) → SpellTree items tree → expanded items ≡ Ok items
+
+-- The text of the tree is a program, which has the same tree, but for lines.
+pub record IsReadAgain (tree : Stmts (List ℕ)) : Type 0 where
+  pub again : Stmts (List ℕ)
+  pub program : IsProgram (encode_utf8_all (printed tree)) again
+  pub same : shape_of again ≡ shape_of tree
+
+abbrev pub EachPrintedTextIsAProgram : Type 0
+EachPrintedTextIsAProgram = (bytes : List ℕ) (tree : Stmts (List ℕ)) → IsProgram bytes tree → IsReadAgain tree
 
 -- a word that a name may be: an identifier in its form, and no keyword
 pub record IsNameWord (word : List ℕ) : Type 0 where

@@ -4,6 +4,5 @@ pub mod Numbered
 pub mod Programs
 pub mod Renaming
 pub mod Spelled
-pub mod Texts
 pub mod Unique
 pub mod Words

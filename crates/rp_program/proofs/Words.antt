@@ -1,7 +1,7 @@
 -- The place of a word among words.
 use Rattle.std.proofs.Common.{◌≡◌, refl, sym, ap, ◌∙◌, subst, ℕ, zero, suc, Bool, true, false, if◌then◌else◌, List, [], ◌∷◌, ◌++◌, Option, Some, None, option_map, slice_get}
 use Rattle.rp_base.specs.Same.{same_text}
-use Rattle.rp_base.proofs.Words.{same_text-equal, same_text-refl}
+use Rattle.rp_base.proofs.CallerLemmas.{same_text-equal, same_text-refl}
 
 abbrev pub place_of : List (List ℕ) → List ℕ → Option ℕ
 place_of [] w = None

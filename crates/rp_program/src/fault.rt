@@ -5,7 +5,7 @@ ghost use Rattle.std.specs.Char.{is_ascii};
 ghost use Rattle.std.specs.List.{list_all};
 ghost use Rattle.rp_program.specs.Fault.{at_place, fault_text, token_fault_text};
 
-use rp_base::{Line, Memory, Printed};
+use rp_base::{Line, Memory, Printed, add_ascii};
 use rp_more::MoreFault;
 use rp_parse::ParseFault;
 use rp_token::TokenFault;
@@ -118,12 +118,4 @@ fn add_place(
 {
     let words = format!(in alloc; "{unit} {number}: {fault}")?;
     text.add(words.as_str())
-}
-
-/// Appends an ASCII text, whose characters are its bytes.
-fn add_ascii(text: &mut Printed, piece: &str) -> Result<(), Memory>
-    requires { list_all is_ascii piece.now ≡ true }
-    ensures { OnOk result (text.new ≡ text.old ++ piece.now) }
-{
-    text.add(piece)
 }

@@ -1,8 +1,7 @@
 //! The tree of a program, from its bytes.
 
 ghost use Rattle.std.specs.Prelude.{◌≡◌, ◌≢◌, ℕ, IfErr, IfOk, List, MatchResult, OnOk};
-ghost use Rattle.rp_base.specs.Names.{HoldsEachOnce, with_words, word_of};
-ghost use Rattle.rp_token.specs.Lexer.{IsGrown};
+ghost use Rattle.rp_base.specs.Names.{GrowsTo, HoldsEachOnce, with_words, word_of};
 ghost use Rattle.rp_tree.specs.Maps.{named};
 ghost use Rattle.rp_tree.specs.Marks.{HasNoGuards};
 ghost use Rattle.rp_tree.specs.StatementTrees.{Stmts};
@@ -38,7 +37,7 @@ pub fn read_program(alloc: Global, bytes: &[u8], names: &mut Names) -> Result<Tr
     ensures low { IfOk result (λ t. (tokens : Tokens) × Spells (view_tree t) tokens) }
     ensures unnumbered { IfOk result (λ t. IsUnnumbered (view_tree t)) }
     ensures refused { IfErr result (λ f. f ≢ ProgramFault.Memory → IsFault bytes.now f) }
-    ensures names { IsGrown names.old names.new }
+    ensures names { GrowsTo names.old names.new }
     ensures words { OnOk result (names.new ≡ with_words names.old (program_words bytes.now)) }
 {
     match std::str::from_utf8(bytes) {
@@ -63,13 +62,13 @@ pub fn read_text(alloc: Global, text: &str, names: &mut Names) -> Result<Tree, P
     ensures low { IfOk result (λ t. (tokens : Tokens) × Spells (view_tree t) tokens) }
     ensures unnumbered { IfOk result (λ t. IsUnnumbered (view_tree t)) }
     ensures refused { IfErr result (λ f. f ≢ ProgramFault.Memory → IsFault text.now f) }
-    ensures names { IsGrown names.old names.new }
+    ensures names { GrowsTo names.old names.new }
     ensures words { OnOk result (names.new ≡ with_words names.old (program_words text.now)) }
 {
     let given = tokens(alloc, text, names)?;
     let expanded = expand(alloc, given, names)?;
     hold_each_once(names);
-    Ok(parse(alloc, expanded.as_slice())?)
+    Ok(parse(alloc, expanded)?)
 }
 
 /// Tells the caller that no word is held twice, and does nothing else.

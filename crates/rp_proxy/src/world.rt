@@ -22,7 +22,6 @@ pub struct Running {
 }
 
 /// What all sessions share, and the session that runs.
-#[derive(Drop)]
 pub struct World {
     pub store: Store,
     pub names: Names,
@@ -30,6 +29,20 @@ pub struct World {
     pub decl: Decl,
     pub trail: Trail,
     pub running: Running,
+}
+
+// By hand, so that crates that drop one do not prove again how its parts are dropped.
+impl Drop for World {
+    fn drop(self) {
+        let World {
+            store: _,
+            names: _,
+            checkers: _,
+            decl: _,
+            trail: _,
+            running: _,
+        } = self;
+    }
 }
 
 impl World {

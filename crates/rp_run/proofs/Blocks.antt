@@ -9,7 +9,7 @@ use Rattle.std.proofs.lemmas.List.Elements.{All-head, All-tail}
 use Rattle.std.proofs.Math.Numerals.{add-one}
 use Rattle.rp_base.specs.declared.memory.Memory.{Memory as MemoryFault}
 use Rattle.rp_meaning.specs.Sessions as meant
-use Rattle.rp_meaning.specs.Sessions.{SessionEnd, well}
+use Rattle.rp_meaning.specs.Sessions.{well}
 use Rattle.rp_meaning.specs.Unmonitored.{told_of}
 use Rattle.rp_session.specs.View.{end_view, session_view}
 use Rattle.rp_session.specs.declared.session.Session.{Session}
@@ -37,12 +37,6 @@ pub told_first : (f : Finished) (fs : List Finished) (s : Session) (ss : List Se
 told_first f fs s ss told = head told where
   head : {A : Type 0} {x y : A} {xs ys : List A} → x ∷ xs ≡ y ∷ ys → x ≡ y
   head e = cc
-
-told_rest : (f : Finished) (fs : List Finished) (s : Session) (ss : List Session) → AreToldSo (f ∷ fs) (s ∷ ss)
-    → AreToldSo fs ss
-told_rest f fs s ss told = tail told where
-  tail : {A : Type 0} {x y : A} {xs ys : List A} → x ∷ xs ≡ y ∷ ys → xs ≡ ys
-  tail e = cc
 
 -- what is left of both
 told_drop : (i : ℕ) (all : List Finished) (sessions : List Session) → AreToldSo all sessions

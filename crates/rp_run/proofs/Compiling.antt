@@ -1,23 +1,22 @@
 -- The scripts of a run, compiled one after another.
 use Rattle.std.proofs.Common.{◌≡◌, ◌≢◌, ◌+◌, ◌<◌, ◌≤◌, ℕ, suc, List, [], ◌∷◌, ◌++◌, length, get_or, map, drop, refl}
 use Rattle.std.proofs.Common.{sym, ap, subst, ◌∙◌, arith, append-nil, append_assoc, Vec, Global, Result, Ok, Err, OnOk}
-use Rattle.std.specs.List.{All, flat_map, fold}
+use Rattle.std.specs.List.{All, flat_map}
 use Rattle.std.proofs.lemmas.List.{drop_all, drop_more, get_or-map, length-map, map-append}
 use Rattle.std.proofs.lemmas.List.Elements.{All-nil, All-push}
 use Rattle.std.proofs.Math.Numerals.{add-one}
-use Rattle.rp_base.specs.Names.{with_words}
+use Rattle.rp_compile.specs.Compiled.{Compilation, source_tree}
 use Rattle.rp_decl.proofs.Growth.{GrowsTo-trans}
 use Rattle.rp_decl.specs.Places.{GrowsTo}
 use Rattle.rp_policy.specs.Offences.{offences, offence_text}
 use Rattle.rp_policy.specs.declared.offence.Offence.{Offence}
+use Rattle.rp_play.specs.Played.{source_text}
 use Rattle.rp_program.specs.Leaves.{IsTreeHeld}
-use Rattle.rp_program.specs.ProgramWords.{program_words}
 use Rattle.rp_run.specs.Refusals.{RefusesScripts}
 use Rattle.rp_run.specs.Steps as step
 use Rattle.rp_run.specs.Steps.{Adds}
 use Rattle.rp_run.specs.Told as told
-use Rattle.rp_run.specs.Told.{Compiles, IsAccepted, ToldRefused, script_prefix}
-use Rattle.rp_run.specs.View.{program_of}
+use Rattle.rp_run.specs.Told.{Compiles, ToldRefused, names_behind, script_prefix}
 use Rattle.rp_run.specs.declared.answer.Answer.{Answer}
 use Rattle.rp_base.specs.declared.memory.Memory.{Memory as MemoryFault}
 use Rattle.rp_run.proofs.Asked.{told_refused}
@@ -26,8 +25,6 @@ use Rattle.rp_script.specs.Refusal.{IsRefused, line, refusal_lines}
 use Rattle.rp_script.specs.declared.refusal.Refusal.{Refusal}
 use Rattle.rp_script.specs.declared.refusal.Refusal.TheVariants as refusal
 use Rattle.rp_tree.specs.StatementTrees.{Stmts}
-use Rattle.rp_tree.specs.StatementViews.{view_tree}
-use Rattle.rp_tree.specs.declared.stmt.Tree.{Tree}
 
 -- ---- what is said of a refused script is not empty
 
@@ -53,7 +50,7 @@ refused_some prefix bytes text (told.ToldRefused.offends tree is some said) e = 
       of (o ∷ os) some e = front_some (line prefix (offence_text o)) _ (some_line prefix (offence_text o)) e
 
 -- what is said of a script that is refused
-pub adds_lines : (number : ℕ) (bytes : List ℕ) (old_names names : List (List ℕ)) (trees : List Tree)
+pub adds_lines : (number : ℕ) (bytes : List ℕ) (old_names names : List (List ℕ)) (trees : List Compilation)
     (said more_said : List ℕ) (r : Refusal) (result : Result (Unit {0}) MemoryFault)
     → (r ≢ refusal.Memory → IsRefused names bytes r) → OnOk result (r ≢ refusal.Memory)
     → OnOk result (more_said ≡ said ++ refusal_lines names (script_prefix number) r)
@@ -73,71 +70,68 @@ as-many k (bytes ∷ scripts) trees said (told.Compiles.refused {text = text} {s
 
 -- ---- one script more
 
--- the names with the words of some scripts
-abbrev pub words_of : List (List ℕ) → List (List ℕ) → List (List ℕ)
-words_of names scripts = fold (λ words bytes. with_words words (program_words bytes)) names scripts
-
 -- what is left of the scripts, behind what came of those before them, is what comes of all
-pub record Goes (scripts first : List (List ℕ)) (i : ℕ) (names : List (List ℕ)) (trees : List Tree)
+pub record Goes (scripts first : List (List ℕ)) (i : ℕ) (names : List (List ℕ)) (trees : List Compilation)
     (said : List ℕ) : Type 0 where
   pub rest : (more : List (Stmts (List ℕ))) (behind : List ℕ) → Compiles (i + 1) (drop i scripts) more behind
-      → Compiles 1 scripts (map (program_of names) trees ++ more) (said ++ behind)
-  pub held : All (λ (t : Tree). IsTreeHeld names (view_tree t)) trees
-  pub words : said ≡ [] → words_of names (drop i scripts) ≡ words_of first scripts
+      → Compiles 1 scripts (map (source_text names) trees ++ more) (said ++ behind)
+  pub held : All (λ (t : Compilation). IsTreeHeld names (source_tree t)) trees
+  pub words : said ≡ [] → names_behind names (drop i scripts) ≡ names_behind first scripts
   pub grown : GrowsTo first names
 
 pub goes-start : (scripts names : List (List ℕ)) → Goes scripts names 0 names [] []
 goes-start scripts names = record {
   rest = λ more behind c. c;
-  held = All-nil (λ (t : Tree). IsTreeHeld names (view_tree t));
+  held = All-nil (λ (t : Compilation). IsTreeHeld names (source_tree t));
   words = λ e. refl;
   grown = ([], sym (append-nil names));
 }
 
-module _ (scripts first : List (List ℕ)) (i : ℕ) (names later : List (List ℕ)) (trees more_trees : List Tree)
+module _ (scripts first : List (List ℕ)) (i : ℕ) (names later : List (List ℕ)) (trees more_trees : List Compilation)
     (said more_said : List ℕ) (bytes : List ℕ) where
   -- the script at the place, and those behind it
   behind-it : (inside : i < length scripts) → bytes ≡ get_or scripts i bytes
       → drop i scripts ≡ bytes ∷ drop (i + 1) scripts
   behind-it inside is = drop_more scripts i bytes inside ∙ ap (λ (b : List ℕ). b ∷ drop (i + 1) scripts) (sym is)
 
-  all_held : (t : Tree) → GrowsTo names later → Goes scripts first i names trees said → IsTreeHeld later (view_tree t)
-      → more_trees ≡ trees ++ t ∷ [] → All (λ (t : Tree). IsTreeHeld later (view_tree t)) more_trees
+  all_held : (t : Compilation) → GrowsTo names later → Goes scripts first i names trees said
+      → IsTreeHeld later (source_tree t) → more_trees ≡ trees ++ t ∷ []
+      → All (λ (t : Compilation). IsTreeHeld later (source_tree t)) more_trees
   all_held t grown goes held is =
-      subst (λ (ts : List Tree). All (λ (t : Tree). IsTreeHeld later (view_tree t)) ts) (sym is)
-      (All-push (λ (t : Tree). IsTreeHeld later (view_tree t)) trees t
+      subst (λ (ts : List Compilation). All (λ (t : Compilation). IsTreeHeld later (source_tree t)) ts) (sym is)
+      (All-push (λ (t : Compilation). IsTreeHeld later (source_tree t)) trees t
       (trees-held-later names later grown trees goes.held) held)
 
-  all_trees : (t : Tree) (more : List (Stmts (List ℕ))) → GrowsTo names later → Goes scripts first i names trees said
-      → more_trees ≡ trees ++ t ∷ []
-      → map (program_of names) trees ++ program_of later t ∷ more ≡ map (program_of later) more_trees ++ more
+  all_trees : (t : Compilation) (more : List (Stmts (List ℕ))) → GrowsTo names later
+      → Goes scripts first i names trees said → more_trees ≡ trees ++ t ∷ []
+      → map (source_text names) trees ++ source_text later t ∷ more ≡ map (source_text later) more_trees ++ more
   all_trees t more grown goes is =
       ap (λ (ts : List (Stmts (List ℕ))). ts
-      ++ program_of later t ∷ more) (sym (trees-later names later grown trees goes.held))
-      ∙ sym (append_assoc (map (program_of later) trees) (program_of later t ∷ []) more)
-      ∙ ap (λ (ts : List (Stmts (List ℕ))). ts ++ more) (sym (map-append (program_of later) trees (t ∷ [])))
-      ∙ ap (λ (ts : List Tree). map (program_of later) ts ++ more) (sym is)
+      ++ source_text later t ∷ more) (sym (trees-later names later grown trees goes.held))
+      ∙ sym (append_assoc (map (source_text later) trees) (source_text later t ∷ []) more)
+      ∙ ap (λ (ts : List (Stmts (List ℕ))). ts ++ more) (sym (map-append (source_text later) trees (t ∷ [])))
+      ∙ ap (λ (ts : List Compilation). map (source_text later) ts ++ more) (sym is)
 
   pub goes-more : i < length scripts → bytes ≡ get_or scripts i bytes → Goes scripts first i names trees said
       → Adds (i + 1) bytes names later trees more_trees said more_said → GrowsTo names later
       → Goes scripts first (i + 1) later more_trees more_said
-  goes-more inside is goes (step.Adds.tree t accepted held words more_is said_is) grown = record {
+  goes-more inside is goes (step.Adds.script t accepted held words more_is said_is) grown = record {
     rest = λ more behind c.
         let next : Compiles (suc (i + 1)) (drop (i + 1) scripts) more behind =
         subst (λ (k : ℕ). Compiles k (drop (i + 1) scripts) more behind) (add-one (i + 1)) c in
-        let here : Compiles (i + 1) (bytes ∷ drop (i + 1) scripts) (program_of later t ∷ more) behind =
+        let here : Compiles (i + 1) (bytes ∷ drop (i + 1) scripts) (source_text later t ∷ more) behind =
         told.Compiles.accepted accepted next in
-        let all = goes.rest (program_of later t ∷ more) behind
-        (subst (λ (xs : List (List ℕ)). Compiles (i + 1) xs (program_of later t ∷ more) behind)
+        let all = goes.rest (source_text later t ∷ more) behind
+        (subst (λ (xs : List (List ℕ)). Compiles (i + 1) xs (source_text later t ∷ more) behind)
         (sym (behind-it inside is)) here) in
-        subst (λ (text : List ℕ). Compiles 1 scripts (map (program_of later) more_trees ++ more) (text ++ behind))
+        subst (λ (text : List ℕ). Compiles 1 scripts (map (source_text later) more_trees ++ more) (text ++ behind))
         (sym said_is)
         (subst (λ (ts : List (Stmts (List ℕ))). Compiles 1 scripts ts (said ++ behind))
         (all_trees t more grown goes more_is) all);
     held = all_held t grown goes held more_is;
     words = λ none.
-        ap (λ (ns : List (List ℕ)). words_of ns (drop (i + 1) scripts)) words
-        ∙ ap (words_of names) (sym (behind-it inside is)) ∙ goes.words (sym said_is ∙ none);
+        ap (λ (ns : List (List ℕ)). names_behind ns (drop (i + 1) scripts)) words
+        ∙ ap (names_behind names) (sym (behind-it inside is)) ∙ goes.words (sym said_is ∙ none);
     grown = GrowsTo-trans first names later goes.grown grown;
   }
   goes-more inside is goes (step.Adds.lines text refuses more_is said_is) grown = record {
@@ -148,38 +142,38 @@ module _ (scripts first : List (List ℕ)) (i : ℕ) (names later : List (List �
         told.Compiles.refused refuses next in
         let all = goes.rest more (text ++ behind)
         (subst (λ (xs : List (List ℕ)). Compiles (i + 1) xs more (text ++ behind)) (sym (behind-it inside is)) here) in
-        let same : map (program_of names) trees ≡ map (program_of later) more_trees =
-        sym (trees-later names later grown trees goes.held) ∙ ap (map (program_of later)) (sym more_is) in
-        subst (λ (t : List ℕ). Compiles 1 scripts (map (program_of later) more_trees ++ more) t)
+        let same : map (source_text names) trees ≡ map (source_text later) more_trees =
+        sym (trees-later names later grown trees goes.held) ∙ ap (map (source_text later)) (sym more_is) in
+        subst (λ (t : List ℕ). Compiles 1 scripts (map (source_text later) more_trees ++ more) t)
         (sym (append_assoc said text behind) ∙ ap (λ (t : List ℕ). t ++ behind) (sym said_is))
         (subst (λ (ts : List (Stmts (List ℕ))). Compiles 1 scripts (ts ++ more) (said ++ (text ++ behind))) same all);
-    held = subst (λ (ts : List Tree). All (λ (t : Tree). IsTreeHeld later (view_tree t)) ts) (sym more_is)
-        (trees-held-later names later grown trees goes.held);
+    held = subst (λ (ts : List Compilation). All (λ (t : Compilation). IsTreeHeld later (source_tree t)) ts)
+        (sym more_is) (trees-held-later names later grown trees goes.held);
     words = λ none. absurd (back_some said text (refused_some (script_prefix (i + 1)) bytes text refuses) (sym said_is
         ∙ none));
     grown = GrowsTo-trans first names later goes.grown grown;
   }
 
 -- nothing is left
-module _ (scripts first : List (List ℕ)) (i : ℕ) (names : List (List ℕ)) (trees : List Tree) (said : List ℕ)
+module _ (scripts first : List (List ℕ)) (i : ℕ) (names : List (List ℕ)) (trees : List Compilation) (said : List ℕ)
     (goes : Goes scripts first i names trees said) (past : length scripts ≤ i) where
   none_left : drop i scripts ≡ []
   none_left = drop_all i scripts past
 
-  pub goes-all : Compiles 1 scripts (map (program_of names) trees) said
+  pub goes-all : Compiles 1 scripts (map (source_text names) trees) said
   goes-all =
       let end : Compiles (i + 1) (drop i scripts) [] [] =
       subst (λ (xs : List (List ℕ)). Compiles (i + 1) xs [] []) (sym none_left) told.Compiles.no_more in
-      subst (λ (t : List ℕ). Compiles 1 scripts (map (program_of names) trees) t) (append-nil said)
+      subst (λ (t : List ℕ). Compiles 1 scripts (map (source_text names) trees) t) (append-nil said)
       (subst (λ (ts : List (Stmts (List ℕ))). Compiles 1 scripts ts (said ++ []))
-      (append-nil (map (program_of names) trees)) (goes.rest [] [] end))
+      (append-nil (map (source_text names) trees)) (goes.rest [] [] end))
 
   pub goes-count : said ≡ [] → length trees ≡ length scripts
-  goes-count none = sym (length-map trees (program_of names))
-      ∙ as-many 1 scripts (map (program_of names) trees) said goes-all none
+  goes-count none = sym (length-map trees (source_text names))
+      ∙ as-many 1 scripts (map (source_text names) trees) said goes-all none
 
-  pub goes-words : said ≡ [] → names ≡ words_of first scripts
-  goes-words none = ap (words_of names) (sym none_left) ∙ goes.words none
+  pub goes-words : said ≡ [] → names ≡ names_behind first scripts
+  goes-words none = ap (names_behind names) (sym none_left) ∙ goes.words none
 
 -- the scripts as they were read
 
@@ -187,7 +181,7 @@ abbrev pub texts : List (Vec ℕ Global) → List (List ℕ)
 texts vecs = map (λ (v : Vec ℕ Global). v.items) vecs
 
 pub goes-turn : (vecs : List (Vec ℕ Global)) (first : List (List ℕ)) (i : ℕ) (names later : List (List ℕ))
-    (trees more_trees : List Tree) (said more_said bytes : List ℕ) (v : Vec ℕ Global)
+    (trees more_trees : List Compilation) (said more_said bytes : List ℕ) (v : Vec ℕ Global)
     → i < length vecs → v ≡ get_or vecs i v → bytes ≡ v.items → Goes (texts vecs) first i names trees said
     → Adds (i + 1) bytes names later trees more_trees said more_said → GrowsTo names later
     → Goes (texts vecs) first (i + 1) later more_trees more_said
@@ -199,28 +193,28 @@ goes-turn vecs first i names later trees more_trees said more_said bytes v insid
     (omega (arith, inside, many)) here goes
     (subst (λ (b : List ℕ). Adds (i + 1) b names later trees more_trees said more_said) its adds) grown
 
-module _ (vecs : List (Vec ℕ Global)) (first : List (List ℕ)) (i : ℕ) (names : List (List ℕ)) (trees : List Tree)
+module _ (vecs : List (Vec ℕ Global)) (first : List (List ℕ)) (i : ℕ) (names : List (List ℕ)) (trees : List Compilation)
     (said : List ℕ) (goes : Goes (texts vecs) first i names trees said) (past : length vecs ≤ i) where
   past_texts : length (texts vecs) ≤ i
   past_texts = let many : length (texts vecs) ≡ length vecs = length-map vecs (λ v. v.items) in
       omega (arith, past, many)
 
-  pub end-compiled : said ≡ [] → Compiles 1 (texts vecs) (map (program_of names) trees) []
-  end-compiled none = subst (λ (t : List ℕ). Compiles 1 (texts vecs) (map (program_of names) trees) t) none
+  pub end-compiled : said ≡ [] → Compiles 1 (texts vecs) (map (source_text names) trees) []
+  end-compiled none = subst (λ (t : List ℕ). Compiles 1 (texts vecs) (map (source_text names) trees) t) none
       (goes-all (texts vecs) first i names trees said goes past_texts)
 
   pub end-count : said ≡ [] → length trees ≡ length vecs
   end-count none = goes-count (texts vecs) first i names trees said goes past_texts none
       ∙ length-map vecs (λ v. v.items)
 
-  pub end-words : said ≡ [] → names ≡ words_of first (texts vecs)
+  pub end-words : said ≡ [] → names ≡ names_behind first (texts vecs)
   end-words none = goes-words (texts vecs) first i names trees said goes past_texts none
 
   pub end-refused : (a : Answer) → a.text ≡ said → a.status.0 ≡ 4 → said ≢ [] → RefusesScripts (texts vecs) a
   end-refused a is ends some = (
-    map (program_of names) trees,
+    map (source_text names) trees,
     (
-      subst (λ (t : List ℕ). Compiles 1 (texts vecs) (map (program_of names) trees) t) (sym is)
+      subst (λ (t : List ℕ). Compiles 1 (texts vecs) (map (source_text names) trees) t) (sym is)
           (goes-all (texts vecs) first i names trees said goes past_texts),
       (λ none. some (sym is ∙ none)),
       ends,

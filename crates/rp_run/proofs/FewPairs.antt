@@ -10,9 +10,7 @@ use Rattle.rp_words.specs.Command.{limit_of, may, may_of, pair_of, pairs_of, que
 use Rattle.rp_words.specs.Command.{script, script_of, turns_of}
 use Rattle.rp_words.specs.Options.{given, run_command}
 use Rattle.rp_words.specs.declared.command.Question.{Question}
-
-some_is : {A : Type 0} {x y : A} → ◌≡◌ {A = Option A} (Some x) (Some y) → x ≡ y
-some_is e = cc
+use Rattle.rp_grammar.proofs.Basics.{some_is}
 
 -- the run of what was found
 abbrev a_run : List ℕ → List Pair → ℕ → ℕ → Bool → List ℕ → Run

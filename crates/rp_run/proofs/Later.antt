@@ -2,7 +2,6 @@
 use Rattle.std.proofs.Common.{ℕ, List, sym, subst}
 use Rattle.rp_base.specs.Names.{first_words}
 use Rattle.rp_decl.proofs.Growth.{GrowsTo-trans}
-use Rattle.rp_decl.specs.Apart.{AreNamesApart}
 use Rattle.rp_decl.specs.Consistency.{IsConsistent}
 use Rattle.rp_decl.specs.InOrder.{AreInOrder}
 use Rattle.rp_decl.specs.Places.{GrowsTo}
@@ -20,5 +19,4 @@ IsReadInto-later names later grown d read =
       held = held-later names later grown d read.held;
       consistent = subst IsConsistent (sym same) read.consistent;
       ordered = subst AreInOrder (sym same) read.ordered;
-      apart = subst AreNamesApart (sym same) read.apart;
     }

@@ -1,4 +1,4 @@
--- Trees that were read into names which have grown since.
+-- Scripts that were read into names which have grown since.
 use Rattle.std.proofs.Common.{◌≡◌, ◌≤◌, ◌<◌, ℕ, Bool, true, false, List, [], ◌∷◌, length, get_or, map, nat_lt}
 use Rattle.std.proofs.Common.{if◌then◌else◌, refl, ap, sym, subst, ◌∙◌, arith, ⊎_elim}
 use Rattle.std.specs.List.{All}
@@ -6,17 +6,16 @@ use Rattle.std.proofs.lemmas.Bool.{cases_Bool, lt-ltb, ltb-false, ltb-true}
 use Rattle.std.proofs.lemmas.List.{get_or_past, length-append}
 use Rattle.rp_base.specs.Names.{word_of}
 use Rattle.rp_base.specs.declared.value.Name.{Name}
+use Rattle.rp_compile.specs.Compiled.{Compilation, source_tree}
 use Rattle.rp_decl.specs.Places.{GrowsTo}
 use Rattle.rp_grammar.proofs.Kept.{stmts_kept}
+use Rattle.rp_play.specs.Played.{source_text}
 use Rattle.rp_program.specs.Leaves.{IsTreeHeld, below}
 use Rattle.rp_proxy.proofs.LaterRecords.{map-agree, name-later}
-use Rattle.rp_tree.specs.Maps.{named, names_by}
+use Rattle.rp_tree.specs.Maps.{named, names_by, without_blocks}
 use Rattle.rp_tree.specs.StatementTrees.{Stmts}
-use Rattle.rp_tree.specs.StatementViews.{view_tree}
-use Rattle.rp_tree.specs.declared.stmt.Tree.{Tree}
 use Rattle.rp_tree.proofs.MapLaws.{stmts_after}
 use Rattle.rp_run.proofs.Passing.{stmts_more}
-use Rattle.rp_run.specs.View.{program_of}
 
 -- a name of these many, or else one beyond all
 abbrev within : ℕ → ℕ → Name → Name
@@ -69,14 +68,14 @@ module _ (names later : List (List ℕ)) (grown : GrowsTo names later) where
 
   -- some trees
 
-  abbrev AreHeld : List (List ℕ) → List Tree → Type 0
-  AreHeld words trees = All (λ (t : Tree). IsTreeHeld words (view_tree t)) trees
+  abbrev AreHeld : List (List ℕ) → List Compilation → Type 0
+  AreHeld words trees = All (λ (t : Compilation). IsTreeHeld words (source_tree t)) trees
 
-  pub trees-later : (trees : List Tree) → AreHeld names trees
-      → map (program_of later) trees ≡ map (program_of names) trees
+  pub trees-later : (trees : List Compilation) → AreHeld names trees
+      → map (source_text later) trees ≡ map (source_text names) trees
   trees-later trees held =
-      map-agree (program_of later) (program_of names) (λ (t : Tree). IsTreeHeld names (view_tree t)) trees (λ t here.
-      tree-later (view_tree t) here) held
+      map-agree (source_text later) (source_text names) (λ (t : Compilation). IsTreeHeld names (source_tree t)) trees
+      (λ t here. ap without_blocks (tree-later (source_tree t) here)) held
 
-  pub trees-held-later : (trees : List Tree) → AreHeld names trees → AreHeld later trees
-  trees-held-later trees held = λ i d inside. held-later (view_tree (get_or trees i d)) (held i d inside)
+  pub trees-held-later : (trees : List Compilation) → AreHeld names trees → AreHeld later trees
+  trees-held-later trees held = λ i d inside. held-later (source_tree (get_or trees i d)) (held i d inside)

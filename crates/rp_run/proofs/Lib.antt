@@ -1,21 +1,22 @@
-mod Ascii
 mod Asked
 mod Blocks
+mod Bytes
 mod Compiling
 mod Ended
 mod FewPairs
-mod FirstForms
 mod Later
+mod LargeSizes
+mod LargeSteps
 mod LaterTrees
-mod OneFault
+mod LoadedWorlds
 mod Passing
 mod Pieces
 mod ReadAll
 mod Reasons
+mod Reached
 mod RunSteps
 mod Said
 mod Sayings
 mod Trails
 mod Whos
-pub mod Determined
 pub mod Taken

@@ -11,7 +11,7 @@ use Rattle.std.proofs.lemmas.Option.{none-some, get_or_from_slice_get, slice_get
 use Rattle.std.specs.List.{list_any, position_or_len}
 use Rattle.std.specs.Option.{option_map_or}
 use Rattle.rp_base.specs.Same.{same_text}
-use Rattle.rp_base.proofs.Words.{same_text-equal}
+use Rattle.rp_base.proofs.CallerLemmas.{same_text-equal}
 use Rattle.rp_decl.specs.Records.{Declarations}
 use Rattle.rp_decl.specs.View.{Placed, declarations_view, perm_text, text_at}
 use Rattle.rp_decl.specs.Word.{is_among}

@@ -1,19 +1,29 @@
 -- What the steps of a run say of the contents of its files.
-use Rattle.std.proofs.Common.{◌≡◌, ◌≢◌, ◌⊎◌, inl, inr, ◌+◌, ℕ, zero, suc, List, [], ◌∷◌, map, slice_get, take, Option}
-use Rattle.std.proofs.Common.{Some, None, Result, Ok, Err, IfErr, OnOk, IfSome, ap, subst, sym, refl, ◌∙◌, arith}
+use Rattle.std.proofs.Common.{◌≡◌, ◌⊎◌, inl, inr, ◌+◌, ℕ, suc, List, [], ◌∷◌, slice_get, take, Option}
+use Rattle.std.proofs.Common.{Some, None, Ok, IfSome, ap, subst, sym, refl, ◌∙◌, arith}
 use Rattle.rp_decl.specs.Records.{Declarations}
 use Rattle.rp_decl.specs.View.{Placed, declarations_view}
 use Rattle.rp_interact.specs.Why.{first_unknown}
-use Rattle.rp_load.specs.Load.{Fault, fault_of, fault_line as load_fault_line}
+use Rattle.rp_meaning.specs.Sessions.{World}
+use Rattle.rp_module.proofs.LaterWorlds.{world-later}
+use Rattle.rp_proxy.proofs.LaterNames.{with_names}
+use Rattle.rp_proxy.specs.Faithful.{IsFaithful}
+use Rattle.rp_proxy.specs.declared.world.World.{World as PlacedWorld}
+use Rattle.rp_decl.specs.Places.{GrowsTo}
+use Rattle.rp_tree.specs.Statements as stmt_tree
 use Rattle.rp_tree.specs.StatementTrees.{Stmts}
+use Rattle.rp_tree.specs.StatementViews.{view_tree}
+use Rattle.rp_world.specs.Worlds.{world_view}
 use Rattle.rp_run.specs.Headline.{BeginsNamed, ComesToFile, FailsAtNamed, files_of}
-use Rattle.rp_run.specs.Refusals.{AreWhole, OnRefusal, RefusesRun, RefusesScripts, RefusesTooLong, RefusesUnknown}
-use Rattle.rp_run.specs.Refusals.{RefusesUnread, TellsRead}
+use Rattle.rp_run.specs.Refusals.{AreWhole, OnRefusal, RefusesScripts, RefusesTooLong, RefusesUnknown, RefusesUnread}
+use Rattle.rp_run.specs.Refusals.{RefusesWorld, TellsRead}
+use Rattle.rp_run.specs.SetUp.{IsReadyWith, ToldReady, declarations_of, programs_in}
 use Rattle.rp_run.specs.Steps.{BeginsOnly, BeginsSome, FailsAtScript, IsCommandStatus}
 use Rattle.rp_run.specs.Told as told
-use Rattle.rp_run.specs.Told.{Compiles, IsAdmitted, IsReady, ToldPlayed, ToldRefusedRun, ToldRun, all_ids, run_names}
-use Rattle.rp_run.specs.Told.{scripts_of}
+use Rattle.rp_run.specs.Told.{Compiles, IsAdmitted, IsLoaded, ToldPlayed, ToldRefusedRun, ToldRun, all_ids}
+use Rattle.rp_run.specs.Told.{names_behind, read_into}
 use Rattle.rp_run.specs.declared.answer.Answer.{Answer}
+use Rattle.rp_run.specs.declared.ready.Ready.{Ready}
 use Rattle.rp_run.specs.declared.stop.Stop.{Stop}
 use Rattle.rp_run.proofs.Sayings.{four, refused_as}
 use Rattle.rp_words.specs.Command.{Command, Run, run}
@@ -73,26 +83,28 @@ begins_scripts r old_path last_path before begun only some =
       | inr one ↦ inr (suc one.0, (next_to one.0 before begun only.0 one.1.0, one.1.1))
     ]
 
--- the declarations can be run, and have the principals
-abbrev pub Admits : Run → Option (List ℕ → List ℕ) → Declarations → Type 0
-Admits r contents d = IfSome contents (λ of. IsAdmitted r of d)
+-- the declarations are loaded, and have the principals
+abbrev pub Admits : Run → Option (List ℕ → List ℕ) → Declarations → stmt_tree.Stmts → World → Type 0
+Admits r contents d body w = IfSome contents (λ of. IsAdmitted r of d body w)
 
-pub admits : (r : Run) (d : Declarations) (contents : Option (List ℕ → List ℕ)) → TellsRead r.declarations contents d
-    → fault_of d ≡ None → first_unknown d (all_ids r.pairs) ≡ None → Admits r contents d
-admits r d None read runs known = tt
-admits r d (Some of) read runs known = record { read = read; runs = runs; known = known }
+pub admits : (r : Run) (d : Declarations) (body : stmt_tree.Stmts) (w : World) (contents : Option (List ℕ → List ℕ))
+    → TellsRead r.declarations contents d → IsLoaded d r.cells body (Ok w) → first_unknown d (all_ids r.pairs) ≡ None
+    → Admits r contents d body w
+admits r d body w None read loaded known = tt
+admits r d body w (Some of) read loaded known = record { read = read; loaded = loaded; known = known }
 
-pub fails_script : (r : Run) (d : Declarations) (contents : Option (List ℕ → List ℕ)) (old_path last_path : List ℕ)
-    (before begun : ℕ) → BeginsOnly r.declarations before old_path → Admits r contents d
+pub fails_script : (r : Run) (d : Declarations) (body : stmt_tree.Stmts) (w : World)
+    (contents : Option (List ℕ → List ℕ)) (old_path last_path : List ℕ) (before begun : ℕ)
+    → BeginsOnly r.declarations before old_path → Admits r contents d body w
     → FailsAtScript r.pairs contents before begun last_path → FailsAtNamed (Some (run r)) contents begun last_path
-fails_script r d contents old_path last_path before begun only admitted fails =
+fails_script r d body w contents old_path last_path before begun only admitted fails =
     (suc fails.0, ((next_to fails.0 before begun only.0 fails.1.0.0, fails.1.0.1), comes contents admitted fails.1.1))
   where
-    comes : (contents : Option (List ℕ → List ℕ)) → Admits r contents d
+    comes : (contents : Option (List ℕ → List ℕ)) → Admits r contents d body w
         → IfSome contents (λ of. told.first_too_long of (take fails.0 r.pairs) ≡ None)
         → IfSome contents (ComesToFile (run r) (suc fails.0))
     comes None admitted short = tt
-    comes (Some of) admitted short = (d, (admitted, short))
+    comes (Some of) admitted short = (d, (body, (w, (admitted, short))))
 
 -- ---- refusals
 
@@ -106,63 +118,57 @@ unread_run r contents stop says = refused_as (RefusesUnread r.declarations conte
     by None a unread = tt
     by (Some of) a unread = told.ToldRefusedRun.unread unread
 
--- the principals are known through all names
-pub known_to : {A : Type 0} (d : Placed) (names : List (List ℕ)) (ids : List (List ℕ)) (result : Result A Stop)
-    → OnOk result ((names : List (List ℕ)) → first_unknown (declarations_view names d) ids ≡ None)
-    → OnOk result (first_unknown (declarations_view names d) ids ≡ None)
-known_to d names ids (Ok x) known = known names
-known_to d names ids (Err stop) known = tt
+-- there is no world
+pub unloaded_run : (r : Run) (d : Declarations) (cells : ℕ) (contents : Option (List ℕ → List ℕ)) (stop : Stop)
+    → r.cells ≡ cells → TellsRead r.declarations contents d
+    → OnRefusal (RefusesWorld d cells) stop → OnRefusal (RefusesSo r contents) stop
+unloaded_run r d cells None stop its_cells read says =
+    refused_as (RefusesWorld d cells) (RefusesSo r None) stop (λ a refuses. tt) says
+unloaded_run r d cells (Some of) stop its_cells read says =
+    refused_as (RefusesWorld d cells) (RefusesSo r (Some of)) stop (λ a refuses. refuses r of its_cells read) says
 
 -- one of the ids is that of no principal
-pub unknown_run : {A : Type 0} (d : Placed) (names : List (List ℕ)) (ids : List (List ℕ)) (result : Result A Stop)
-    → fault_of (declarations_view names d) ≡ None
-    → IfErr result (OnRefusal (RefusesUnknown d ids))
-    → IfErr result (OnRefusal (RefusesRun (declarations_view names d) ids))
-unknown_run d names ids (Ok x) runs says = tt
-unknown_run d names ids (Err stop) runs says =
-    refused_as (RefusesUnknown d ids) (RefusesRun (declarations_view names d) ids) stop (λ a unknown. λ r of same read.
-    told.ToldRefusedRun.unknown_principal (declarations_view names d) read runs unknown.0
-    (ap (first_unknown (declarations_view names d)) same ∙ unknown.1.0 names) unknown.1.1 unknown.1.2) says
-
--- the declarations cannot be run
-pub not_run : (d : Declarations) (ids : List (List ℕ)) (fault : Fault) (a : Answer) → fault_of d ≡ Some fault
-    → a.text ≡ load_fault_line fault → a.status.0 ≡ 3 → RefusesRun d ids a
-not_run d ids fault a has said ended = λ r of same read. told.ToldRefusedRun.not_run d read fault has said ended
-
-pub unadmitted_run : (r : Run) (d : Declarations) (contents : Option (List ℕ → List ℕ)) (ids : List (List ℕ))
-    (stop : Stop) → ids ≡ all_ids r.pairs → TellsRead r.declarations contents d
-    → OnRefusal (RefusesRun d ids) stop → OnRefusal (RefusesSo r contents) stop
-unadmitted_run r d None ids stop same read says = refused_as (RefusesRun d ids) (RefusesSo r None) stop (λ a refuses.
-    tt) says
-unadmitted_run r d (Some of) ids stop same read says =
-    refused_as (RefusesRun d ids) (RefusesSo r (Some of)) stop (λ a refuses. refuses r of (sym same) read) says
-
--- a script is too long
-pub long_run : (r : Run) (d : Declarations) (contents : Option (List ℕ → List ℕ)) (stop : Stop) → Admits r contents d
-    → OnRefusal (RefusesTooLong contents r.pairs) stop → OnRefusal (RefusesSo r contents) stop
-long_run r d contents stop admitted says =
-    refused_as (RefusesTooLong contents r.pairs) (RefusesSo r contents) stop (λ a. by contents a admitted) says
+pub unknown_run : (r : Run) (d : Declarations) (body : stmt_tree.Stmts) (w : World) (names : List (List ℕ)) (p : Placed)
+    (ids : List (List ℕ)) (contents : Option (List ℕ → List ℕ)) (stop : Stop) → declarations_view names p ≡ d
+    → ids ≡ all_ids r.pairs → TellsRead r.declarations contents d → IsLoaded d r.cells body (Ok w)
+    → OnRefusal (RefusesUnknown p ids) stop → OnRefusal (RefusesSo r contents) stop
+unknown_run r d body w names p ids contents stop same are read loaded says =
+    refused_as (RefusesUnknown p ids) (RefusesSo r contents) stop (λ a. by contents a read) says
   where
-    by : (contents : Option (List ℕ → List ℕ)) (a : Answer) → Admits r contents d → RefusesTooLong contents r.pairs a
-        → RefusesSo r contents a
-    by None a admitted refuses = tt
-    by (Some of) a admitted refuses =
-        told.ToldRefusedRun.long_script d admitted refuses.0 refuses.1.0 refuses.1.1 refuses.1.2
+    by : (contents : Option (List ℕ → List ℕ)) (a : Answer) → TellsRead r.declarations contents d
+        → RefusesUnknown p ids a → RefusesSo r contents a
+    by None a read unknown = tt
+    by (Some of) a read unknown =
+        told.ToldRefusedRun.unknown_principal d read body w loaded unknown.0
+        ((λ k. first_unknown (sym same k) (sym are k)) ∙ unknown.1.0 names) unknown.1.1 unknown.1.2
 
--- scripts are refused
-pub refused_run : (r : Run) (d : Declarations) (contents : Option (List ℕ → List ℕ)) (scripts : List (List ℕ))
-    (stop : Stop) → Admits r contents d → AreWhole contents r.pairs scripts
-    → OnRefusal (RefusesScripts scripts) stop → OnRefusal (RefusesSo r contents) stop
-refused_run r d contents scripts stop admitted whole says =
-    refused_as (RefusesScripts scripts) (RefusesSo r contents) stop (λ a. by contents a admitted whole) says
-  where
-    by : (contents : Option (List ℕ → List ℕ)) (a : Answer) → Admits r contents d → AreWhole contents r.pairs scripts
-        → RefusesScripts scripts a → RefusesSo r contents a
-    by None a admitted whole refuses = tt
-    by (Some of) a admitted whole refuses =
-        told.ToldRefusedRun.scripts_refused d admitted whole.1 refuses.0
-        (subst (λ (given : List (List ℕ)). Compiles 1 given refuses.0 a.text) whole.0 refuses.1.0) refuses.1.1
-        refuses.1.2
+module _ (r : Run) (d : Declarations) (body : stmt_tree.Stmts) (w : World) where
+  -- a script is too long
+  pub long_run : (contents : Option (List ℕ → List ℕ)) (stop : Stop) → Admits r contents d body w
+      → OnRefusal (RefusesTooLong contents r.pairs) stop → OnRefusal (RefusesSo r contents) stop
+  long_run contents stop admitted says =
+      refused_as (RefusesTooLong contents r.pairs) (RefusesSo r contents) stop (λ a. by contents a admitted) says
+    where
+      by : (contents : Option (List ℕ → List ℕ)) (a : Answer) → Admits r contents d body w
+          → RefusesTooLong contents r.pairs a → RefusesSo r contents a
+      by None a admitted refuses = tt
+      by (Some of) a admitted refuses =
+          told.ToldRefusedRun.long_script d body w admitted refuses.0 refuses.1.0 refuses.1.1 refuses.1.2
+
+  -- scripts are refused
+  pub refused_run : (contents : Option (List ℕ → List ℕ)) (scripts : List (List ℕ)) (stop : Stop)
+      → Admits r contents d body w → AreWhole contents r.pairs scripts
+      → OnRefusal (RefusesScripts scripts) stop → OnRefusal (RefusesSo r contents) stop
+  refused_run contents scripts stop admitted whole says =
+      refused_as (RefusesScripts scripts) (RefusesSo r contents) stop (λ a. by contents a admitted whole) says
+    where
+      by : (contents : Option (List ℕ → List ℕ)) (a : Answer) → Admits r contents d body w
+          → AreWhole contents r.pairs scripts → RefusesScripts scripts a → RefusesSo r contents a
+      by None a admitted whole refuses = tt
+      by (Some of) a admitted whole refuses =
+          told.ToldRefusedRun.scripts_refused d body w admitted whole.1 refuses.0
+          (subst (λ (given : List (List ℕ)). Compiles 1 given refuses.0 a.text) whole.0 refuses.1.0) refuses.1.1
+          refuses.1.2
 
 pub scripts_status : (scripts : List (List ℕ)) (stop : Stop) → OnRefusal (RefusesScripts scripts) stop
     → OnRefusal (λ a. IsCommandStatus a.status.0) stop
@@ -170,43 +176,56 @@ scripts_status scripts stop says =
     refused_as (RefusesScripts scripts) (λ a. IsCommandStatus a.status.0) stop (λ a refuses.
     four a.status.0 refuses.1.2) says
 
--- what a step refuses is told
-pub refused_so : (r : Run) (contents : Option (List ℕ → List ℕ)) (stop : Stop) → OnRefusal (RefusesSo r contents) stop
+-- what is said so is told of the run
+pub refused_told : (r : Run) (contents : Option (List ℕ → List ℕ)) (stop : Stop) → OnRefusal (RefusesSo r contents) stop
     → OnRefusal (λ a. TellsRun r contents a.text a.status.0) stop
-refused_so r contents stop says = refused_as (RefusesSo r contents) (λ a. TellsRun r contents a.text a.status.0) stop
-    (λ a. by contents a) says
+refused_told r contents stop says =
+    refused_as (RefusesSo r contents) (λ a. TellsRun r contents a.text a.status.0) stop (λ a. by contents a) says
   where
     by : (contents : Option (List ℕ → List ℕ)) (a : Answer) → RefusesSo r contents a
         → TellsRun r contents a.text a.status.0
-    by None a refuses = tt
-    by (Some of) a refuses = told.ToldRun.refused refuses
+    by None a refused = tt
+    by (Some of) a refused = told.ToldRun.refused refused
 
 -- ---- what is ready
 
--- the records are seen through names that have grown since
-module _ (r : Run) (d later : Declarations) (scripts : List (List ℕ)) (same : later ≡ d) where
-  pub is_ready : (contents : Option (List ℕ → List ℕ)) (trees : List (Stmts (List ℕ))) → Admits r contents d
-      → AreWhole contents r.pairs scripts → Compiles 1 scripts trees []
-      → IfSome contents (λ of. IsReady r of later trees)
-  is_ready None trees admitted whole compiled = tt
-  is_ready (Some of) trees admitted whole compiled = record {
-    admitted = subst (IsAdmitted r of) (sym same) admitted;
-    short = whole.1;
-    compiled = subst (λ (given : List (List ℕ)). Compiles 1 given trees []) whole.0 compiled;
-  }
+-- the world is seen through names that have grown by the words of the scripts since
+module _ (r : Run) (x : Ready) (d : Declarations) (before : PlacedWorld) (later : List (List ℕ))
+    (scripts : List (List ℕ)) (same : declarations_of x ≡ d) (is : x.loaded.world ≡ with_names before later)
+    (grown : GrowsTo before.names later) (are : later ≡ names_behind before.names scripts)
+    (faithful : IsFaithful before) where
+  abbrev body : stmt_tree.Stmts
+  body = view_tree x.loaded.module
 
-  pub its_names : (contents : Option (List ℕ → List ℕ)) (names : List (List ℕ)) → AreWhole contents r.pairs scripts
-      → names ≡ run_names d scripts
-      → IfSome contents (λ of. names ≡ run_names later (scripts_of r of))
-  its_names None names whole are = tt
-  its_names (Some of) names whole are = are ∙ (λ k. run_names (sym same k) (whole.0 k))
+  abbrev trees : List (Stmts (List ℕ))
+  trees = programs_in x.loaded.world x.scripts.items
+
+  its_view : world_view x.loaded.world ≡ read_into scripts (world_view before)
+  its_view =
+      ap world_view is ∙ world-later before later grown faithful
+      ∙ (λ k. record (world_view before) { names = are k })
+
+  pub is_ready : (contents : Option (List ℕ → List ℕ)) → Admits r contents d body (world_view before)
+      → AreWhole contents r.pairs scripts → Compiles 1 scripts trees []
+      → IfSome contents (λ of. IsReadyWith r of x)
+  is_ready None admitted whole compiled = tt
+  is_ready (Some of) admitted whole compiled = record {
+    before = world_view before;
+    ready = record {
+      admitted = subst (λ (e : Declarations). IsAdmitted r of e body (world_view before)) (sym same) admitted;
+      short = whole.1;
+      compiled = subst (λ (given : List (List ℕ)). Compiles 1 given trees []) whole.0 compiled;
+    };
+    seen = its_view ∙ (λ k. read_into (whole.0 k) (world_view before));
+  }
 
 -- ---- what is played
 
-pub played_so : (r : Run) (d : Declarations) (names : List (List ℕ)) (trees : List (Stmts (List ℕ)))
-    (contents : Option (List ℕ → List ℕ)) (text : List ℕ) (status : ℕ)
-    → IfSome contents (λ of. IsReady r of d trees) → IfSome contents (λ of. names ≡ run_names d (scripts_of r of))
-    → ToldPlayed r d names trees text status → TellsRun r contents text status
-played_so r d names trees None text status ready are tells = tt
-played_so r d names trees (Some of) text status ready are tells =
-    told.ToldRun.played d trees ready (subst (λ ns. ToldPlayed r d ns trees text status) are tells)
+pub played_so : (r : Run) (x : Ready) (contents : Option (List ℕ → List ℕ)) (text : List ℕ) (status : ℕ)
+    → IfSome contents (λ of. IsReadyWith r of x) → ToldReady r x text status → TellsRun r contents text status
+played_so r x None text status ready tells = tt
+played_so r x (Some of) text status ready tells =
+    let body = view_tree x.loaded.module in
+    let trees = programs_in x.loaded.world x.scripts.items in
+    told.ToldRun.played (declarations_of x) body ready.before trees ready.ready
+    (subst (λ (w : World). ToldPlayed r body w trees text status) ready.seen tells)

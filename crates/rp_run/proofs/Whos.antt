@@ -1,32 +1,21 @@
 -- The principals of sessions.
 use Rattle.std.proofs.Common.{◌≡◌, ◌∙◌, ◌++◌, ◌+◌, ◌<◌, ◌≤◌, ℕ, Bool, true, false, if◌then◌else◌, List, [], ◌∷◌, length}
-use Rattle.std.proofs.Common.{find, get_or, map, take, take_all, drop, Option, Some, None, refl, sym, ap, subst, arith}
+use Rattle.std.proofs.Common.{find, get_or, map, take, take_all, drop, Some, None, sym, ap, subst}
 use Rattle.std.proofs.Common.{append-nil, not, is_some}
-use Rattle.std.specs.List.{All}
 use Rattle.std.proofs.lemmas.Grind.{flat_map-append}
-use Rattle.std.proofs.lemmas.List.{length-append, length-map, map-append, nil_from_length}
-use Rattle.std.proofs.lemmas.List.Elements.{All-head}
+use Rattle.std.proofs.lemmas.List.{length-map, map-append}
 use Rattle.rp_decl.specs.Records.{Declarations}
 use Rattle.rp_decl.specs.View.{Placed, declarations_view}
 use Rattle.rp_interact.specs.Interacting.{Interacting}
 use Rattle.rp_interact.specs.Why.{first_unknown, principal_named}
 use Rattle.rp_run.specs.Refusals.{OnRefusal, RefusesUnknown}
 use Rattle.rp_run.specs.Told.{all_ids}
-use Rattle.rp_run.specs.View.{AnswersInAll}
 use Rattle.rp_run.specs.declared.stop.Stop.{Stop}
 use Rattle.rp_run.proofs.ReadAll.{find_behind, more, parts}
 use Rattle.rp_run.proofs.Sayings.{refused_as}
 use Rattle.rp_words.specs.Command.{Pair}
 use Rattle.rp_words.specs.View.{pair_view}
 use Rattle.rp_words.specs.declared.command.Pair.{Pair as PlacedPair}
-
--- the last of one is the only one
-pub last_of_one : (all rest : List Interacting) (who : Interacting) → length all ≡ 1 → all ≡ rest ++ who ∷ []
-    → all ≡ who ∷ []
-last_of_one all rest who one is =
-    let lengths = sym one ∙ ap length is ∙ length-append rest (who ∷ []) in
-    let none : rest ≡ [] = nil_from_length rest (omega (arith, lengths)) in
-    is ∙ ap (λ (rest : List Interacting). rest ++ who ∷ []) none
 
 -- as many as the pairs
 pub as_many_whos : (whos : List Interacting) (pairs : List PlacedPair)
@@ -46,24 +35,6 @@ find_in_front p (z ∷ xs) ys x e = by (p z) e (find_in_front p xs ys x) where
       → (if b then Some z else find p (xs ++ ys)) ≡ Some x
   by true e rest = e
   by false e rest = rest e
-
-first_of : {A : Type 0} {x y : A} {xs ys : List A} → x ∷ xs ≡ y ∷ ys → x ≡ y
-first_of e = cc
-
--- the only one is that of the only pair
-pub only-ids : (whos : List Interacting) (who : Interacting) (pairs : List PlacedPair) (p : PlacedPair)
-    → whos ≡ who ∷ [] → length pairs ≡ 1 → p ≡ get_or pairs 0 p
-    → map (λ (who : Interacting). who.ids) whos ≡ map (λ (p : Pair). p.ids) (map pair_view pairs)
-    → who.ids ≡ p.ids.items
-only-ids whos who [] p only one is same = absurd (omega arith)
-only-ids whos who (q ∷ qs) p only one is same =
-    first_of (ap (map (λ (who : Interacting). who.ids)) (sym only) ∙ same)
-    ∙ ap (λ (x : PlacedPair). x.ids.items) (sym is)
-
-pub only-answers : (d : Placed) (whos : List Interacting) (who : Interacting) → whos ≡ who ∷ []
-    → All (AnswersInAll d) whos → AnswersInAll d who
-only-answers d whos who only answers =
-    All-head (AnswersInAll d) who [] (subst (λ (all : List Interacting). All (AnswersInAll d) all) only answers)
 
 -- ---- one pair more
 

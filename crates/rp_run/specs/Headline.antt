@@ -2,6 +2,8 @@
 use Rattle.std.specs.Prelude.{◌≡◌, ◌≢◌, ◌<◌, ◌≤◌, ◌⊎◌, ℕ, zero, suc, List, [], ◌∷◌, ◌++◌, length, map, slice_get, take}
 use Rattle.std.specs.Prelude.{encode_utf8_all, Option, Some, None, option_map, IfSome}
 use Rattle.rp_decl.specs.Records.{Declarations}
+use Rattle.rp_meaning.specs.Sessions.{World}
+use Rattle.rp_tree.specs.Statements.{Stmts}
 use Rattle.rp_run.specs.Told.{Told, IsAdmitted, first_too_long}
 use Rattle.rp_words.specs.Command.{Command, Pair, run, script, may, large}
 
@@ -48,18 +50,19 @@ abbrev pub BeginsNamed : Option Command → ℕ → List ℕ → Type 0
 BeginsNamed None begun last_path = begun ≡ 0
 BeginsNamed (Some c) begun last_path = (begun ≡ 0) ⊎ ((k : ℕ) × BeginsFile c k begun last_path)
 
--- Nothing refuses before the file behind k others: it is the first, or the declarations are read, can be run and have
--- the principals, and none of the
--- scripts before it is too long.
+-- Nothing refuses before the file behind k others: it is the first, or the declarations are read, are loaded and have
+-- the principals, and none of the scripts before it is too long.
 abbrev pub ComesToFile : Command → ℕ → (List ℕ → List ℕ) → Type 0
 ComesToFile c zero contents = Unit {0}
 ComesToFile (run r) (suc k) contents = (d : Declarations)
-    × (IsAdmitted r contents d × (first_too_long contents (take k r.pairs) ≡ None))
+    × ((body : Stmts) × ((w : World)
+    × (IsAdmitted r contents d body w × (first_too_long contents (take k r.pairs) ≡ None))))
 ComesToFile (script q path) (suc k) contents = ⊥
 ComesToFile (may m) (suc k) contents = ⊥
 ComesToFile (large n) (suc k) contents = ⊥
 
--- the file at which reading failed is one that the command names, and nothing before it refused
+-- The file at which reading failed is one that the command names, and nothing before it refused. Each file that is begun
+-- may fail, so each was the next one of these.
 abbrev pub FailsAtNamed : Option Command → Option (List ℕ → List ℕ) → ℕ → List ℕ → Type 0
 FailsAtNamed None contents begun last_path = ⊥
 FailsAtNamed (Some c) contents begun last_path = (k : ℕ)

@@ -1,5 +1,4 @@
 pub mod Contents
-pub mod FirstSteps
 pub mod Headline
 pub mod Output
 pub mod Refusals

@@ -1,17 +1,16 @@
 -- What a command writes, and its status.
 use Rattle.std.specs.Prelude.{ℕ, suc, ◌-◌, nat_eq, Bool, List, [], ◌∷◌, ◌++◌, length, codes, flat_map, slice_get}
-use Rattle.std.specs.Prelude.{if◌then◌else◌, Option, Some, Result, Ok, Err}
+use Rattle.std.specs.Prelude.{if◌then◌else◌, Option, Some}
 use Rattle.std.specs.Fmt.{decimal}
 use Rattle.std.specs.List.{list_any}
 use Rattle.std.specs.Option.{option_map_or}
-use Rattle.rp_base.specs.declared.value.Value.{Value}
 use Rattle.rp_base.specs.Kind.{kind_name}
 use Rattle.rp_decl.specs.Declares.{Refusal, version, shape, permission, class, group, role}
 use Rattle.rp_decl.specs.Faults.{line_of}
 use Rattle.rp_decl.specs.Records.{Declarations}
 use Rattle.rp_interact.specs.Why.{Reason, public, own, role as by_role, group as by_group, group_role, nothing, has_all}
 use Rattle.rp_interact.specs.Why.{is_yes, why_of}
-use Rattle.rp_machine.specs.Meaning as first
+use Rattle.rp_meaning.specs.Load.{Refused, module_ended, not_bound}
 use Rattle.rp_meaning.specs.Sessions.{SessionEnd, well, cut_off}
 use Rattle.rp_ops.specs.Outcome.{raised, no_step, no_cell}
 use Rattle.rp_trail.specs.Entry.{Entry}
@@ -80,11 +79,21 @@ some_ends status sessions = list_any (λ (f : Finished). nat_eq (end_status f.0)
 abbrev pub run_status : List Finished → ℕ
 run_status sessions = if some_ends 5 sessions then 5 else (if some_ends 1 sessions then 1 else 0)
 
--- the end of a script of the first forms
-abbrev pub ended : Result Value first.End → SessionEnd
-ended (Ok v) = well
-ended (Err (first.raised r)) = cut_off (raised r)
-ended (Err first.no_cell) = cut_off no_cell
+-- ---- the large input
+
+-- a line for a number
+abbrev pub number_line : List ℕ → ℕ → List ℕ
+number_line label n = label ++ decimal n ++ codes "\n"
+
+-- the size of the large input, and how many bytes its declarations and its script have
+abbrev pub input_lines : ℕ → ℕ → ℕ → List ℕ
+input_lines n declarations script =
+    number_line (codes "large ") n ++ (codes "bytes " ++ decimal declarations ++ number_line (codes " ") script)
+
+-- the steps and the cells that were used, and how many decisions there were
+abbrev pub used_lines : ℕ → ℕ → ℕ → List ℕ
+used_lines steps cells entries = number_line (codes "steps ") steps ++ number_line (codes "cells ") cells
+    ++ number_line (codes "entries ") entries
 
 -- ---- declarations
 
@@ -99,6 +108,16 @@ cause (role id) = codes "role " ++ id
 -- why declarations are refused
 abbrev pub refusal_line : Refusal → List ℕ
 refusal_line r = line_of (cause r)
+
+-- why declarations that are read have no world
+abbrev pub world_cause : Refused → List ℕ
+world_cause (module_ended (raised r)) = codes "module ended " ++ kind_name r.kind ++ detail r.text
+world_cause (module_ended no_step) = codes "module stopped steps"
+world_cause (module_ended no_cell) = codes "module stopped cells"
+world_cause (not_bound word) = codes "expose " ++ word
+
+abbrev pub no_world_line : Refused → List ℕ
+no_world_line why = line_of (world_cause why)
 
 -- ---- permissions
 

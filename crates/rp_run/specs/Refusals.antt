@@ -1,12 +1,20 @@
 -- What a step of a command says, and where it refuses.
-use Rattle.std.specs.Prelude.{◌≡◌, ◌≢◌, ◌+◌, ℕ, false, List, [], map, Option, Some, None, IfSome, Result, Ok, Err}
+use Rattle.std.specs.Prelude.{◌≡◌, ◌≢◌, ◌+◌, ℕ, false, List, [], map, Option, Some, None, IfSome, Result}
+use Rattle.std.specs.Prelude.{Ok, Err}
 use Rattle.rp_decl.specs.Records.{Declarations}
 use Rattle.rp_decl.specs.View.{Placed, declarations_view}
 use Rattle.rp_decl.specs.Word.{is_among}
 use Rattle.rp_interact.specs.Why.{first_unknown}
-use Rattle.rp_run.specs.Told.{Compiles, IsRead, IsShort, IsTooLong, ToldRefusedRun, ToldUnread, all_ids, first_too_long}
+use Rattle.rp_meaning.specs.Load.{Refused as NoModuleWorld, module_ended, not_bound}
+use Rattle.rp_module.specs.Loads.{Loads}
+use Rattle.rp_ops.specs.Outcome.{raised, no_step, no_cell}
+use Rattle.rp_run.specs.Output.{no_world_line, world_cause}
+use Rattle.rp_run.specs.Told.{Compiles, IsRead, IsShort, IsTooLong, ToldRefusedRun, ToldUnread, first_too_long}
 use Rattle.rp_run.specs.Told.{too_long_line, undeclared_line, unknown_line}
+use Rattle.rp_tree.specs.Statements as stmt_tree
 use Rattle.rp_tree.specs.StatementTrees.{Stmts}
+use Rattle.rp_world.specs.declared.refusal.NoWorld.{NoWorld}
+use Rattle.rp_world.specs.declared.refusal.NoWorld.TheVariants as cause
 use Rattle.rp_words.specs.Command.{Pair, Run}
 use Rattle.rp_run.specs.declared.answer.Answer.{Answer}
 use Rattle.rp_run.specs.declared.stop.Silence.{Silence}
@@ -73,9 +81,30 @@ abbrev pub RefusesUndeclared : List (List ℕ) → List ℕ → Answer → Type 
 RefusesUndeclared permissions id a = (is_among permissions id ≡ false) × (a.text ≡ undeclared_line id)
     × (a.status.0 ≡ 3)
 
--- declarations that are read are not those of a run of these ids
-abbrev pub RefusesRun : Declarations → List (List ℕ) → Answer → Type 0
-RefusesRun d ids a = (r : Run) (of : List ℕ → List ℕ) → all_ids r.pairs ≡ ids → IsRead (of r.declarations) d
+-- ---- the world
+
+-- why there is no world, in words; of a machine that made all the steps that it counts, and of want of memory, there
+-- are none
+abbrev pub cause_words : NoWorld → List ℕ
+cause_words (cause.Raised r) = world_cause (module_ended (raised r))
+cause_words cause.StopSteps = world_cause (module_ended no_step)
+cause_words cause.StopCells = world_cause (module_ended no_cell)
+cause_words (cause.Unbound word) = world_cause (not_bound word)
+cause_words cause.TooLong = []
+cause_words cause.Memory = []
+
+-- of declarations whose module has these statements it is said, with this status, why they have no world
+abbrev pub TellsLoad : List (List ℕ) → Declarations → stmt_tree.Stmts → ℕ → List ℕ → ℕ → Type 0
+TellsLoad names d body cells text status =
+    (why : NoModuleWorld) × (Loads names d body cells (Err why) × ((text ≡ no_world_line why) × (status ≡ 3)))
+
+abbrev pub RefusesLoad : List (List ℕ) → Declarations → stmt_tree.Stmts → ℕ → Answer → Type 0
+RefusesLoad names d body cells a = TellsLoad names d body cells a.text a.status.0
+
+-- the text of their module is no program, or they have no world: so any run of them is refused that may use so many
+-- cells
+abbrev pub RefusesWorld : Declarations → ℕ → Answer → Type 0
+RefusesWorld d cells a = (r : Run) (of : List ℕ → List ℕ) → r.cells ≡ cells → IsRead (of r.declarations) d
     → ToldRefusedRun r of a.text a.status.0
 
 -- ---- scripts

@@ -3,15 +3,14 @@ use Rattle.std.specs.Prelude.{◌≡◌, ◌≢◌, ◌⊎◌, ◌+◌, ℕ, suc
 use Rattle.std.specs.Prelude.{take, Option, Some, None, IfSome}
 use Rattle.std.specs.Option.{option_map_or}
 use Rattle.rp_base.specs.Names.{with_words}
+use Rattle.rp_compile.specs.Compiled.{Compilation, source_tree}
 use Rattle.rp_meaning.specs.Sessions.{SessionEnd}
+use Rattle.rp_play.specs.Played.{source_text}
 use Rattle.rp_program.specs.Leaves.{IsTreeHeld}
 use Rattle.rp_program.specs.ProgramWords.{program_words}
 use Rattle.rp_run.specs.Headline.{IsAnswer, IsStatus}
 use Rattle.rp_run.specs.Output.{end_status}
 use Rattle.rp_run.specs.Told.{IsAccepted, ToldRefused, first_too_long, script_prefix}
-use Rattle.rp_run.specs.View.{program_of}
-use Rattle.rp_tree.specs.StatementViews.{view_tree}
-use Rattle.rp_tree.specs.declared.stmt.Tree.{Tree}
 use Rattle.rp_words.specs.Command.{Command, Pair, usage}
 
 -- a status of a command in which nothing failed
@@ -44,15 +43,17 @@ FailsAtScript pairs contents before begun last_path =
     (k : ℕ) × (BeginsScript pairs before k begun last_path
     × IfSome contents (λ of. first_too_long of (take k pairs) ≡ None))
 
--- What one script adds to the names, the trees and what is said of those that are refused: its words and its tree, or
--- its lines.
-pub data Adds (number : ℕ) (bytes : List ℕ) (old_names names : List (List ℕ)) (old_trees trees : List Tree)
+-- What one script adds to the names, the compiled scripts and what is said of those that are refused: its words and
+-- itself, or its lines.
+pub data Adds (number : ℕ) (bytes : List ℕ) (old_names names : List (List ℕ)) (old_scripts scripts : List Compilation)
     (old_said said : List ℕ) : Type 0 where
-  tree : (t : Tree) → IsAccepted bytes (program_of names t) → IsTreeHeld names (view_tree t)
+  script : (t : Compilation) → IsAccepted bytes (source_text names t) → IsTreeHeld names (source_tree t)
       → names ≡ with_words old_names (program_words bytes)
-      → trees ≡ old_trees ++ t ∷ [] → said ≡ old_said → Adds number bytes old_names names old_trees trees old_said said
-  lines : (text : List ℕ) → ToldRefused (script_prefix number) bytes text → trees ≡ old_trees → said ≡ old_said ++ text
-      → Adds number bytes old_names names old_trees trees old_said said
+      → scripts ≡ old_scripts ++ t ∷ [] → said ≡ old_said
+      → Adds number bytes old_names names old_scripts scripts old_said said
+  lines : (text : List ℕ) → ToldRefused (script_prefix number) bytes text → scripts ≡ old_scripts
+      → said ≡ old_said ++ text
+      → Adds number bytes old_names names old_scripts scripts old_said said
 
 -- a session of which this is told ended with this status
 abbrev pub ends_so : ℕ → Option SessionEnd × List ℕ → Bool

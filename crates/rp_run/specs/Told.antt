@@ -1,34 +1,39 @@
 -- What the program says to its words and the contents of the files that they name.
-use Rattle.std.specs.Prelude.{◌≡◌, ◌≢◌, ◌<◌, ◌≤◌, ℕ, suc, nat_lt, true, false, List, [], ◌∷◌, ◌++◌, length, map, find}
-use Rattle.std.specs.Prelude.{fold, codes, Option, Some, None, MatchOption}
+use Rattle.std.specs.Prelude.{◌≡◌, ◌≢◌, ◌<◌, ◌≤◌, ◌-◌, ℕ, suc, nat_lt, true, false, List, [], ◌∷◌, ◌++◌, length}
+use Rattle.std.specs.Prelude.{map, find, fold, codes, encode_utf8_all, Option, Some, None, MatchOption, Result, Ok, Err}
+use Rattle.std.specs.Prelude.{if◌then◌else◌}
 use Rattle.std.specs.Fmt.{decimal}
 use Rattle.std.specs.List.{flat_map}
-use Rattle.rp_first.specs.Script.{IsSource}
-use Rattle.rp_first.specs.Source.{Statement}
 use Rattle.rp_decl.specs.Declares.{Declares, IsNoDocument, IsRefused, Refusal}
 use Rattle.rp_decl.specs.Records.{Declarations}
 use Rattle.rp_decl.specs.Word.{is_among}
+use Rattle.rp_gen.specs.Large as input
 use Rattle.rp_interact.specs.Why.{first_unknown}
 use Rattle.rp_base.specs.Names.{first_words, with_words}
+use Rattle.rp_base.specs.Same.{same_text}
 use Rattle.rp_decl.specs.DeclaredWords.{declared_words}
-use Rattle.rp_load.specs.Load.{Fault, fault_line, fault_of, has_plain_fields}
-use Rattle.rp_machine.specs.Meaning.{Outcome, run_script, first_state}
+use Rattle.rp_meaning.specs.Load.{Refused, load}
+use Rattle.rp_meaning.specs.Sessions.{Session, World}
+use Rattle.rp_meaning.specs.Unmonitored.{told_of}
+use Rattle.rp_module.specs.Runs.{run_of}
 use Rattle.rp_policy.specs.Offences.{offences, offence_text}
 use Rattle.rp_program.specs.Fault.{IsFault, fault_text}
-use Rattle.rp_play.specs.Played.{Plays}
+use Rattle.rp_play.specs.Played.{Plays, Reaches, placed}
 use Rattle.rp_program.specs.Program.{IsProgram}
 use Rattle.rp_program.specs.ProgramWords.{program_words}
 use Rattle.rp_program.specs.declared.fault.ProgramFault.{ProgramFault}
 use Rattle.rp_print.specs.Statements.{printed}
+use Rattle.rp_scope.specs.Numbers.{IsNumbered}
 use Rattle.rp_script.specs.Refusal.{line}
 use Rattle.rp_trail.specs.Entry.{Entry}
-use Rattle.rp_words.specs.Command.{Command, Pair, Run, May, run, script, may, large, command_of, usage}
+use Rattle.rp_words.specs.Command.{Command, Pair, Run, May, run, script, may, large, command_of, usage, usual_limit}
 use Rattle.rp_words.specs.declared.command.Question.{Question}
 use Rattle.rp_words.specs.declared.command.Question.TheVariants.{Check, Show}
 use Rattle.rp_tree.specs.Marks.{guard}
+use Rattle.rp_tree.specs.Statements as stmt_tree
 use Rattle.rp_tree.specs.StatementTrees.{Stmts}
-use Rattle.rp_run.specs.Output.{Finished, as_told, session_block, end_status, ended, refusal_line, run_status, run_text}
-use Rattle.rp_run.specs.Output.{may_text, may_status}
+use Rattle.rp_run.specs.Output.{Finished, as_told, input_lines, may_text, may_status, no_world_line, refusal_line}
+use Rattle.rp_run.specs.Output.{run_status, run_text, used_lines}
 
 -- the most bytes of a file that is read
 abbrev pub longest_file : ℕ
@@ -64,6 +69,30 @@ pub record IsRead (bytes : List ℕ) (d : Declarations) : Type 0 where
   pub short : IsShort bytes
   pub declares : Declares bytes d
 
+-- ---- the trusted module
+
+-- the bytes of the text of the module; there are none where there is no module
+abbrev pub module_bytes : Declarations → List ℕ
+module_bytes d = encode_utf8_all d.module_text
+
+-- some names, and behind them the words of programs, each once
+abbrev pub names_behind : List (List ℕ) → List (List ℕ) → List (List ℕ)
+names_behind names programs = fold (λ names bytes. with_words names (program_words bytes)) names programs
+
+-- the names that the module is run with: the words of the operations, of the declarations and of the module's text
+abbrev pub module_names : Declarations → List (List ℕ)
+module_names d = names_behind (with_words first_words (declared_words d)) (module_bytes d ∷ [])
+
+-- The loading of declarations comes to this, a world or why there is none, where so many cells may be used from then
+-- on: the text of the module is a program, and its statements, whose code blocks are numbered, are run as trusted code
+-- (zope.security) over the declared classes and objects.
+pub record IsLoaded (d : Declarations) (cells : ℕ) (body : stmt_tree.Stmts) (result : Result World Refused)
+    : Type 0 where
+  pub tree : Stmts (List ℕ)
+  pub program : IsProgram (module_bytes d) tree
+  pub numbered : IsNumbered (placed (module_names d) tree) body
+  pub comes : load (run_of (module_names d) d body []) (module_names d) d cells ≡ result
+
 -- ---- a script that is refused
 
 -- The first check that a script does not pass, in the order of the constructors: its bytes are a program, and no
@@ -81,10 +110,12 @@ pub data ToldRefused (prefix bytes : List ℕ) (text : List ℕ) : Type 0 where
 abbrev pub all_ids : List Pair → List (List ℕ)
 all_ids pairs = flat_map (λ (p : Pair). p.ids) pairs
 
--- the declarations of a run are read, can be run, and have its principals
-pub record IsAdmitted (r : Run) (contents : List ℕ → List ℕ) (d : Declarations) : Type 0 where
+-- the declarations of a run are read, are loaded into a world, where their module has these statements, and have the
+-- run's principals
+pub record IsAdmitted (r : Run) (contents : List ℕ → List ℕ) (d : Declarations) (body : stmt_tree.Stmts) (w : World)
+    : Type 0 where
   pub read : IsRead (contents r.declarations) d
-  pub runs : fault_of d ≡ None
+  pub loaded : IsLoaded d r.cells body (Ok w)
   pub known : first_unknown d (all_ids r.pairs) ≡ None
 
 -- the path of the first script that is too long
@@ -117,108 +148,110 @@ pub data Compiles : ℕ → List (List ℕ) → List (Stmts (List ℕ)) → List
       → ToldRefused (script_prefix k) bytes text → Compiles (suc k) scripts trees said
       → Compiles k (bytes ∷ scripts) trees (text ++ said)
 
--- the names of a run: the words of the operations, of its declarations and of its scripts in their order, each once
-abbrev pub run_names : Declarations → List (List ℕ) → List (List ℕ)
-run_names d scripts =
-    fold (λ names bytes. with_words names (program_words bytes)) (with_words first_words (declared_words d)) scripts
-
--- ---- a run of one script of the first forms
-
--- the most steps of a session, and the most cells that a run may use, where no option says otherwise
-abbrev pub default_steps : ℕ
-default_steps = 1000000
-
-abbrev pub default_cells : ℕ
-default_cells = 1000000
-
--- the run of one script without options
-abbrev pub plain_run : List ℕ → Pair → Run
-plain_run declarations p = record {
-  declarations = declarations;
-  pairs = p ∷ [];
-  steps = default_steps;
-  cells =
-      default_cells;
-  turns = [];
-  trail = false;
-}
-
--- the only script of a run without options is of the first forms, over fields that are numbers and texts alone
-pub record IsFirst (r : Run) (d : Declarations) (trees : List (Stmts (List ℕ))) (p : Pair)
-    (source : List Statement) : Type 0 where
-  pub plain : r ≡ plain_run r.declarations p
-  pub fields : has_plain_fields d ≡ true
-  pub tree : Stmts (List ℕ)
-  pub only : trees ≡ tree ∷ []
-  pub forms : IsSource tree source
-
-abbrev pub IsNoFirst : Run → Declarations → List (Stmts (List ℕ)) → Type 0
-IsNoFirst r d trees = (p : Pair) (source : List Statement) → ¬ IsFirst r d trees p source
-
--- its direct meaning in a first session
-abbrev pub first_played : Pair → Declarations → List Statement → Outcome
-first_played p d source = run_script d source (first_state d default_cells 1 p.ids)
+-- the world with the words of scripts among its names
+abbrev pub read_into : List (List ℕ) → World → World
+read_into scripts w = record w { names = names_behind w.names scripts }
 
 -- ---- what is told to a run
 
-abbrev pub not_yet_line : ℕ → List ℕ
-not_yet_line k = line (script_prefix k) (codes "not yet")
+-- what stands before the line about the text of the module
+abbrev pub module_prefix : List ℕ
+module_prefix = codes "declarations: module "
 
--- What scripts without an offence come to, by their trees and the names of the run: their direct meaning, in the listed
--- turns and then each session to
--- its end, over one store. Of a run that is not of one script of the first forms it may be said that one of its scripts
--- does not run yet in place of that,
--- where the machine lacks one of its forms, until it has them all.
-pub data ToldPlayed (r : Run) (d : Declarations) (names : List (List ℕ)) (trees : List (Stmts (List ℕ))) (text : List ℕ)
-    (status : ℕ) : Type 0 where
-  first : (p : Pair) (source : List Statement) → IsFirst r d trees p source
-      → text ≡ session_block 1 p.who (first_played p d source).state.printed (ended (first_played p d source).answer)
-      → status ≡ end_status (ended (first_played p d source).answer) → ToldPlayed r d names trees text status
-  ran : IsNoFirst r d trees → (sessions : List Finished) (log : List Entry)
-      → Plays names d trees (map (λ (p : Pair). p.ids) r.pairs) r.turns r.steps r.cells (map as_told sessions) log
-      → text ≡ run_text r sessions log → status ≡ run_status sessions → ToldPlayed r d names trees text status
-  not_yet : IsNoFirst r d trees → (k : ℕ) → 0 < k → k ≤ length r.pairs
-      → text ≡ not_yet_line k → status ≡ 4 → ToldPlayed r d names trees text status
+-- What scripts without an offence come to, by their trees, over a world with its module: their direct meaning, in the
+-- listed turns and then each session to its end, over one store.
+pub record ToldPlayed (r : Run) (body : stmt_tree.Stmts) (w : World) (trees : List (Stmts (List ℕ)))
+    (text : List ℕ) (status : ℕ) : Type 0 where
+  pub sessions : List Finished
+  pub log : List Entry
+  pub plays : Plays w body trees (map (λ (p : Pair). p.ids) r.pairs) r.turns r.steps (map as_told sessions) log
+  pub said : text ≡ run_text r sessions log
+  pub ends : status ≡ run_status sessions
 
 -- The first step that refuses a run, in the order of the constructors.
 pub data ToldRefusedRun (r : Run) (contents : List ℕ → List ℕ) (text : List ℕ) (status : ℕ) : Type 0 where
   unread : ToldUnread r.declarations (contents r.declarations) text status → ToldRefusedRun r contents text status
-  not_run : (d : Declarations) → IsRead (contents r.declarations) d → (f : Fault) → fault_of d ≡ Some f
-      → text ≡ fault_line f → status ≡ 3 → ToldRefusedRun r contents text status
-  unknown_principal : (d : Declarations) → IsRead (contents r.declarations) d → fault_of d ≡ None → (id : List ℕ)
-      → first_unknown d (all_ids r.pairs) ≡ Some id
+  no_module : (d : Declarations) → IsRead (contents r.declarations) d → (fault : ProgramFault)
+      → IsFault (module_bytes d) fault → text ≡ line module_prefix (fault_text fault) → status ≡ 3
+      → ToldRefusedRun r contents text status
+  no_world : (d : Declarations) → IsRead (contents r.declarations) d → (body : stmt_tree.Stmts) (why : Refused)
+      → IsLoaded d r.cells body (Err why) → text ≡ no_world_line why → status ≡ 3
+      → ToldRefusedRun r contents text status
+  unknown_principal : (d : Declarations) → IsRead (contents r.declarations) d → (body : stmt_tree.Stmts) (w : World)
+      → IsLoaded d r.cells body (Ok w) → (id : List ℕ) → first_unknown d (all_ids r.pairs) ≡ Some id
       → text ≡ unknown_line id → status ≡ 3 → ToldRefusedRun r contents text status
-  long_script : (d : Declarations) → IsAdmitted r contents d → (path : List ℕ)
-      → first_too_long contents r.pairs ≡ Some path
+  long_script : (d : Declarations) (body : stmt_tree.Stmts) (w : World) → IsAdmitted r contents d body w
+      → (path : List ℕ) → first_too_long contents r.pairs ≡ Some path
       → text ≡ too_long_line path → status ≡ 9 → ToldRefusedRun r contents text status
-  scripts_refused : (d : Declarations) → IsAdmitted r contents d → first_too_long contents r.pairs ≡ None
-      → (trees : List (Stmts (List ℕ))) → Compiles 1 (scripts_of r contents) trees text → text ≢ [] → status ≡ 4
+  scripts_refused : (d : Declarations) (body : stmt_tree.Stmts) (w : World) → IsAdmitted r contents d body w
+      → first_too_long contents r.pairs ≡ None → (trees : List (Stmts (List ℕ)))
+      → Compiles 1 (scripts_of r contents) trees text → text ≢ [] → status ≡ 4
       → ToldRefusedRun r contents text status
 
--- no step refuses: the declarations are these, and the scripts these trees
-pub record IsReady (r : Run) (contents : List ℕ
-    → List ℕ) (d : Declarations) (trees : List (Stmts (List ℕ))) : Type 0 where
-  pub admitted : IsAdmitted r contents d
+-- no step refuses: the declarations are these, which are loaded into this world, and the scripts are these trees
+pub record IsReady (r : Run) (contents : List ℕ → List ℕ) (d : Declarations) (body : stmt_tree.Stmts) (w : World)
+    (trees : List (Stmts (List ℕ))) : Type 0 where
+  pub admitted : IsAdmitted r contents d body w
   pub short : first_too_long contents r.pairs ≡ None
   pub compiled : Compiles 1 (scripts_of r contents) trees []
 
--- a step refuses, or the scripts are run
+-- a step refuses, or the scripts are run over the world whose names have the words of scripts among them
 pub data ToldRun (r : Run) (contents : List ℕ → List ℕ) (text : List ℕ) (status : ℕ) : Type 0 where
   refused : ToldRefusedRun r contents text status → ToldRun r contents text status
-  played : (d : Declarations) (trees : List (Stmts (List ℕ))) → IsReady r contents d trees
-      → ToldPlayed r d (run_names d (scripts_of r contents)) trees text status → ToldRun r contents text status
+  played : (d : Declarations) (body : stmt_tree.Stmts) (w : World) (trees : List (Stmts (List ℕ)))
+      → IsReady r contents d body w trees → ToldPlayed r body (read_into (scripts_of r contents) w) trees text status
+      → ToldRun r contents text status
 
--- what may be said in place of what a run comes to that is not of one script of the first forms
-pub record IsNotYet (r : Run) (contents : List ℕ → List ℕ) (text : List ℕ) (status : ℕ) : Type 0 where
-  pub declarations : Declarations
-  pub trees : List (Stmts (List ℕ))
-  pub ready : IsReady r contents declarations trees
-  pub other : IsNoFirst r declarations trees
-  pub script : ℕ
-  pub first : 0 < script
-  pub last : script ≤ length r.pairs
-  pub said : text ≡ not_yet_line script
-  pub ends : status ≡ 4
+-- ---- the large input
+
+-- the run of the large input, which is one without options; its two files, at these paths, are in memory
+abbrev pub large_pair : Pair
+large_pair = record { who = codes "p"; ids = codes "p" ∷ []; path = codes "script" }
+
+abbrev pub large_run : Run
+large_run = record {
+  declarations = codes "declarations";
+  pairs = large_pair ∷ [];
+  steps = usual_limit;
+  cells = usual_limit;
+  turns = [];
+  trail = false;
+}
+
+-- files that have these texts at the two paths, and no other
+abbrev pub texts_at : List ℕ → List ℕ → List ℕ → List ℕ
+texts_at declarations source path =
+    if same_text large_run.declarations path then declarations
+    else (if same_text large_pair.path path then source else [])
+
+-- the declarations and the script of the large input of a size
+unfoldable pub large_contents : ℕ → List ℕ → List ℕ
+large_contents n = texts_at (input.declarations n) (input.script n)
+
+-- the lines that tell its size and the lengths of these
+unfoldable pub large_lines : ℕ → List ℕ
+large_lines n = input_lines n (length (input.declarations n)) (length (input.script n))
+
+-- What the only script comes to over a world with its module: the size and the lengths of the large input, what its
+-- session used, and then what a run tells.
+pub record ToldUsed (r : Run) (n : ℕ) (body : stmt_tree.Stmts) (w : World) (trees : List (Stmts (List ℕ)))
+    (text : List ℕ) (status : ℕ) : Type 0 where
+  pub last : World
+  pub reaches : Reaches w body trees (map (λ (p : Pair). p.ids) r.pairs) r.turns r.steps last
+  pub session : Session
+  pub only : last.sessions ≡ session ∷ []
+  pub finished : List Finished
+  pub told : map as_told finished ≡ map told_of last.sessions
+  pub said : text ≡ large_lines n ++ used_lines (r.steps - session.steps) last.store.used (length last.log)
+      ++ run_text r finished last.log
+  pub ends : status ≡ run_status finished
+
+-- a step refuses the run of the large input of a size, over these contents, or its script comes to that
+pub data ToldLarge (r : Run) (contents : List ℕ → List ℕ) (n : ℕ) (text : List ℕ) (status : ℕ) : Type 0 where
+  refused : ToldRefusedRun r contents text status → ToldLarge r contents n text status
+  played : (d : Declarations) (body : stmt_tree.Stmts) (w : World) (trees : List (Stmts (List ℕ)))
+      → IsReady r contents d body w trees → ToldUsed r n body (read_into (scripts_of r contents) w) trees text status
+      → ToldLarge r contents n text status
 
 -- ---- a script that is checked or shown
 
@@ -254,14 +287,9 @@ abbrev pub ToldCommand : Command → (List ℕ → List ℕ) → List ℕ → �
 ToldCommand (run r) contents text status = ToldRun r contents text status
 ToldCommand (script q path) contents text status = ToldScript (said_to q) path (contents path) text status
 ToldCommand (may m) contents text status = ToldMay m contents text status
-ToldCommand (large n) contents text status = (text ≡ codes "large: not yet\n") × (status ≡ 4)
+ToldCommand (large n) contents text status = ToldLarge large_run (large_contents n) n text status
 
 -- the program says this text, as characters, and ends with this status
 abbrev pub Told : List (List ℕ) → (List ℕ → List ℕ) → List ℕ → ℕ → Type 0
 Told words contents text status =
     MatchOption (command_of words) ((text ≡ usage) × (status ≡ 2)) (λ command. ToldCommand command contents text status)
-
--- this text and status may come in place of others
-abbrev pub MayComeInstead : List (List ℕ) → (List ℕ → List ℕ) → List ℕ → ℕ → Type 0
-MayComeInstead words contents text status = (r : Run) × (command_of words ≡ Some (run r))
-    × IsNotYet r contents text status

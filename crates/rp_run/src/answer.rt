@@ -7,11 +7,11 @@ ghost use Rattle.std.specs.List.{list_all};
 ghost use Rattle.rp_base.specs.Kind.{kind_name};
 ghost use Rattle.rp_script.specs.Refusal.{refusal_lines};
 ghost use Rattle.rp_run.specs.Output.{detail, end_line, end_status, session_block};
-ghost use Rattle.rp_run.specs.Told.{not_yet_line, script_prefix};
+ghost use Rattle.rp_run.specs.Told.{script_prefix};
 ghost use Rattle.rp_session.specs.View.{end_view};
 ghost use Rattle.rp_words.specs.Command.{usage};
 
-use rp_base::{Memory, Names, Printed, Raised, Status, Text};
+use rp_base::{Memory, Names, Printed, Raised, Status, Text, add_ascii};
 use rp_script::{Refusal, refusal_text};
 use rp_session::SessionEnd;
 use rp_words::USAGE;
@@ -98,40 +98,6 @@ impl Answer {
             }),
         }
     }
-
-    /// The answer of one session: its block, and the status of its end. It is refused only for want of memory.
-    pub fn session(
-        alloc: Global,
-        number: usize,
-        who: &Text,
-        printed: &str,
-        end: &SessionEnd,
-    ) -> Result<Answer, Memory>
-        ensures text { IfOk result (λ a. a.text
-            ≡ session_block number who.now (chars printed.now) (end_view end.now)) }
-        ensures status { IfOk result (λ a. a.status.0 ≡ end_status (end_view end.now)) }
-    {
-        let mut text = Printed::new(alloc);
-        add_session(alloc, &mut text, number, who, printed, end)?;
-        Ok(Answer {
-            text,
-            status: end_status(end),
-        })
-    }
-
-    /// The answer to a script of a run that comes to a form which does not run yet. It is refused only for want of
-    /// memory.
-    pub fn not_yet(alloc: Global, number: u32) -> Result<Answer, Memory>
-        ensures { IfOk result (λ a. (a.text ≡ not_yet_line number) × (a.status.0 ≡ 4)) }
-    {
-        let mut text = script_prefix(alloc, number as usize)?;
-        add_ascii(&mut text, "not yet")?;
-        add_ascii(&mut text, "\n")?;
-        Ok(Answer {
-            text,
-            status: Status(4),
-        })
-    }
 }
 
 /// What stands before each line about the script of a number of a run.
@@ -202,7 +168,7 @@ fn add_raised(text: &mut Printed, raised: &Raised) -> Result<(), Memory>
 }
 
 /// Appends the text of an exception behind a colon, where it has one.
-fn add_detail(text: &mut Printed, told: &Text) -> Result<(), Memory>
+pub fn add_detail(text: &mut Printed, told: &Text) -> Result<(), Memory>
     ensures { OnOk result (text.new ≡ text.old ++ detail told.now) }
 {
     if told.as_str().is_empty() {
@@ -218,12 +184,4 @@ pub fn add_number(alloc: Global, text: &mut Printed, number: usize) -> Result<()
 {
     let digits = format!(in alloc; "{number}")?;
     text.add(digits.as_str())
-}
-
-/// Appends an ASCII text, whose characters are its bytes.
-pub fn add_ascii(text: &mut Printed, piece: &str) -> Result<(), Memory>
-    requires { list_all is_ascii piece.now ≡ true }
-    ensures { OnOk result (text.new ≡ text.old ++ piece.now) }
-{
-    text.add(piece)
 }

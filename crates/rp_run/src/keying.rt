@@ -3,7 +3,7 @@
 // Who wrote the bytes cannot pick names that collide. Nothing that is told depends on it.
 
 ghost use Rattle.std.specs.Prelude.{◌≡◌, ◌≢◌, IfErr, IfOk, OnOk, []};
-ghost use Rattle.rp_base.specs.Names.{with_words, word_of};
+ghost use Rattle.rp_base.specs.Names.{HoldsEachOnce, with_words, word_of};
 ghost use Rattle.rp_compile.specs.Compiled.{source_tree};
 ghost use Rattle.rp_script.specs.Refusal.{IsRefused};
 ghost use Rattle.rp_policy.specs.Offences.{offences};
@@ -12,7 +12,6 @@ ghost use Rattle.rp_program.specs.Program.{IsProgram};
 ghost use Rattle.rp_program.specs.ProgramWords.{program_words};
 ghost use Rattle.rp_tree.specs.Maps.{named, without_blocks};
 ghost use Rattle.rp_tree.specs.StatementViews.{view_tree};
-ghost use Rattle.rp_decl.specs.Apart.{AreNamesApart};
 ghost use Rattle.rp_decl.specs.Consistency.{IsConsistent};
 ghost use Rattle.rp_decl.specs.DeclaredWords.{declared_words};
 ghost use Rattle.rp_decl.specs.Declares.{Declares};
@@ -21,7 +20,7 @@ ghost use Rattle.rp_decl.specs.InOrder.{AreInOrder};
 ghost use Rattle.rp_decl.specs.Places.{GrowsTo, IsHeldBy};
 ghost use Rattle.rp_decl.specs.View.{declarations_view};
 
-use rp_base::{Memory, Names};
+use rp_base::{Memory, Name, Names};
 use rp_compile::Compiled;
 use rp_decl::{Decl, DeclFault};
 use rp_script::Refusal;
@@ -36,6 +35,15 @@ fn rekey(names: &mut Names, bytes: &[u8]) -> Result<(), Memory>
     names.rekey(seed)
 }
 
+/// Tells the caller that no word is held twice, and does nothing else.
+pub fn hold_each_once(names: &Names)
+    ensures { HoldsEachOnce names.now }
+{
+    if names.len() > 0 {
+        let _first = names.text(Name(0));
+    }
+}
+
 /// The records of a declaration file.
 ///
 /// # Errors
@@ -45,7 +53,6 @@ pub fn declarations(alloc: Global, bytes: &[u8], names: &mut Names) -> Result<De
     ensures held { IfOk result (IsHeldBy names.new) }
     ensures ordered { IfOk result (λ d. AreInOrder (declarations_view names.new d)) }
     ensures consistent { IfOk result (λ d. IsConsistent (declarations_view names.new d)) }
-    ensures apart { IfOk result (λ d. AreNamesApart (declarations_view names.new d)) }
     ensures fault { IfErr result (HasFault bytes.now names.new) }
     ensures fault_held { IfErr result (IsFaultHeld names.new) }
     ensures names { GrowsTo names.old names.new }
@@ -80,8 +87,10 @@ pub fn compile_script(alloc: Global, bytes: &[u8], names: &mut Names) -> Result<
     ensures program { IfOk result (λ c. IsProgram bytes.now
         (without_blocks (named (word_of names.new) (source_tree c)))) }
     ensures lawful { IfOk result (λ c. offences (named (word_of names.new) (source_tree c)) ≡ []) }
+    ensures held { IfOk result (λ c. IsTreeHeld names.new (source_tree c)) }
     ensures refused { IfErr result (λ refusal. refusal ≢ Refusal.Memory → IsRefused names.new bytes.now refusal) }
     ensures names { GrowsTo names.old names.new }
+    ensures words { OnOk result (names.new ≡ with_words names.old (program_words bytes.now)) }
 {
     rekey(names, bytes)?;
     rp_compile::compile_script(alloc, bytes, names)

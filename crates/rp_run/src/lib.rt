@@ -4,9 +4,10 @@
 mod admitting;
 mod answer;
 mod declaring;
-mod first_run;
 mod keying;
 mod large;
+mod loading;
+mod no_world;
 mod playing;
 mod program;
 mod reading;

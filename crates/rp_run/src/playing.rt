@@ -1,35 +1,26 @@
 //! The command `run`: scripts in sessions that take turns.
 
-ghost use Rattle.std.specs.Prelude.{◌≡◌, ◌<◌, ◌≤◌, ◌∷◌, ℕ, [], List, IfOk, IfSome, IsErrOf, Some, length, map, true};
+ghost use Rattle.std.specs.Prelude.{◌≡◌, ◌<◌, ◌≤◌, IfOk, IfSome, IsErrOf, IsSome, Some, length};
 ghost use Rattle.std.specs.List.{All};
-ghost use Rattle.std.specs.Vec.Iter.{into_iter_items, into_iter_len};
-ghost use Rattle.rp_decl.specs.View.{declarations_view};
-ghost use Rattle.rp_first.specs.View.{IsStatementHeld, statement_view};
-ghost use Rattle.rp_load.specs.Load.{has_plain_fields};
-ghost use Rattle.rp_run.specs.FirstSteps.{ReadsFirst};
 ghost use Rattle.rp_run.specs.Headline.{BeginsNamed, FailsAtNamed};
 ghost use Rattle.rp_run.specs.Refusals.{OnAnswer};
-ghost use Rattle.rp_run.specs.SetUp.{IsSetUp};
+ghost use Rattle.rp_run.specs.SetUp.{IsSetUp, ReachesReady, ToldReady};
 ghost use Rattle.rp_run.specs.Steps.{IsCommandStatus};
-ghost use Rattle.rp_run.specs.Told.{IsNoFirst, ToldPlayed, ToldRun};
-ghost use Rattle.rp_run.specs.View.{program_of};
-ghost use Rattle.rp_tree.specs.StatementTrees.{Stmts};
+ghost use Rattle.rp_run.specs.Told.{ToldRun};
+ghost use Rattle.rp_session.specs.Ready.{AreReady};
+ghost use Rattle.rp_session.specs.View.{sessions_view};
 ghost use Rattle.rp_words.specs.Command.{run};
 ghost use Rattle.rp_words.specs.View.{run_view};
 
 use crate::answer::Answer;
-use crate::first_run::{first_forms, play_first};
 use crate::ready::{Ready, make_ready};
 use crate::sessions::answer_sessions;
 use crate::stop::Stop;
 use rp_base::{Files, Memory};
-use rp_first::Compiled as FirstForms;
-use rp_interact::Interaction;
-use rp_play::{Limits, NoOutcome, SessionScript, play};
-use rp_tree::Tree;
+use rp_play::{NoOutcome, play};
+use rp_session::Sessions;
 use rp_words::Run;
 use std::alloc::Global;
-use std::vec::IntoIter;
 
 /// What the program says where scripts are to be run.
 ///
@@ -57,122 +48,37 @@ pub fn answer_run<F: Files>(alloc: Global, command: &Run, files: &mut F) -> Resu
     Ok(run_scripts(alloc, command, ready)?)
 }
 
-/// What scripts come to that stand under no offence. It is refused only for want of memory.
+/// What scripts come to that stand under no offence. It is refused only for want of memory, for which a machine is
+/// taken that made all the steps that it counts.
 fn run_scripts(alloc: Global, command: &Run, ready: Ready) -> Result<Answer, Memory>
     requires ready { IsSetUp (run_view command.now) ready }
     requires few { length command.now.pairs.items ≤ 16 }
-    ensures told { IfOk result (λ a. ToldPlayed (run_view command.now) (declarations_view ready.names ready.decl)
-        ready.names (map (program_of ready.names) ready.trees.items) a.text a.status.0) }
+    ensures told { IfOk result (λ a. ToldReady (run_view command.now) ready a.text a.status.0) }
     ensures status { IfOk result (λ a. IsCommandStatus a.status.0) }
 {
-    let trees = ready.trees.as_slice();
-    match first_forms(alloc, command, &ready.decl, &ready.names, trees)? {
-        Some(forms) => play_only(alloc, command, ready, &forms),
-        None => play_scripts(alloc, command, ready),
+    match play_ready(alloc, command, ready) {
+        Ok(sessions) => answer_sessions(alloc, command, &sessions),
+        Err(NoOutcome::TooLong | NoOutcome::Memory) => Err(Memory),
     }
 }
 
-/// Runs the only script of a run without options, which is of the first forms. It is refused only for want of memory.
-fn play_only(
-    alloc: Global,
-    command: &Run,
-    ready: Ready,
-    forms: &FirstForms,
-) -> Result<Answer, Memory>
-    requires ready { IsSetUp (run_view command.now) ready }
-    requires alone { length command.now.pairs.items ≡ 1 }
-    requires fields { has_plain_fields (declarations_view ready.names ready.decl) ≡ true }
-    requires held { All (IsStatementHeld ready.names) forms.now }
-    ensures told { IfOk result (λ a. (trees : List (Stmts (List ℕ)))
-        → ReadsFirst (run_view command.now) (declarations_view ready.names ready.decl) trees
-        (map (statement_view ready.names) forms.now)
-        → ToldPlayed (run_view command.now) (declarations_view ready.names ready.decl) ready.names trees
-        a.text a.status.0) }
-{
-    let Ready {
-        decl,
-        names,
-        whos,
-        ..
-    } = ready;
-    let who = only_who(whos);
-    play_first(alloc, &command.pairs[0], decl, names, who, forms)
-}
-
-/// The only one of some interactions.
-fn only_who(whos: Vec<Interaction>) -> Interaction
-    requires { length whos.items ≡ 1 }
-    ensures { whos.items ≡ result ∷ [] }
-{
-    let mut whos = whos;
-    match whos.pop() {
-        Some(who) => who,
-        None => unreachable!(),
-    }
-}
-
-/// Runs scripts by the machine, where it has the forms that they come to. It is refused only for want of memory.
-fn play_scripts(alloc: Global, command: &Run, ready: Ready) -> Result<Answer, Memory>
+/// The sessions of the scripts of a run, as they ended.
+///
+/// # Errors
+/// `TooLong` where a machine made all the steps that it counts, `Memory` where a growth was refused.
+pub fn play_ready(alloc: Global, command: &Run, ready: Ready) -> Result<Sessions, NoOutcome>
     requires ready { IsSetUp (run_view command.now) ready }
     requires few { length command.now.pairs.items ≤ 16 }
-    ensures told { IfOk result (λ a. IsNoFirst (run_view command.now) (declarations_view ready.names ready.decl)
-        (map (program_of ready.names) ready.trees.items)
-        → ToldPlayed (run_view command.now) (declarations_view ready.names ready.decl) ready.names
-        (map (program_of ready.names) ready.trees.items) a.text a.status.0) }
+    ensures reaches { IfOk result (λ sessions. ReachesReady (run_view command.now) ready (sessions_view sessions)) }
+    ensures ended { IfOk result (λ sessions. All (λ session. IsSome session.end) sessions.list.items) }
+    ensures count { IfOk result (λ sessions. length sessions.list.items ≡ length command.now.pairs.items) }
+    ensures ready { IfOk result AreReady }
 {
-    let limits = Limits {
-        steps: command.steps,
-        cells: command.cells,
-    };
     let Ready {
-        decl,
-        names,
+        loaded,
         whos,
-        trees,
-    } = ready;
-    let scripts = session_scripts(alloc, whos, trees)?;
-    match play(
-        alloc,
-        decl,
-        names,
         scripts,
-        command.turns.as_slice(),
-        limits,
-    ) {
-        Ok(sessions) => answer_sessions(alloc, command, &sessions),
-        Err(NoOutcome::NotYet(number)) => Answer::not_yet(alloc, number),
-        Err(NoOutcome::Memory) => Err(Memory),
-    }
-}
-
-/// Each script with its principals. It is refused only for want of memory.
-fn session_scripts(
-    alloc: Global,
-    whos: Vec<Interaction>,
-    trees: Vec<Tree>,
-) -> Result<Vec<SessionScript>, Memory>
-    requires { length whos.items ≡ length trees.items }
-    ensures whos { IfOk result (λ all. map (λ script. script.who) all.items ≡ whos.items) }
-    ensures trees { IfOk result (λ all. map (λ script. script.tree) all.items ≡ trees.items) }
-{
-    let mut all = Vec::new(alloc);
-    let mut trees = trees.into_iter();
-    for who in whos {
-        let tree = next_tree(&mut trees);
-        all.push(SessionScript { who, tree })?;
-    }
-    Ok(all)
-}
-
-/// The next of some trees.
-fn next_tree(trees: &mut IntoIter<Tree, Global>) -> Tree
-    requires some { 0 < length (into_iter_items trees.old) }
-    requires whole { into_iter_len trees.old ≡ length (into_iter_items trees.old) }
-    ensures taken { into_iter_items trees.old ≡ result ∷ into_iter_items trees.new }
-    ensures left { into_iter_len trees.new ≡ length (into_iter_items trees.new) }
-{
-    match trees.next() {
-        Some(tree) => tree,
-        None => unreachable!(),
-    }
+    } = ready;
+    let turns = command.turns.as_slice();
+    play(alloc, loaded, whos, scripts, turns, command.steps)
 }

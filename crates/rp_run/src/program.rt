@@ -21,22 +21,23 @@ use std::alloc::Global;
 
 /// Runs the command that the words give, and answers the status of the program.
 ///
-/// Whatever the words and the files say, what is written and the status are those of the direct meaning
-/// of the source script, where each operation through a lent reference is first decided by the declared
-/// policy for the script's principals, and logged; `may` tells what that policy grants, `check` the faults
-/// and offences of a script, and `show` its text with its guards. All text goes to `out`, and only after the last step.
+/// Whatever the words and the files say, what is written and the status are those of the direct meaning of the source
+/// scripts, in the listed turns over one store in which the trusted module has run, where each operation through a lent
+/// reference is first decided by the declared policy for a script's principals, and logged; `may` tells what that
+/// policy grants, `check` the faults and offences of a script, and `show` its text with its guards; `large` runs an
+/// input that it makes, and tells what the run took. All text goes to `out`, and only after the last step.
 ///
 /// | status | means |
 /// |---|---|
-/// | 0 | the session ended well; or the script is accepted or shown; or the principals have the permission |
-/// | 1 | the session ended by an exception; or the principals lack the permission |
+/// | 0 | each session ended well; or the script is accepted or shown; or the principals have the permission |
+/// | 1 | a session ended by an exception, and none was stopped; or the principals lack the permission |
 /// | 2 | the words give no command |
-/// | 3 | the declarations, a principal or the permission are refused |
-/// | 4 | the script is refused, or comes to a form that does not run yet |
-/// | 5 | the session was stopped, as no step or no cell was left |
+/// | 3 | declarations, module, a principal or the permission are refused |
+/// | 4 | a script is refused |
+/// | 5 | a session was stopped, as no step or no cell was left |
 /// | 6 | a read failed; nothing is written |
 /// | 7 | a write failed; a front of the text is written |
-/// | 8 | want of memory; nothing is written |
+/// | 8 | want of memory, or a machine made all the steps that it counts; nothing is written |
 /// | 9 | a file has more than 4,194,304 bytes |
 pub fn run<F: Files, K: Sink>(alloc: Global, words: &[String], files: &mut F, out: &mut K) -> Status
     requires unread { F.begun files.old ≡ 0 }
@@ -118,7 +119,7 @@ fn obey<F: Files>(alloc: Global, words: &[String], files: &mut F) -> Result<Answ
         Ok(Command::Run(run)) => answer_run(alloc, &run, files),
         Ok(Command::Script(question, path)) => answer_script(alloc, question, &path, files),
         Ok(Command::May(may)) => answer_may(alloc, &may, files),
-        Ok(Command::Large(_)) => Ok(answer_large(alloc)?),
+        Ok(Command::Large(size)) => Ok(answer_large(alloc, size)?),
         Err(WordsFault::Usage) => Ok(Answer::usage(alloc)?),
         Err(WordsFault::Memory) => Err(Stop::Memory),
     }

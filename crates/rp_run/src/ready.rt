@@ -1,38 +1,37 @@
 //! The steps of a run before its sessions.
 
-ghost use Rattle.std.specs.Prelude.{◌≡◌, ◌<◌, ◌≤◌, IfErr, IfOk, IfSome, IsErrOf, OnOk, Some, length, map};
-ghost use Rattle.rp_decl.specs.View.{declarations_view};
+ghost use Rattle.std.specs.Prelude.{◌≡◌, ◌<◌, ◌≤◌, IfErr, IfOk, IfSome, IsErrOf, OnOk, Some, length};
 ghost use Rattle.rp_run.specs.Headline.{BeginsNamed, FailsAtNamed};
 ghost use Rattle.rp_run.specs.Refusals.{OnRefusal};
-ghost use Rattle.rp_run.specs.SetUp.{IsSetUp};
+ghost use Rattle.rp_run.specs.SetUp.{IsReadyWith, IsSetUp};
 ghost use Rattle.rp_run.specs.Steps.{IsCommandStatus};
-ghost use Rattle.rp_run.specs.Told.{IsReady, ToldRefusedRun, run_names, scripts_of};
-ghost use Rattle.rp_run.specs.View.{program_of};
+ghost use Rattle.rp_run.specs.Told.{ToldRefusedRun};
 ghost use Rattle.rp_words.specs.Command.{run};
 ghost use Rattle.rp_words.specs.View.{run_view};
 
-use crate::admitting::admit;
+use crate::admitting::find_all_principals;
 use crate::declaring::read_declarations;
+use crate::keying::hold_each_once;
+use crate::loading::load_world;
 use crate::scripts::{compile_scripts, read_scripts};
 use crate::stop::Stop;
 use rp_base::{Files, Names};
-use rp_decl::Decl;
+use rp_compile::Compiled;
 use rp_interact::Interaction;
-use rp_tree::Tree;
+use rp_module::Loaded;
 use rp_words::Run;
 use std::alloc::Global;
 
-/// What a run has before its sessions: the records, the names that all was read into, and of each session its
-/// principals and the tree of its script.
+/// What a run has before its sessions: the world of the declarations with their module, among whose names are the words
+/// of the scripts, and of each session its principals and its script.
 #[derive(Drop)]
 pub struct Ready {
-    pub decl: Decl,
-    pub names: Names,
+    pub loaded: Loaded,
     pub whos: Vec<Interaction>,
-    pub trees: Vec<Tree>,
+    pub scripts: Vec<Compiled>,
 }
 
-/// Reads the files of a run, where no step refuses.
+/// Reads the files of a run and loads its declarations, where no step refuses.
 ///
 /// # Errors
 /// `Refused` with what is said at the first step that refuses, `Failed` where a read failed, `Memory` where a growth or
@@ -42,10 +41,8 @@ pub fn make_ready<F: Files>(alloc: Global, command: &Run, files: &mut F) -> Resu
     requires sound { F.faults files.old ≡ 0 }
     requires few { length command.now.pairs.items ≤ 16 }
 
-    ensures ready { IfOk result (λ x. IfSome (F.contents files.old) (λ of. IsReady (run_view command.now) of
-        (declarations_view x.names x.decl) (map (program_of x.names) x.trees.items))) }
-    ensures names { IfOk result (λ x. IfSome (F.contents files.old) (λ of. x.names
-        ≡ run_names (declarations_view x.names x.decl) (scripts_of (run_view command.now) of))) }
+    ensures ready { IfOk result (λ x. IfSome (F.contents files.old)
+        (λ of. IsReadyWith (run_view command.now) of x)) }
     ensures set_up { IfOk result (IsSetUp (run_view command.now)) }
     ensures refused { IfErr result (OnRefusal (λ a. IfSome (F.contents files.old)
         (λ of. ToldRefusedRun (run_view command.now) of a.text a.status.0))) }
@@ -62,14 +59,24 @@ pub fn make_ready<F: Files>(alloc: Global, command: &Run, files: &mut F) -> Resu
 {
     let mut names = Names::new(alloc, files.seed())?;
     let decl = read_declarations(alloc, &command.declarations, &mut names, files)?;
+    let loaded = load_world(alloc, decl, names, command.cells)?;
+    let Loaded {
+        mut world,
+        module,
+        layouts,
+    } = loaded;
     let pairs = command.pairs.as_slice();
-    let whos = admit(alloc, &decl, &names, pairs)?;
-    let scripts = read_scripts(alloc, pairs, files)?;
-    let trees = compile_scripts(alloc, scripts.as_slice(), &mut names)?;
+    let whos = find_all_principals(alloc, &world.decl, pairs)?;
+    let texts = read_scripts(alloc, pairs, files)?;
+    let scripts = compile_scripts(alloc, texts.as_slice(), &mut world.names)?;
+    hold_each_once(&world.names);
     Ok(Ready {
-        decl,
-        names,
+        loaded: Loaded {
+            world,
+            module,
+            layouts,
+        },
         whos,
-        trees,
+        scripts,
     })
 }

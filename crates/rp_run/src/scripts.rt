@@ -1,17 +1,15 @@
 //! The scripts of a run: all are read, and then all are compiled.
 
-ghost use Rattle.std.specs.Prelude.{◌≡◌, ◌≢◌, ◌<◌, ◌+◌, ◌++◌, [], IfErr, IfOk, IsErrOf, OnOk, fold, length, map};
+ghost use Rattle.std.specs.Prelude.{◌≡◌, ◌≢◌, ◌<◌, ◌+◌, ◌++◌, [], IfErr, IfOk, IsErrOf, OnOk, length, map};
 ghost use Rattle.std.specs.List.{All};
-ghost use Rattle.rp_base.specs.Names.{with_words};
+ghost use Rattle.rp_compile.specs.Compiled.{source_tree};
 ghost use Rattle.rp_decl.specs.Places.{GrowsTo};
+ghost use Rattle.rp_play.specs.Played.{source_text};
 ghost use Rattle.rp_program.specs.Leaves.{IsTreeHeld};
-ghost use Rattle.rp_program.specs.ProgramWords.{program_words};
 ghost use Rattle.rp_run.specs.Refusals.{AreWhole, OnRefusal, RefusesScripts, RefusesTooLong};
 ghost use Rattle.rp_run.specs.Steps.{Adds, BeginsSome, FailsAtScript, IsCommandStatus};
-ghost use Rattle.rp_run.specs.Told.{Compiles, script_prefix};
-ghost use Rattle.rp_run.specs.View.{program_of};
+ghost use Rattle.rp_run.specs.Told.{Compiles, names_behind, script_prefix};
 ghost use Rattle.rp_script.specs.Refusal.{refusal_lines};
-ghost use Rattle.rp_tree.specs.StatementViews.{view_tree};
 ghost use Rattle.rp_words.specs.View.{pair_view};
 
 use crate::answer::{Answer, script_prefix};
@@ -19,8 +17,8 @@ use crate::keying;
 use crate::reading::read_short;
 use crate::stop::Stop;
 use rp_base::{Files, Memory, Names, Printed, Status};
+use rp_compile::Compiled;
 use rp_script::Refusal;
-use rp_tree::Tree;
 use rp_words::Pair;
 use std::alloc::Global;
 
@@ -59,8 +57,8 @@ pub fn read_scripts<F: Files>(
     Ok(all)
 }
 
-/// The trees of scripts, where the bytes of each are a program that no offence stands against. Their names are put to
-/// `names`.
+/// Scripts as they will run, where the bytes of each are a program that no offence stands against. Their names are put
+/// to `names`.
 ///
 /// # Errors
 /// `Refused` where some are not, with what is said of each of these; `Memory` where a growth was refused.
@@ -68,18 +66,17 @@ pub fn compile_scripts(
     alloc: Global,
     scripts: &[Vec<u8>],
     names: &mut Names,
-) -> Result<Vec<Tree>, Stop>
-    ensures compiled { IfOk result (λ trees. Compiles 1 (map (λ bytes. bytes.items) scripts.now)
-        (map (program_of names.new) trees.items) []) }
-    ensures count { IfOk result (λ trees. length trees.items ≡ length scripts.now) }
-    ensures held { IfOk result (λ trees. All (λ tree. IsTreeHeld names.new (view_tree tree)) trees.items) }
-    ensures words { OnOk result (names.new ≡ fold (λ words bytes. with_words words (program_words bytes)) names.old
-        (map (λ bytes. bytes.items) scripts.now)) }
+) -> Result<Vec<Compiled>, Stop>
+    ensures compiled { IfOk result (λ all. Compiles 1 (map (λ bytes. bytes.items) scripts.now)
+        (map (source_text names.new) all.items) []) }
+    ensures count { IfOk result (λ all. length all.items ≡ length scripts.now) }
+    ensures held { IfOk result (λ all. All (λ script. IsTreeHeld names.new (source_tree script)) all.items) }
+    ensures words { OnOk result (names.new ≡ names_behind names.old (map (λ bytes. bytes.items) scripts.now)) }
     ensures names { GrowsTo names.old names.new }
     ensures refused { IfErr result (OnRefusal (RefusesScripts (map (λ bytes. bytes.items) scripts.now))) }
     ensures unfailed { IfErr result (λ stop. stop ≢ Stop.Failed) }
 {
-    let mut trees = Vec::new(alloc);
+    let mut all = Vec::new(alloc);
     let mut said = Printed::new(alloc);
     for (place, bytes) in scripts.iter().enumerate() {
         add_script(
@@ -87,7 +84,7 @@ pub fn compile_scripts(
             place + 1,
             bytes.as_slice(),
             names,
-            &mut trees,
+            &mut all,
             &mut said,
         )?;
     }
@@ -97,26 +94,25 @@ pub fn compile_scripts(
             status: Status(4),
         }));
     }
-    Ok(trees)
+    Ok(all)
 }
 
-/// Puts the tree of a script to the trees, or what is said of it to what is said. It is refused only for want of
-/// memory.
+/// Puts a script to the compiled ones, or what is said of it to what is said. It is refused only for want of memory.
 fn add_script(
     alloc: Global,
     number: usize,
     bytes: &[u8],
     names: &mut Names,
-    trees: &mut Vec<Tree>,
+    all: &mut Vec<Compiled>,
     said: &mut Printed,
 ) -> Result<(), Memory>
-    ensures added { OnOk result (Adds number bytes.now names.old names.new trees.old.items trees.new.items
+    ensures added { OnOk result (Adds number bytes.now names.old names.new all.old.items all.new.items
         said.old said.new) }
     ensures names { GrowsTo names.old names.new }
 {
-    match keying::read_script(alloc, bytes, names) {
-        Ok(tree) => {
-            trees.push(tree)?;
+    match keying::compile_script(alloc, bytes, names) {
+        Ok(script) => {
+            all.push(script)?;
             Ok(())
         }
         Err(refusal) => add_refusal(alloc, number, &refusal, names, said),

@@ -10,8 +10,8 @@ ghost use Rattle.rp_session.specs.View.{session_view, sessions_view};
 ghost use Rattle.rp_trail.specs.View.{IsEntryHeld, trail_view};
 ghost use Rattle.rp_words.specs.View.{pair_view, run_view};
 
-use crate::answer::{Answer, add_ascii, add_number, add_session, end_status};
-use rp_base::{Memory, Printed, Status};
+use crate::answer::{Answer, add_number, add_session, end_status};
+use rp_base::{Memory, Printed, Status, add_ascii};
 use rp_proxy::World;
 use rp_session::{Session, Sessions};
 use rp_trail::Trail;

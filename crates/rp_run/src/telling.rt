@@ -15,10 +15,10 @@ ghost use Rattle.rp_words.specs.Command.{may};
 ghost use Rattle.rp_words.specs.View.{may_view};
 
 use crate::admitting::find_principals;
-use crate::answer::{Answer, add_ascii};
+use crate::answer::Answer;
 use crate::declaring::read_declarations;
 use crate::stop::Stop;
-use rp_base::{Files, Memory, Names, Printed, Status, Text};
+use rp_base::{Files, Memory, Names, Printed, Status, Text, add_ascii};
 use rp_decl::{Decl, Perm};
 use rp_interact::{Interaction, Reason};
 use rp_words::May;

@@ -1,126 +1,64 @@
--- The laws of completeness: what is told to the same words and contents is told once, but for what is not run yet.
-use Rattle.std.proofs.Common.{◌≡◌, ◌≢◌, ◌∙◌, ◌⊎◌, inl, inr, refl, sym, subst, ℕ, Bool, true, false, if◌then◌else◌, List}
-use Rattle.std.proofs.Common.{Option, Some, None, MatchOption, arith}
+-- The laws of completeness: what is told to the same words and contents is told once.
+use Rattle.std.proofs.Common.{◌≡◌, ◌⊎◌, inl, inr, refl, sym, subst, ℕ, Bool, true, false, if◌then◌else◌, List, Option}
+use Rattle.std.proofs.Common.{◌++◌, ◌-◌, [], MatchOption, Some, length, map}
 use Rattle.std.proofs.Math.Dec.{eqb}
 use Rattle.std.proofs.lemmas.Bool.{eqb-false, eqb-true}
-use Rattle.rp_decl.specs.Records.{Declarations}
-use Rattle.rp_run.specs.Headline.{Writes}
-use Rattle.rp_run.specs.Output.{Finished, run_status, run_text, some_ends}
+use Rattle.rp_meaning.specs.Frame.{Run as Frame}
+use Rattle.rp_meaning.specs.Sessions.{World}
+use Rattle.rp_module.specs.Runs.{run_of}
+use Rattle.rp_play.specs.Played.{Plays, played_from}
+use Rattle.rp_run.specs.Headline.{TellsWhole, Writes}
+use Rattle.rp_run.specs.Output.{as_told, may_status, may_text, run_status, run_text, some_ends, used_lines}
 use Rattle.rp_run.specs.Told as told
-use Rattle.rp_run.specs.Told.{MayComeInstead, Told, ToldCommand}
-use Rattle.rp_run.proofs.Determined.{ready-once, refused-or-ready, told-once}
-use Rattle.rp_run_laws.specs.Completeness.{Answers, Comes, EachEndHasItsStatus, EachOtherRunComes, EachQuestionComes}
-use Rattle.rp_run_laws.specs.Completeness.{EachRefusalComes, EachRunComes, EachScriptComes, IsEndStatus}
-use Rattle.rp_tree.specs.StatementTrees.{Stmts}
-use Rattle.rp_words.specs.Command.{Command, Run, command_of, run, script, may, usage}
+use Rattle.rp_run.specs.Told.{Told, ToldCommand, ToldLarge, ToldRun, large_contents, large_lines, large_pair, large_run}
+use Rattle.rp_run.specs.Told.{read_into, said_to, scripts_of}
+use Rattle.rp_run_laws.proofs.Determined.{told-once, told-played}
+use Rattle.rp_run_laws.proofs.Beginnings.{fresh-world, numbered-all}
+use Rattle.rp_run_laws.proofs.Endings.{ends-all, one-played, the-one, told-all}
+use Rattle.rp_run_laws.specs.Completeness.{Answers, Comes, EachEndHasItsStatus, EachLargeComes, EachQuestionComes}
+use Rattle.rp_run_laws.specs.Completeness.{EachRefusalComes, EachRunComes, EachRunEnds, EachScriptComes}
+use Rattle.rp_run_laws.specs.Completeness.{EachLargeIsTold, EachReadyIsTold, EachTellingComes, IsEndStatus, IsToldOnce}
+use Rattle.rp_words.specs.Command.{Command, Pair, command_of, large, run, script, may, usage}
 
-one_run : (o : Option Command) (q r : Run) → o ≡ Some (run q) → o ≡ Some (run r) → q ≡ r
-one_run o q r a b = let both : ◌≡◌ {A = Option Command} (Some (run q)) (Some (run r)) = sym a ∙ b in cc
+pub is-told_once : IsToldOnce
+is-told_once words contents text status other_text other x y =
+    told-once words contents text status other_text other x y
 
-no_script : (o : Option Command) (c : Command) (r : Run) → o ≡ Some c → o ≡ Some (run r) → c ≡ run r
-no_script o c r a b = let both : ◌≡◌ {A = Option Command} (Some c) (Some (run r)) = sym a ∙ b in cc
+-- what is told to words, or to the command that they give
+abbrev Tells : Option Command → (List ℕ → List ℕ) → List ℕ → ℕ → Type 0
+Tells o contents text status =
+    MatchOption o ((text ≡ usage) × (status ≡ 2)) (λ command. ToldCommand command contents text status)
 
-module _ (words : List (List ℕ)) (contents : List ℕ → List ℕ) (status : ℕ) (old new : Option (List ℕ)) where
-  -- what is told to a command is told to its words
-  to_words : (command : Command) → command_of words ≡ Some command → (text : List ℕ) (wanted : ℕ)
-      → ToldCommand command contents text wanted → Told words contents text wanted
-  to_words command is text wanted tells =
-      subst (λ o. MatchOption o ((text ≡ usage) × (wanted ≡ 2)) (λ command. ToldCommand command contents text wanted))
-      (sym is) tells
+module _ (words : List (List ℕ)) (contents : List ℕ → List ℕ) (status : ℕ) (old new : Option (List ℕ))
+    (answers : Answers words contents status old new) where
+  -- memory was wanting, or the whole of what is told was written
+  says : (status ≡ 8) ⊎ TellsWhole words status contents old new
+  says = by (eqb status 8) refl where
+    by : (b : Bool) → eqb status 8 ≡ b → (status ≡ 8) ⊎ TellsWhole words status contents old new
+    by true e = inl (eqb-true status 8 e)
+    by false e = inr (answers.told (answers.read, answers.written, eqb-false status 8 e))
 
-  -- what is said where the machine lacks a form
-  abbrev Lacking : Type 0
-  Lacking = (text : List ℕ) × (MayComeInstead words contents text status × Writes text old new)
+  telling-comes : (text : List ℕ) (wanted : ℕ) → Told words contents text wanted → Comes status old new text wanted
+  telling-comes text wanted tells = elim says [
+    | inl none ↦ inl none
+    | inr whole ↦
+        let same = told-once words contents whole.0 status text wanted whole.1.0 tells in
+        inr (same.1, subst (λ t. Writes t old new) same.0 whole.1.1)
+  ]
 
-  -- so it is what is written, unless memory was wanting, or one of both may come instead
-  comes_or : Answers words contents status old new → (command : Command) → command_of words ≡ Some command
-      → (text : List ℕ) (wanted : ℕ) → ToldCommand command contents text wanted
-      → Comes status old new text wanted ⊎ (Lacking ⊎ MayComeInstead words contents text wanted)
-  comes_or answers command is text wanted tells = by (eqb status 8) refl where
-    by : (b : Bool) → eqb status 8 ≡ b → Comes status old new text wanted
-        ⊎ (Lacking ⊎ MayComeInstead words contents text wanted)
-    by true e = inl (inl (eqb-true status 8 e))
-    by false e =
-        let whole = answers.told (answers.read, answers.written, eqb-false status 8 e) in
-        elim (told-once words contents whole.0 status text wanted whole.1.0 (to_words command is text wanted tells)) [
-          | inl same ↦ inl (inr (same.1, subst (λ t. Writes t old new) same.0 whole.1.1))
-          | inr other ↦ elim other [ inl left ↦ inr (inl (whole.0, (left, whole.1.1))) | inr right ↦ inr (inr right) ]
-        ]
+  -- what is told to their command is told to the words
+  command-comes : (command : Command) → command_of words ≡ Some command → (text : List ℕ) (wanted : ℕ)
+      → ToldCommand command contents text wanted → Comes status old new text wanted
+  command-comes command is text wanted tells =
+      telling-comes text wanted (subst (λ (o : Option Command). Tells o contents text wanted) (sym is) tells)
 
-  -- where nothing may come instead
-  comes : ((text : List ℕ) (wanted : ℕ) → ¬ MayComeInstead words contents text wanted)
-      → Answers words contents status old new → (command : Command) → command_of words ≡ Some command
-      → (text : List ℕ) (wanted : ℕ) → ToldCommand command contents text wanted → Comes status old new text wanted
-  comes none answers command is text wanted tells =
-      elim (comes_or answers command is text wanted tells) [
-        | inl good ↦ good
-        | inr other ↦ elim other [
-          | inl left ↦ absurd (none left.0 status left.1.0)
-          | inr right ↦
-              absurd (none text wanted right)
-        ]
-      ]
-
--- a run that may be said not to run yet is ready
-its_run : (words : List (List ℕ)) (contents : List ℕ → List ℕ) (r : Run) (text : List ℕ) (wanted : ℕ)
-    → command_of words ≡ Some (run r) → MayComeInstead words contents text wanted → told.IsNotYet r contents text wanted
-its_run words contents r text wanted is instead =
-    subst (λ (q : Run). told.IsNotYet q contents text wanted)
-    (one_run (command_of words) instead.0 r instead.1 is) instead.2
+pub each_telling-comes : EachTellingComes
+each_telling-comes words contents status old new answers text wanted tells =
+    telling-comes words contents status old new answers text wanted tells
 
 pub each_refusal-comes : EachRefusalComes
 each_refusal-comes words contents status old new answers r is text wanted refuses =
-    comes words contents status old new
-    (λ other status instead.
-    let lacks = its_run words contents r other status is instead in
-    refused-or-ready r contents text wanted lacks.declarations lacks.trees refuses lacks.ready)
-    answers (run r) is text wanted (told.ToldRun.refused refuses)
-
-pub each_run-comes : EachRunComes
-each_run-comes words contents status old new answers r is d trees ready p source first =
-    comes words contents status old new
-    (λ text wanted instead.
-    let lacks = its_run words contents r text wanted is instead in
-    let same = ready-once r contents lacks.declarations d lacks.trees trees lacks.ready ready in
-    let none =
-    subst (λ (e : Declarations). told.IsNoFirst r e trees) same.0
-    (subst (λ (ts : List (Stmts (List ℕ))). told.IsNoFirst r lacks.declarations ts) same.1 lacks.other) in
-    none p source first)
-    answers (run r) is _ _ (told.ToldRun.played d trees ready (told.ToldPlayed.first p source first refl refl))
-
--- no run of which all sessions have ended ends with 4
-by_status : (stopped raised : Bool) → ◌≡◌ {A = ℕ} (if stopped then 5 else (if raised then 1 else 0)) 4 → ⊥
-by_status true raised e = omega arith
-by_status false true e = omega arith
-by_status false false e = omega arith
-
-not_four : (sessions : List Finished) → run_status sessions ≡ 4 → ⊥
-not_four sessions e = by_status (some_ends 5 sessions) (some_ends 1 sessions) e
-
-pub each_other_run-comes : EachOtherRunComes
-each_other_run-comes words contents status old new answers r is d trees ready other sessions log plays =
-    elim (comes_or words contents status old new answers (run r) is (run_text r sessions log) (run_status sessions)
-    (told.ToldRun.played d trees ready (told.ToldPlayed.ran other sessions log plays refl refl))) [
-      | inl good ↦ inl good
-      | inr rest ↦ elim rest [
-        | inl left ↦
-            let lacks = its_run words contents r left.0 status is left.1.0 in
-            inr (lacks.script, (lacks.first, lacks.last, lacks.ends, subst (λ t. Writes t old new) lacks.said left.1.1))
-        | inr right ↦ absurd (not_four sessions right.2.ends)
-      ]
-    ]
-
-pub each_script-comes : EachScriptComes
-each_script-comes words contents status old new answers q path is short tree program lawful =
-    comes words contents status old new (λ text wanted instead. let both =
-    no_script (command_of words) (script q path) instead.0 is instead.1 in cc)
-    answers (script q path) is _ _ (told.ToldScript.accepted short tree program lawful refl refl)
-
-pub each_question-comes : EachQuestionComes
-each_question-comes words contents status old new answers m is d read known declared =
-    comes words contents status old new (λ text wanted instead. let both =
-    no_script (command_of words) (may m) instead.0 is instead.1 in cc)
-    answers (may m) is _ _ (told.told d read known declared refl refl)
+    command-comes words contents status old new answers (run r) is text wanted (told.ToldRun.refused refuses)
 
 pub each_end-has_its_status : EachEndHasItsStatus
 each_end-has_its_status sessions = by (some_ends 5 sessions) (some_ends 1 sessions) where
@@ -128,3 +66,95 @@ each_end-has_its_status sessions = by (some_ends 5 sessions) (some_ends 1 sessio
   by true raised = inr (inr refl)
   by false true = inr (inl refl)
   by false false = inl refl
+
+pub each_run-ends : EachRunEnds
+each_run-ends words contents status old new answers r is d body w trees ready =
+    elim (says words contents status old new answers) [
+      | inl none ↦ inl none
+      | inr whole ↦
+          let tells : ToldCommand (run r) contents whole.0 status =
+          subst (λ (o : Option Command). Tells o contents whole.0 status) is whole.1.0 in
+          let played = told-played r contents whole.0 status d body w trees ready tells in
+          inr (subst IsEndStatus (sym played.ends) (each_end-has_its_status played.sessions))
+    ]
+
+pub each_run-comes : EachRunComes
+each_run-comes words contents status old new answers r is d body w trees ready sessions log plays =
+    command-comes words contents status old new answers (run r) is (run_text r sessions log) (run_status sessions)
+    (told.ToldRun.played d body w trees ready
+    (record { sessions = sessions; log = log; plays = plays; said = refl; ends = refl }))
+
+pub each_large-comes : EachLargeComes
+each_large-comes words contents status old new answers n is d body w trees ready last reaches session only all are =
+    command-comes words contents status old new answers (large n) is
+    (large_lines n ++ used_lines (large_run.steps - session.steps) last.store.used (length last.log)
+    ++ run_text large_run all last.log) (run_status all)
+    (told.ToldLarge.played d body w trees ready (record {
+      last = last;
+      reaches = reaches;
+      session = session;
+      only = only;
+      finished = all;
+      told = are;
+      said = refl;
+      ends = refl;
+    }))
+
+pub each_script-comes : EachScriptComes
+each_script-comes words contents status old new answers q path is short tree program lawful =
+    command-comes words contents status old new answers (script q path) is (said_to q tree) 0
+    (told.ToldScript.accepted short tree program lawful refl refl)
+
+pub each_question-comes : EachQuestionComes
+each_question-comes words contents status old new answers m is d read known declared =
+    command-comes words contents status old new answers (may m) is (may_text d m.ids m.permission)
+    (may_status d m.ids m.permission)
+    (told.ToldMay.told d read known declared refl refl)
+
+-- ---- there is always something to tell
+
+pub each_ready-told : EachReadyIsTold
+each_ready-told r contents d body w trees ready =
+    let v : World = read_into (scripts_of r contents) w in
+    let whos = map (λ (p : Pair). p.ids) r.pairs in
+    let none : v.sessions ≡ [] = fresh-world d r.cells body w ready.admitted.loaded in
+    let sources = numbered-all v.names trees in
+    let its_run : Frame = run_of v.names v.declarations body sources.0 in
+    let last : World = played_from its_run v whos r.turns r.steps in
+    let ended = told-all last.sessions (ends-all its_run whos r.turns r.steps v none) in
+    let plays : Plays v body trees whos r.turns r.steps (map as_told ended.0) last.log = record {
+      last = last;
+      reaches = record { scripts = sources.0; numbered = sources.1; comes = refl };
+      sessions = sym ended.1;
+      entries = refl;
+    } in
+    let tells : ToldRun r contents (run_text r ended.0 last.log) (run_status ended.0) =
+    told.ToldRun.played d body w trees ready
+    (record { sessions = ended.0; log = last.log; plays = plays; said = refl; ends = refl }) in
+    (run_text r ended.0 last.log, (run_status ended.0, tells))
+
+pub each_large-told : EachLargeIsTold
+each_large-told n d body w trees ready =
+    let r = large_run in
+    let v : World = read_into (scripts_of r (large_contents n)) w in
+    let whos = map (λ (p : Pair). p.ids) r.pairs in
+    let none : v.sessions ≡ [] = fresh-world d r.cells body w ready.admitted.loaded in
+    let sources = numbered-all v.names trees in
+    let its_run : Frame = run_of v.names v.declarations body sources.0 in
+    let last : World = played_from its_run v whos r.turns r.steps in
+    let ended = told-all last.sessions (ends-all its_run whos r.turns r.steps v none) in
+    let only = the-one last.sessions (one-played its_run large_pair.ids r.turns r.steps v none) in
+    let text = large_lines n ++ used_lines (r.steps - only.0.steps) last.store.used (length last.log)
+    ++ run_text r ended.0 last.log in
+    let tells : ToldLarge r (large_contents n) n text (run_status ended.0) =
+    told.ToldLarge.played d body w trees ready (record {
+      last = last;
+      reaches = record { scripts = sources.0; numbered = sources.1; comes = refl };
+      session = only.0;
+      only = only.1;
+      finished = ended.0;
+      told = ended.1;
+      said = refl;
+      ends = refl;
+    }) in
+    (text, (run_status ended.0, tells))

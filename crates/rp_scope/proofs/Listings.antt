@@ -1,5 +1,5 @@
 -- Which mentions are listed, of lists that are joined and of what stands within.
-use Rattle.std.proofs.Common.{◌≡◌, ℕ, List, [], ◌∷◌, ◌++◌, Option, Some, None, Result, Ok, Err, Vec, Global as Allocator, refl, ap, sym, ◌∙◌, append_assoc}
+use Rattle.std.proofs.Common.{◌≡◌, List, [], ◌∷◌, ◌++◌, Option, Some, None, Result, Ok, Err, Vec, Global as Allocator, refl, ap, sym, ◌∙◌, append_assoc}
 use Rattle.std.proofs.lemmas.List.{append-nil}
 use Rattle.std.specs.Prelude.{OnOk}
 use Rattle.rp_scope.specs.declared.mentions.Mention.{Mention}
@@ -80,8 +80,3 @@ on_ok_always (Err e) h = tt
 pub listed_four : {A : Type 0} (w : Listing) (xs ys zs ws : List (Mention A)) → listed w (xs ++ ys ++ zs ++ ws) ≡ listed w xs ++ listed w ys ++ listed w zs ++ listed w ws
 listed_four w xs ys zs ws =
     listed-append w (xs ++ ys ++ zs) ws ∙ ap (λ v. v ++ listed w ws) (listed-append w (xs ++ ys) zs ∙ ap (λ v. v ++ listed w zs) (listed-append w xs ys))
-
--- a list that grew four times
-pub grew : {B : Type 0} (old xs ys zs ws l1 l2 l3 l4 : List B) → l1 ≡ old ++ xs → l2 ≡ l1 ++ ys → l3 ≡ l2 ++ zs → l4 ≡ l3 ++ ws → l4 ≡ old ++ (xs ++ ys ++ zs ++ ws)
-grew old xs ys zs ws l1 l2 l3 l4 p q r u =
-    u ∙ (ap (λ v. v ++ ws) (r ∙ (ap (λ v. v ++ zs) (q ∙ (ap (λ v. v ++ ys) p ∙ append_assoc old xs ys)) ∙ append_assoc old (xs ++ ys) zs)) ∙ append_assoc old (xs ++ ys ++ zs) ws)

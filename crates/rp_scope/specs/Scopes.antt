@@ -1,9 +1,10 @@
 -- The scopes of a program as a table: for each code block, by its number, its local names, its `global` names, and the number of the block around it
 -- (Python Language Reference, Naming and binding). The program is block 0.
 -- Other way: Places says the same by the list of the blocks around, without numbers.
-use Rattle.std.specs.Prelude.{◌≡◌, ◌<◌, ℕ, zero, suc, ◌+◌, List, [], ◌∷◌, length, position, slice_get, Bool, ◌==◌, Option, Some, None, if◌then◌else◌, option_map, unwrap_or}
+use Rattle.std.specs.Prelude.{◌≡◌, ◌<◌, ℕ, zero, suc, ◌+◌, List, [], ◌∷◌, length, position, slice_get, ◌==◌, Option, Some, None, if◌then◌else◌, option_map, unwrap_or}
 use Rattle.std.specs.List.{list_any}
 use Rattle.std.specs.Option.{option_map_or}
+pub use Rattle.rp_base.specs.Names.{same_name}
 use Rattle.rp_base.specs.declared.value.Name.{Name}
 use Rattle.rp_tree.specs.Statements.{Stmts}
 use Rattle.rp_scope.specs.declared.place.Found.{Found}
@@ -18,9 +19,6 @@ pub record Scope : Type 0 where
   pub locals : List Name
   pub globals : List Name
   pub around : ℕ
-
-abbrev pub same_name : Name → Name → Bool
-same_name m n = m.0 == n.0
 
 -- the scope of a block that stands in the block with the number `around`
 unfoldable pub scope_in : ℕ → Block Name → Scope

@@ -18,11 +18,20 @@ use std::marker::Model;
 
 /// The code blocks of a program by their numbers, the program itself being 0 (Python Language Reference, Naming and
 /// binding).
-#[derive(Drop)]
 pub struct Layouts {
     scopes: Scopes,
     /// By the numbers of blocks: what each finds for the names that stand in it.
     tables: Vec<Table>,
+}
+
+// By hand, so that crates that drop one do not prove again how its parts are dropped.
+impl Drop for Layouts {
+    fn drop(self) {
+        let Layouts {
+            scopes: _,
+            tables: _,
+        } = self;
+    }
 }
 
 impl Model for Layouts {

@@ -1,33 +1,29 @@
 -- The laws that the scopes of a program are the same by text: places among words that hold each word once are the same where their words are.
-use Rattle.std.proofs.Common.{◌≡◌, ℕ, zero, suc, ◌<◌, Bool, true, false, cond, List, [], ◌∷◌, map, length, Option, Some, None, nat_eq, refl, sym, ap, ◌∙◌, eq-eqb, arith, slice_get}
+use Rattle.std.proofs.Common.{◌≡◌, ℕ, zero, suc, Bool, true, false, cond, List, [], ◌∷◌, map, length, Some, nat_eq, refl, sym, ap, ◌∙◌, eq-eqb}
 use Rattle.std.specs.List.{All}
 use Rattle.std.specs.Map.{lookup}
 use Rattle.std.specs.Option.{option_map_or}
-use Rattle.std.proofs.lemmas.Bool.{true≢false}
-use Rattle.std.proofs.lemmas.Bool.Decides.{nat_tests}
+use Rattle.std.proofs.lemmas.Bool.{eqb-true, true≢false}
 use Rattle.std.proofs.lemmas.List.{length-map}
 use Rattle.std.proofs.lemmas.List.Elements.{All-append, All-head, All-nil, All-tail, All-weaker}
 use Rattle.std.proofs.lemmas.Option.{slice_get-get_or}
-use Rattle.rp_base.proofs.Words.{same_text-equal, same_text-refl}
+use Rattle.rp_base.proofs.CallerLemmas.{same_text-equal, same_text-refl}
 use Rattle.rp_base.specs.Names.{HoldsEachOnce, word_of}
 use Rattle.rp_base.specs.Same.{same_text}
 use Rattle.rp_base.specs.declared.value.Name.{Name}
 use Rattle.rp_decl.specs.Places.{IsHeld}
 use Rattle.rp_tree.specs.StatementTrees.{Stmts}
 use Rattle.rp_tree.specs.Maps.{named, names_by}
-use Rattle.rp_scope.specs.Bindings.{Block, mentioned_name, once, program_names, stmts_mentions}
+use Rattle.rp_scope.specs.Bindings.{mentioned_name, once, program_names, stmts_mentions}
 use Rattle.rp_scope.specs.Blocks.{Nest, blocks}
 use Rattle.rp_scope.specs.Numbers.{block_count, block_numbers}
-use Rattle.rp_scope.specs.Places.{locals, nest_locals, nest_of, place, place_from}
-use Rattle.rp_scope.specs.Scopes.{AreScopesOf, same_name}
+use Rattle.rp_scope.specs.Places.{nest_locals, nest_of, place_from}
+use Rattle.rp_scope.specs.Scopes.{same_name}
 use Rattle.rp_scope.proofs.Mapped.{stmts_mapped}
 use Rattle.rp_scope.proofs.TableLaws.{scopes_are}
-use Rattle.rp_scope_laws.specs.ByText.{AreHeld, AreScopesByText, EachFindsItsNames, EachHasItsLocals, EachTableIsByText, IsBlockHeld, ScopesAreByText}
+use Rattle.rp_scope_laws.specs.ByText.{AreHeld, EachFindsItsNames, EachHasItsLocals, EachTableIsByText, IsBlockHeld, ScopesAreByText}
 use Rattle.rp_scope_laws.proofs.Alike.{IsBlockOf, local_names_alike, map_block, once_alike, place_from_alike}
 use Rattle.rp_scope_laws.proofs.Renamed.{blocks_named, program_named}
-
-one_number : (a b : ℕ) → nat_eq a b ≡ true → a ≡ b
-one_number a b e = grind (arith, nat_tests)
 
 -- to compare the words of names is to compare the names
 same_words : (words : List (List ℕ)) → HoldsEachOnce words → (a b : Name) → IsHeld words a → IsHeld words b → same_text (word_of words a) (word_of words b) ≡ same_name a b
@@ -36,7 +32,7 @@ same_words words once a b here there = by (same_name a b) refl (same_text (word_
     by : (c : Bool) → same_name a b ≡ c → (s : Bool) → same_text (word_of words a) (word_of words b) ≡ s → s ≡ c
     by true e true t = refl
     by true e false t =
-        let one : a.0 ≡ b.0 = one_number a.0 b.0 e in
+        let one : a.0 ≡ b.0 = eqb-true a.0 b.0 e in
         absurd (true≢false (sym (same_text-refl (word_of words a)) ∙ ap (λ (k : ℕ). same_text (word_of words a) (word_of words (record { 0 = k }))) one ∙ t))
     by false e false t = refl
     by false e true t =

@@ -3,12 +3,11 @@ use Rattle.std.proofs.Common.{◌≡◌, refl, ap, ◌∙◌, ℕ, ◌+◌, ◌<
 use Rattle.std.specs.List.{flat_map}
 use Rattle.std.proofs.lemmas.Grind.{flat_map-append}
 use Rattle.std.proofs.lemmas.List.{take_more}
-use Rattle.std.proofs.lemmas.Str.{chars-IsAscii}
-use Rattle.rp_program.proofs.Texts.{tested_ascii}
+use Rattle.rp_base.proofs.CallerLemmas.{chars-ascii}
 use Rattle.rp_script.specs.Refusal.{line}
 
 newline : chars (codes "\n") ≡ codes "\n"
-newline = chars-IsAscii (codes "\n") (tested_ascii (codes "\n") refl)
+newline = chars-ascii (codes "\n") refl
 
 joined : (a b c d : List ℕ) → ((a ++ b) ++ c) ++ d ≡ a ++ ((b ++ c) ++ d)
 joined a b c d = simp append_assoc refl

@@ -1,8 +1,7 @@
 //! Scripts from bytes.
 
 ghost use Rattle.std.specs.Prelude.{◌≡◌, ◌≢◌, ℕ, [], IfErr, IfOk, List, MatchResult, OnOk};
-ghost use Rattle.rp_base.specs.Names.{with_words, word_of};
-ghost use Rattle.rp_token.specs.Lexer.{IsGrown};
+ghost use Rattle.rp_base.specs.Names.{GrowsTo, with_words, word_of};
 ghost use Rattle.rp_tree.specs.Augmented.{AugmentsNames};
 ghost use Rattle.rp_tree.specs.Maps.{named};
 ghost use Rattle.rp_tree.specs.Marks.{HasNoGuards};
@@ -40,7 +39,7 @@ pub fn read_script(alloc: Global, bytes: &[u8], names: &mut Names) -> Result<Tre
     ensures unoffending { IfOk result (λ t. offences_by (word_of names.new) (view_tree t) ≡ []) }
     ensures unaugmented { IfOk result (λ t. AugmentsNames (view_tree t)) }
     ensures refused { IfErr result (λ r. r ≢ Refusal.Memory → IsRefused names.new bytes.now r) }
-    ensures names { IsGrown names.old names.new }
+    ensures names { GrowsTo names.old names.new }
     ensures words { OnOk result (names.new ≡ with_words names.old (program_words bytes.now)) }
 {
     let source = read_program(alloc, bytes, names)?;

@@ -34,6 +34,7 @@ use Rattle.rp_session.specs.declared.session.Session.{Session}
 use Rattle.rp_session.specs.declared.sessions.Sessions.{Sessions}
 use Rattle.rp_session.proofs.Lasting.{home-last}
 use Rattle.rp_session.proofs.Numbered.{numbered-last}
+use Rattle.rp_store.proofs.CallerLemmas.{slice_get-last}
 
 -- what the session of a number runs with at first
 abbrev pub first_running : ℕ → Interacting → ℕ → Running
@@ -89,13 +90,9 @@ begun base units w ks who steps n p at j v js number program world place list ru
 
 -- the object that stands last
 
-slice-last : (heap : List Owned) (o : Owned) → slice_get (heap ++ o ∷ []) (length heap) ≡ Some o
-slice-last [] o = refl
-slice-last (x ∷ xs) o = slice-last xs o
-
 scope-last : (heap : List Owned) (o : Owned) (at : Oid) → at.0 ≡ length heap → IsScope o.content → IsScopeOf (heap ++ o ∷ []) o.owner at
 scope-last heap o at place is =
-    let there : slice_get (heap ++ o ∷ []) at.0 ≡ Some o = ap (slice_get (heap ++ o ∷ [])) place ∙ slice-last heap o in
+    let there : slice_get (heap ++ o ∷ []) at.0 ≡ Some o = ap (slice_get (heap ++ o ∷ [])) place ∙ slice_get-last heap o in
     (subst (λ c. IsSomeAnd c IsScope) (sym (ap (option_map (λ (o : Owned). o.content)) there)) is, ap (option_map (λ (o : Owned). o.owner)) there)
 
 -- the world is as faithful with the scope

@@ -1,7 +1,7 @@
 pub mod Numbered
 mod Scripts
 mod Lasting
-mod Settled
+pub mod Settled
 mod Lent
 mod Turning
 mod Beginning

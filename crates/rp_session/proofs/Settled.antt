@@ -42,7 +42,7 @@ some_run = record {
   decide = decide;
 }
 
-does-keep : (xs : List Stmt) → Each (λ d. Keeping d) (map does.stmt xs)
+pub does-keep : (xs : List Stmt) → Each (λ d. Keeping d) (map does.stmt xs)
 unfolding does.stmt
 does-keep [] = tt
 does-keep (x ∷ xs) = (tree.statement (view_stmt x), does-keep xs)

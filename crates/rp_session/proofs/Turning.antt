@@ -4,7 +4,7 @@ use Rattle.std.specs.Prelude.{find}
 use Rattle.std.specs.List.{All}
 use Rattle.std.specs.declared.vec.Vec.{Vec}
 use Rattle.std.specs.declared.alloc.Global.{Global}
-use Rattle.std.proofs.Math.ListN.{get_or-map, length-set, set}
+use Rattle.std.proofs.Math.ListN.{drop_of_length-le, get_or-map, length-set, set}
 use Rattle.std.proofs.Math.Seq.{drop-cons}
 use Rattle.std.proofs.lemmas.List.{length-map, set-get_or}
 use Rattle.std.proofs.lemmas.List.Elements.{All-set}
@@ -169,3 +169,14 @@ four (Err e) f p q r s = tt
 pub on-err : {T E : Type 0} (r : Result T E) (P : Type 0) → P → OnErr r P
 on-err (Ok a) P p = tt
 on-err (Err e) P p = p
+
+-- where none is left, what is left comes to is the world itself
+
+pub turns-done : (run : Run) (listed : List ℕ) (i : ℕ) (w last : meant.World) → length listed ≤ i → turns run (drop i listed) w ≡ last → w ≡ last
+turns-done run listed i w last done left = ap (λ (ns : List ℕ). turns run ns w) (sym (drop_of_length-le listed done)) ∙ left
+
+pub turns_of-done : (run : Run) (left number : ℕ) (w last : meant.World) → left ≡ 0 → turns_of run left number w ≡ last → w ≡ last
+turns_of-done run left number w last done comes = ap (λ (i : ℕ). turns_of run i number w) (sym done) ∙ comes
+
+pub finished-done : (run : Run) (ks : List meant.Session) (i : ℕ) (w last : meant.World) → length ks ≤ i → finished run (drop i ks) w ≡ last → w ≡ last
+finished-done run ks i w last done left = ap (λ (ks : List meant.Session). finished run ks w) (sym (drop_of_length-le ks done)) ∙ left

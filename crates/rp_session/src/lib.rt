@@ -11,3 +11,4 @@ pub use session::Session;
 pub use session_end::SessionEnd;
 pub use session_halt::SessionHalt;
 pub use sessions::Sessions;
+pub use statement::run_statements;

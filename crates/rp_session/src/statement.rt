@@ -1,6 +1,6 @@
 //! Statements of programs.
 
-ghost use Rattle.std.specs.Prelude.{◌<◌, IfOk, OnOk, length};
+ghost use Rattle.std.specs.Prelude.{IfOk, OnOk};
 ghost use Rattle.rp_access.specs.Comes.{Comes};
 ghost use Rattle.rp_access.specs.Moment.{state_of};
 ghost use Rattle.rp_meaning.specs.Frame.{Run};
@@ -9,7 +9,7 @@ ghost use Rattle.rp_proxy.specs.Faithful.{IsFaithful};
 ghost use Rattle.rp_engine.specs.Codes.{AreIndexed};
 ghost use Rattle.rp_engine.specs.Does as does;
 ghost use Rattle.rp_step.specs.Left.{flows};
-ghost use Rattle.rp_engine.specs.Moment.{program_at, run_of};
+ghost use Rattle.rp_engine.specs.Moment.{run_of};
 ghost use Rattle.rp_store.specs.Kept.{IsScopeOf};
 ghost use Rattle.rp_store.specs.Shape.{KeepsShape};
 
@@ -28,7 +28,7 @@ const CALLS: usize = 1000;
 ///
 /// # Errors
 /// As those of `Runner::run_block`.
-pub(crate) fn run_statements<'u>(
+pub fn run_statements<'u>(
     alloc: Global,
     units: &'u Units<'u>,
     world: &mut World,
@@ -38,7 +38,6 @@ pub(crate) fn run_statements<'u>(
 ) -> Result<Result<Left, OpEnd>, Halt>
     requires faithful { IsFaithful world.old }
     requires scope { IsScopeOf world.old.store.heap side globals }
-    requires block { 0 < length (program_at units.now side).layouts }
     requires indexed { AreIndexed units.now }
     ensures law { IfOk result (λ end. (base : Run) → Comes (flows end) (state_of world.new)
         (does.block statements.now (program_frame (run_of base units.now) side globals) (state_of world.old))) }

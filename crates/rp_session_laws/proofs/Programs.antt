@@ -10,7 +10,7 @@ use Rattle.rp_store.specs.Object.{Content}
 use Rattle.rp_meaning.specs.Binding.{bind}
 use Rattle.rp_meaning.specs.Blocks.{Code, def, lambda}
 use Rattle.rp_meaning.specs.Frame.{Calls, Run}
-use Rattle.rp_meaning.specs.Running.{calls_within, code_called, frame_in, function_called, params_of, program_frame, slots_for, taken_all, value_of_code}
+use Rattle.rp_meaning.specs.Running.{calls_within, code_called, frame_in, function_called, params_of, program_frame, slots_for, slots_taken, taken_all, value_of_code}
 use Rattle.rp_meaning.specs.State.{heap_of}
 use Rattle.rp_session_laws.specs.Setting.{Setting, CallsKeep, FunctionsKeep, Keeping, ProgramsKeep, setting_of}
 use Rattle.rp_session_laws.proofs.Going as going
@@ -26,7 +26,7 @@ called : (run : Run) (calls : Calls) (k : Setting) → CallsKeep k calls → (si
 called run calls k c side number within defaults None at a s h = same h
 called run calls k c side number within defaults (Some code) at a s h =
     going.bind (op (bind side s.names (params_of code) defaults (taken_all (heap_of s) side a) s.plain) s h) (λ bound s h.
-    going.bind (op (plain.makes side (object.scope (Some number) (Some within) (slots_for ((run.programs side).layouts.locals number) bound)) s.plain) s h)
+    going.bind (op (plain.makes side (object.scope (Some number) (Some within) (slots_for ((run.programs side).layouts.locals number) (slots_taken (heap_of s) side bound))) s.plain) s h)
     (λ scope s h. code_keeps code k (frame_in run calls side number scope) c s h))
 
 function_keeps : (run : Run) (calls : Calls) (k : Setting) → CallsKeep k calls → (content : Option Content)

@@ -10,12 +10,12 @@ use Rattle.rp_base.specs.declared.value.Value.TheVariants as value
 use Rattle.rp_base.specs.declared.word.TheConstants.{STR}
 use Rattle.rp_base.specs.Names.{word_of}
 use Rattle.rp_ops.specs.Outcome as plain
-use Rattle.rp_ops.specs.Outcome.{End, raised, no_step, no_cell, gives, ends, raises, on_value}
+use Rattle.rp_ops.specs.Outcome.{End, raised, no_step, no_cell, gives, on_value}
 use Rattle.rp_ops.specs.Walk.{Cursor}
 use Rattle.rp_show.specs.Show.{show}
 use Rattle.rp_store.specs.Object as object
 use Rattle.rp_meaning.specs.Classes as classes
-use Rattle.rp_meaning.specs.Classes.{Methods, Part, method, other, part_done, methods_made, declared_at}
+use Rattle.rp_meaning.specs.Classes.{Methods, Part, method, other, part_done, methods_made, declared_at, functions_in}
 use Rattle.rp_meaning.specs.Exceptions as exception
 use Rattle.rp_meaning.specs.Exceptions.{Handler, after, finally, handled, kinds_named, matches, otherwise, raise_value, raise_again, takes_raised}
 use Rattle.rp_meaning.specs.Frame.{Meaning, Doing, bind_name, without_name}
@@ -233,4 +233,4 @@ made_keeps None n ms k f c s h = op (plain.makes f.side (object.class n false ms
 
 pub class : (n : Name) (ps : List Part) → Each PartKeeps ps → Keeping (classes.class n ps)
 class n ps i k f c s h = bind (methods_keep ps [] i k f c s h) (λ ms s h.
-    bind (made_keeps (declared_at f (word_of s.names n) s.declarations.classes) n ms k f c s h) (λ at s h. form.bound n (value.Ref at) k f c s h))
+    bind (made_keeps (declared_at f (heap_of s) (word_of s.names n) s.declarations.classes) n (functions_in (heap_of s) ms) k f c s h) (λ at s h. form.bound n (value.Ref at) k f c s h))

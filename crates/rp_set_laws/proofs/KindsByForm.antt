@@ -1,14 +1,12 @@
 -- The kind of a token by its form.
 use Rattle.std.proofs.Common.{◌≡◌, refl, sym, ap, ◌∙◌, true≢false, ℕ, Bool, true, false, List, codes, pos, negsuc}
 use Rattle.rp_more.specs.Forms.{is_keyword, is_mark}
+use Rattle.rp_more.specs.KindSteps.{is_colon, is_left_brace, is_right_brace}
+pub use Rattle.rp_more_laws.proofs.Spelled.{comma}
 use Rattle.rp_token.specs.Form.{keyword, mark}
 use Rattle.rp_token.specs.View.{form_view}
 use Rattle.rp_token.specs.declared.token.TokenKind.{TokenKind}
 use Rattle.rp_token.specs.declared.token.TokenKind.TheVariants as kind
-
-abbrev is_left_brace : TokenKind → Bool
-is_left_brace kind.LeftBrace = true
-is_left_brace k = false
 
 left_brace_form : (words : List (List ℕ)) (k : TokenKind) → is_mark (codes "{") (form_view words k) ≡ is_left_brace k
 left_brace_form words (kind.Int (pos n)) = refl
@@ -22,10 +20,6 @@ left_brace_kind k h = absurd (true≢false (sym h))
 pub left_brace : (words : List (List ℕ)) (k : TokenKind) → form_view words k ≡ mark (codes "{") → k ≡ kind.LeftBrace
 left_brace words k h = left_brace_kind k (sym (left_brace_form words k) ∙ ap (is_mark (codes "{")) h)
 
-abbrev is_right_brace : TokenKind → Bool
-is_right_brace kind.RightBrace = true
-is_right_brace k = false
-
 right_brace_form : (words : List (List ℕ)) (k : TokenKind) → is_mark (codes "}") (form_view words k) ≡ is_right_brace k
 right_brace_form words (kind.Int (pos n)) = refl
 right_brace_form words (kind.Int (negsuc n)) = refl
@@ -37,26 +31,6 @@ right_brace_kind k h = absurd (true≢false (sym h))
 
 pub right_brace : (words : List (List ℕ)) (k : TokenKind) → form_view words k ≡ mark (codes "}") → k ≡ kind.RightBrace
 right_brace words k h = right_brace_kind k (sym (right_brace_form words k) ∙ ap (is_mark (codes "}")) h)
-
-abbrev is_comma : TokenKind → Bool
-is_comma kind.Comma = true
-is_comma k = false
-
-comma_form : (words : List (List ℕ)) (k : TokenKind) → is_mark (codes ",") (form_view words k) ≡ is_comma k
-comma_form words (kind.Int (pos n)) = refl
-comma_form words (kind.Int (negsuc n)) = refl
-comma_form words k = refl
-
-comma_kind : (k : TokenKind) → is_comma k ≡ true → k ≡ kind.Comma
-comma_kind kind.Comma h = refl
-comma_kind k h = absurd (true≢false (sym h))
-
-pub comma : (words : List (List ℕ)) (k : TokenKind) → form_view words k ≡ mark (codes ",") → k ≡ kind.Comma
-comma words k h = comma_kind k (sym (comma_form words k) ∙ ap (is_mark (codes ",")) h)
-
-abbrev is_colon : TokenKind → Bool
-is_colon kind.Colon = true
-is_colon k = false
 
 colon_form : (words : List (List ℕ)) (k : TokenKind) → is_mark (codes ":") (form_view words k) ≡ is_colon k
 colon_form words (kind.Int (pos n)) = refl

@@ -2,7 +2,7 @@
 use Rattle.std.proofs.Common.{◌≡◌, refl, sym, ap, subst, ◌∙◌, ℕ, true, false, not, if◌then◌else◌, List, []}
 use Rattle.std.proofs.Common.{◌∷◌, ◌++◌, codes}
 use Rattle.rp_grammar.specs.Expressions as grammar
-use Rattle.rp_grammar.specs.Expressions.{Atom, IsExpr, Paired, Primary}
+use Rattle.rp_grammar.specs.Expressions.{IsExpr, Paired}
 use Rattle.rp_grammar.specs.Kinds.{Tokens, first, line_at, skip}
 use Rattle.rp_more.specs.Forms.{is_one_mark, placed}
 use Rattle.rp_more.specs.Sets.{Group, comprehension, display, group_of, innermost, is_asked, none_at, opened_behind}
@@ -12,6 +12,7 @@ use Rattle.rp_token.specs.declared.token.TokenKind.TheVariants as kind
 use Rattle.rp_tree.specs.Expressions as tree
 use Rattle.rp_tree.specs.declared.parts.Const.TheVariants as const
 use Rattle.rp_more_laws.specs.Sets.{HaveNones}
+use Rattle.rp_more_laws.proofs.Spelled.{expr_of}
 use Rattle.rp_set_laws.specs.Spelled.{Are, AreElements, EachComprehensionIsSpelled, EachSetIsSpelled, IsElement}
 use Rattle.rp_set_laws.specs.Spelled.{keys_of, last, last_form, more, nothing, separators}
 use Rattle.rp_set_laws.proofs.KindsByForm.{colon, comma, left_brace, nil, right_brace}
@@ -66,12 +67,6 @@ opening g opened before t ts f h =
     ∙ ap (λ g. t ∷ sets (g ∷ opened) (mark (codes "{")) ts) (sym (ap (λ f. group_of before f ts) f) ∙ h)
 
 -- ---- None
-
-expr_of : {x : tree.Expr} {ts us : Tokens} → Primary x ts us → IsExpr x ts us
-expr_of p =
-    grammar.unconditional (grammar.or_single (grammar.and_single (grammar.asserted (grammar.single (grammar.tighter
-    (grammar.tighter (grammar.tighter (grammar.tighter (grammar.tighter (grammar.tighter (grammar.operand
-    (grammar.unsigned (grammar.base p)))))))))))))
 
 abbrev none_tree : Tokens → tree.Expr
 none_tree ts = tree.node (line_at ts) (tree.const const.Nil)

@@ -1,6 +1,7 @@
+pub mod CallerLemmas
 mod Counted
 mod Escapes
-mod Lines
+pub mod Lines
 mod Marks
 mod Runs
 mod ShowExamples

@@ -2,7 +2,6 @@
 use Rattle.std.proofs.Common.{◌≡◌, ℕ, suc, ◌+◌, ◌≤◌, ◌<◌, Bool, true, false, nat_lt, List, [], ◌∷◌, ◌++◌, length, drop, get_or, append_assoc, append-nil, length-append, encode_utf8_all, Result, Ok, Err, IsErrAnd, if◌then◌else◌, refl, sym, ap, ◌∙◌, subst, arith}
 use Rattle.std.specs.Prelude.{encode_utf8}
 use Rattle.std.proofs.lemmas.Bool.{le-ltb, lt-ltb}
-use Rattle.std.proofs.lemmas.List.{drop_more}
 use Rattle.std.proofs.lemmas.Str.{encodes-append}
 use Rattle.rp_base.specs.declared.value.OpEnd.{OpEnd}
 use Rattle.rp_base.specs.declared.value.OpEnd.TheVariants as end
@@ -13,6 +12,8 @@ use Rattle.rp_show.specs.Show.{enclosed, followed, printed}
 use Rattle.rp_show.specs.ShowView.{Writes, added, moment}
 use Rattle.rp_show.specs.Prints.{Prints}
 use Rattle.rp_show.specs.declared.printer.Printer.{Printer}
+use Rattle.rp_ops.proofs.CallerLemmas.{meets-passes, used}
+use Rattle.rp_base.proofs.CallerLemmas.{drop_here}
 
 pub added-nil : (o : Outcome (List ℕ)) → added [] o ≡ o
 added-nil o = by o.answer o.state
@@ -47,10 +48,7 @@ on_ok l m s o next h = added-followed l o next ∙ ap (λ (x : Outcome (List ℕ
 -- ---- every other end passes through
 
 pub passes_on : (e : OpEnd) (s : State) (o : Outcome (List ℕ)) (go : List ℕ → State → Outcome (List ℕ)) → Meets {A = List ℕ} (Err e) s o → Meets {A = List ℕ} (Err e) s (on_value o go)
-passes_on (end.Raised r) s o go h = ap (λ (x : Outcome (List ℕ)). on_value x go) h
-passes_on end.StopSteps s o go h = ap (λ (x : Outcome (List ℕ)). on_value x go) h
-passes_on end.StopCells s o go h = ap (λ (x : Outcome (List ℕ)). on_value x go) h
-passes_on end.Memory s o go h = tt
+passes_on e s o go h = meets-passes {A = List ℕ} {B = List ℕ} e s o go h
 
 pub passes : (e : OpEnd) (l : List ℕ) (s : State) (o : Outcome (List ℕ)) (next : State → Outcome (List ℕ)) → Meets {A = List ℕ} (Err e) s (added l o) → Meets {A = List ℕ} (Err e) s (added l (followed o next))
 passes e l s o next h = subst (λ (x : Outcome (List ℕ)). Meets {A = List ℕ} (Err e) s x) (sym (added-followed l o next)) (passes_on e s (added l o) (λ t s. added t (next s)) h)
@@ -137,24 +135,18 @@ printed-within (c ∷ cs) s used e h =
 bytes_of_one : (c : ℕ) → length (encode_utf8 c) ≡ length (encode_utf8_all (c ∷ []))
 bytes_of_one c = ap length (sym (append-nil (encode_utf8 c)))
 
-abbrev used : Cells → ℕ → Cells
-used store cells = record store { used = store.used + cells }
-
 -- a text whose bytes are charged at once
 pub printed-fits : (t : List ℕ) (old new : Cells) (steps cells : ℕ) → cells ≡ length (encode_utf8_all t) → old.used + cells ≤ old.limit → new ≡ used old cells
     → printed t (state_of old steps) ≡ gives t (state_of new steps)
 printed-fits t old new steps cells e h same =
     printed-within t (state_of old steps) (old.used + cells) (ap (λ (n : ℕ). old.used + n) (sym e)) h ∙ ap (λ (x : Cells). gives t (state_of x steps)) (sym same)
 
-pub first_of_rest : {A : Type 0} (cs : List A) (n : ℕ) (c : A) → n < length cs → c ≡ get_or cs n c → drop n cs ≡ c ∷ drop (n + 1) cs
-first_of_rest cs n c lt e = drop_more cs n c lt ∙ ap (λ x. x ∷ drop (n + 1) cs) (sym e)
-
 -- the character at a place is charged
 pub printed-turn : (cs : List ℕ) (n c cells steps : ℕ) (old new : Cells) → n < length cs → c ≡ get_or cs n c → cells ≡ length (encode_utf8 c) → old.used + cells ≤ old.limit
     → new ≡ used old cells → printed (drop n cs) (state_of old steps) ≡ added (c ∷ []) (printed (drop (n + 1) cs) (state_of new steps))
 printed-turn cs n c cells steps old new lt e size h same =
     let bytes : cells ≡ length (encode_utf8_all (c ∷ [])) = size ∙ bytes_of_one c in
-    ap (λ (l : List ℕ). printed l (state_of old steps)) (first_of_rest cs n c lt e)
+    ap (λ (l : List ℕ). printed l (state_of old steps)) (drop_here cs n c lt e)
     ∙ printed-one c (drop (n + 1) cs) (state_of old steps) (subst (λ (k : ℕ). old.used + k ≤ old.limit) bytes h)
     ∙ ap (λ (k : ℕ). added (c ∷ []) (printed (drop (n + 1) cs) (state_of (used old k) steps))) (sym bytes)
     ∙ ap (λ (x : Cells). added (c ∷ []) (printed (drop (n + 1) cs) (state_of x steps))) (sym same)
@@ -162,7 +154,7 @@ printed-turn cs n c cells steps old new lt e size h same =
 pub printed-turn-over : (cs : List ℕ) (n c cells steps : ℕ) (old new : Cells) → n < length cs → c ≡ get_or cs n c → cells ≡ length (encode_utf8 c) → IsOver old cells
     → new ≡ old → printed (drop n cs) (state_of old steps) ≡ ends no_cell (state_of new steps)
 printed-turn-over cs n c cells steps old new lt e size h same =
-    ap (λ (l : List ℕ). printed l (state_of old steps)) (first_of_rest cs n c lt e)
+    ap (λ (l : List ℕ). printed l (state_of old steps)) (drop_here cs n c lt e)
     ∙ printed-over c (drop (n + 1) cs) (state_of old steps) (subst (λ (k : ℕ). IsOver old k) (size ∙ bytes_of_one c) h)
     ∙ ap (λ (x : Cells). ends no_cell (state_of x steps)) (sym same)
 

@@ -6,26 +6,18 @@ use Rattle.std.specs.List.{list_any, position_or_len}
 use Rattle.std.specs.Option.{option_map_or}
 use Rattle.std.specs.Str.{IsCharBoundary, chars}
 use Rattle.std.specs.Str.Pattern.{FindsChar}
-use Rattle.std.proofs.lemmas.Bool.{cases_lt, false≢true}
+use Rattle.std.proofs.lemmas.Bool.{cases_lt, false≢true, or_parts}
 use Rattle.std.proofs.lemmas.Bool.Decides.{eqb_tells, leb_tells}
 use Rattle.std.proofs.lemmas.List.Elements.{All-from_get_or}
 use Rattle.std.proofs.lemmas.List.Folds.{list_any-append, list_any_at, list_any_none}
-use Rattle.std.proofs.lemmas.List.{get_or-take, length-append, length-drop, length-take, nil_from_length, take-append-drop}
+use Rattle.std.proofs.lemmas.List.{get_or-take, length-append, length-drop, length-take, take-append-drop}
 use Rattle.std.proofs.lemmas.List.Sums.{fails_before_first, passes_at_first, prefix_len-le-length}
-use Rattle.std.proofs.lemmas.Str.{chars-append, chars-nil, chars_past_char, encode_ascii, encodes-chars, inside_one, IsCharBoundary-before_ascii, IsCharBoundary-end, IsUtf8-drop, IsUtf8-take}
+use Rattle.std.proofs.lemmas.Str.{chars-append, encode_ascii, encodes-chars, inside_one, IsCharBoundary-before_ascii, IsCharBoundary-end, IsUtf8-drop, IsUtf8-take}
 use Rattle.std.proofs.lemmas.Str.Pattern.{contains_char}
+use Rattle.std.proofs.Math.Bool.{or-false}
 use Rattle.rp_show.specs.EscapeSteps.{has_escape}
 use Rattle.rp_show.specs.Shown.{escaped, escaped_all, is_control}
 use Rattle.rp_show.proofs.Escapes.{escaped_all-append}
-
-or-none : (b : Bool) → (b || false) ≡ b
-or-none true = refl
-or-none false = refl
-
--- what a disjunction that fails says
-fails : (a b : Bool) → (a || b) ≡ false → (a ≡ false) × (b ≡ false)
-fails true b e = absurd (false≢true (sym e))
-fails false b e = (refl, e)
 
 -- a test that no character beyond ASCII passes, on the bytes of a text and on its characters
 module _ (p : ℕ → Bool) (high : (n : ℕ) → 128 ≤ n → p n ≡ false) where
@@ -40,7 +32,7 @@ module _ (p : ℕ → Bool) (high : (n : ℕ) → 128 ≤ n → p n ≡ false) w
 
   one : (c : ℕ) → list_any p (encode_utf8 c) ≡ p c
   one c = elim (cases_lt c 128) [
-    | inl low ↦ ap (list_any p) (encode_ascii c low) ∙ or-none (p c)
+    | inl low ↦ ap (list_any p) (encode_ascii c low) ∙ or-false (p c)
     | inr most ↦ beyond c most ∙ sym (high c most)
   ]
 
@@ -73,15 +65,15 @@ above n k e = elim (leb_tells (suc n) k) [
 -- a character without an escape is shown as it is
 plain_one : (q c : ℕ) → has_escape q c ≡ false → escaped q c ≡ c ∷ []
 plain_one q c none =
-    let outer = fails (is_control c || (c == 92)) (c == q) none in
-    let inner = fails (is_control c) (c == 92) outer.0 in
-    let most : 32 ≤ c = above c 32 (fails (nat_lt c 32) (c == 127) inner.0).0 in
+    let outer = or_parts (is_control c || (c == 92)) (c == q) none in
+    let inner = or_parts (is_control c) (c == 92) outer.0 in
+    let most : 32 ≤ c = above c 32 (or_parts (nat_lt c 32) (c == 127) inner.0).0 in
     rw (inner.1, outer.1, other c 10 (λ e. omega (arith, e, most)), other c 13 (λ e. omega (arith, e, most)), other c 9 (λ e. omega (arith, e, most)), inner.0) refl
 
 plain_all : (q : ℕ) (cs : List ℕ) → list_any (has_escape q) cs ≡ false → escaped_all q cs ≡ cs
 plain_all q [] none = refl
 plain_all q (c ∷ cs) none =
-    let both = fails (has_escape q c) (list_any (has_escape q) cs) none in
+    let both = or_parts (has_escape q c) (list_any (has_escape q) cs) none in
     ap (λ t. t ++ escaped_all q cs) (plain_one q c both.0) ∙ ap (λ t. c ∷ t) (plain_all q cs both.1)
 
 module _ (q : ℕ) (ascii : q < 128) where
@@ -139,18 +131,6 @@ escaped-turn q line run behind text parts plain =
 pub shorter-turn : (run behind text : List ℕ) → text ≡ run ++ behind → 0 < length text → length (drop 1 behind) < length text
 shorter-turn run behind text parts some = omega (arith, some, ap length parts, length-append run behind, length-drop 1 behind)
 
--- a text with bytes has characters
-pub some-chars : (bs : List ℕ) → IsUtf8 bs → 0 < length bs → 0 < length (chars bs)
-some-chars bs text some = by (chars bs) refl
-  where
-    by : (cs : List ℕ) → chars bs ≡ cs → 0 < length cs
-    by [] e = let none : [] ≡ bs = ap encode_utf8_all (sym e) ∙ encodes-chars bs text in absurd (omega (arith, ap length none))
-    by (c ∷ cs) e = omega arith
-
--- nothing is left
-pub no-chars : (bs : List ℕ) → length bs ≡ 0 → chars bs ≡ []
-no-chars bs e = let none = nil_from_length bs e in rw (none, chars-nil) refl
-
 -- whether a text contains an ASCII character
 pub contains-holds : (c : ℕ) (bs : List ℕ) (r : Bool) → IsUtf8 bs → c < 128
     → MatchBool r ((i : ℕ) × (j : ℕ) × FindsChar c bs (Some (i, j)) × (i ≤ j) × (j ≤ length bs)) (FindsChar c bs None) → r ≡ list_any (λ d. d == c) (chars bs)
@@ -185,10 +165,3 @@ first-none p bs r e f = elim (leb_tells (suc (position_or_len p bs)) (length bs)
   where
     some : None ≡ Some (position_or_len p bs) → ⊥
     some g = absurd (cc)
-
--- what stands behind the first character
-pub chars-behind : (bs rest : List ℕ) (c : ℕ) → IsUtf8 bs → bs ≡ encode_utf8 c ++ rest → chars rest ≡ drop 1 (chars bs)
-chars-behind bs rest c text e = sym (ap (drop 1) (chars_past_char bs rest c text e))
-
-pub chars-none : (bs : List ℕ) → length bs ≡ 0 → chars bs ≡ drop 1 (chars bs)
-chars-none bs e = rw (no-chars bs e) refl

@@ -9,8 +9,7 @@ ghost use Rattle.rp_show.specs.Prints.{Prints};
 
 use crate::brackets::{closing, opening};
 use crate::printer::Printer;
-use rp_base::{Name, Names, Oid, OpEnd};
-use rp_ops::word_of;
+use rp_base::{Name, Names, Oid, OpEnd, word_of};
 use rp_store::{Callee, Object, Store};
 
 /// Prints an object that is no container, by its name.

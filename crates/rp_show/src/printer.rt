@@ -1,5 +1,5 @@
 //! The text that grows while a value is shown.
-#![tactic(auto, using(rp_store::proofs::Shapes::goes_on))]
+#![tactic(auto, using(rp_store::proofs::CallerLemmas::goes_on))]
 
 ghost use Rattle.std.specs.Prelude.{◌≡◌, ℕ, List, [], chars};
 ghost use Rattle.std.specs.Option.{option_copied};

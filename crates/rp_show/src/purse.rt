@@ -1,5 +1,5 @@
 //! The cells that are used while a value is shown.
-#![tactic(auto, using(rp_store::proofs::Shapes::goes_on))]
+#![tactic(auto, using(rp_store::proofs::CallerLemmas::goes_on))]
 
 ghost use Rattle.std.specs.Prelude.{◌≡◌, ◌+◌, ◌<◌, ◌≤◌, ℕ, List, chars, false, true};
 ghost use Rattle.rp_show.specs.Show.{printed};

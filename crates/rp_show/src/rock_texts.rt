@@ -1,5 +1,5 @@
 //! Rocks as they are shown inside a container, written into a growing text.
-#![tactic(auto, using(rp_store::proofs::Shapes::goes_on))]
+#![tactic(auto, using(rp_store::proofs::CallerLemmas::goes_on))]
 
 ghost use Rattle.std.specs.Prelude.{◌≡◌, ◌<◌, ◌++◌, ◌∷◌, [], chars, drop, encode_utf8_all, if◌then◌else◌, length, take};
 ghost use Rattle.std.specs.Prelude.{IfOk, OnOk};

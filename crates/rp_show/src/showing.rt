@@ -1,5 +1,5 @@
 //! A value as its text: the walk over the containers within it.
-#![tactic(auto, using(rp_store::proofs::Shapes::goes_on))]
+#![tactic(auto, using(rp_store::proofs::CallerLemmas::goes_on))]
 
 ghost use Rattle.std.specs.Prelude.{◌≡◌, ◌≤◌, ℕ, [], ◌∷◌, ◌++◌, OnOk, map, reverse, true};
 ghost use Rattle.std.specs.Option.{option_copied};

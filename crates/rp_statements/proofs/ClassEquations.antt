@@ -1,5 +1,5 @@
 -- What `class` statements of the program's trees do, level by level.
-use Rattle.std.proofs.Common.{◌≡◌, List, [], ◌∷◌, map, Option, Some, None, Vec, Global, refl, ap, ◌∙◌}
+use Rattle.std.proofs.Common.{◌≡◌, List, [], ◌∷◌, map, Option, Some, Vec, Global, refl, ap, ◌∙◌}
 use Rattle.rp_base.specs.declared.operator.BinOp.{BinOp}
 use Rattle.rp_base.specs.declared.value.Line.{Line}
 use Rattle.rp_tree.specs.declared.expr.Expr.{Expr}
@@ -23,7 +23,6 @@ use Rattle.rp_meaning.specs.Classes.{method, other}
 use Rattle.rp_meaning.specs.Expressions as forms
 use Rattle.rp_meaning.specs.Meaning as meaning
 use Rattle.rp_meaning.specs.Statements as stmt_forms
-use Rattle.rp_engine.specs.ClassSteps.{name_of}
 use Rattle.rp_engine.specs.Does as does
 use Rattle.rp_statements.proofs.DefinitionEquations.{defaults_are}
 
@@ -58,97 +57,85 @@ pub part_pass : does.part_form stmt_form.Pass ≡ other stmt_forms.nothing
 unfolding does.part_form
 part_pass = ap meaning.class_part stmt_equations.stmt_pass
 
--- the name of the method that each makes, where it makes one
+-- what each other statement does
 
-pub names_expr : (e : Expr) → name_of (does.part_form (stmt_form.Expr e)) ≡ None
+pub part_assign : (v : Vec Place Global) (e : Expr) → does.part_form (stmt_form.Assign v e) ≡ other stmt_forms.nothing
 unfolding does.part_form
-names_expr e = ap (λ x. name_of (meaning.class_part x)) (stmt_equations.stmt_expr e)
+part_assign v e = ap meaning.class_part (stmt_equations.stmt_assign v e)
 
-pub names_assign : (v : Vec Place Global) (e : Expr) → name_of (does.part_form (stmt_form.Assign v e)) ≡ None
+pub part_unpack : (p : Target) (e : Expr) (g : Option Guard) → does.part_form (stmt_form.Unpack p e g) ≡ other stmt_forms.nothing
 unfolding does.part_form
-names_assign v e = ap (λ x. name_of (meaning.class_part x)) (stmt_equations.stmt_assign v e)
+part_unpack p e g = ap meaning.class_part (stmt_equations.stmt_unpack p e g)
 
-pub names_unpack : (p : Target) (e : Expr) (g : Option Guard) → name_of (does.part_form (stmt_form.Unpack p e g)) ≡ None
+pub part_aug : (p : Place) (op : BinOp) (at : Line) (e : Expr) (g : Option Guard) → does.part_form (stmt_form.Aug p op at e g) ≡ other stmt_forms.nothing
 unfolding does.part_form
-names_unpack p e g = ap (λ x. name_of (meaning.class_part x)) (stmt_equations.stmt_unpack p e g)
+part_aug p op at e g = ap meaning.class_part (stmt_equations.stmt_aug p op at e g)
 
-pub names_aug : (p : Place) (op : BinOp) (at : Line) (e : Expr) (g : Option Guard) → name_of (does.part_form (stmt_form.Aug p op at e g)) ≡ None
+pub part_del : (v : Vec Place Global) → does.part_form (stmt_form.Del v) ≡ other stmt_forms.nothing
 unfolding does.part_form
-names_aug p op at e g = ap (λ x. name_of (meaning.class_part x)) (stmt_equations.stmt_aug p op at e g)
+part_del v = ap meaning.class_part (stmt_equations.stmt_del v)
 
-pub names_del : (v : Vec Place Global) → name_of (does.part_form (stmt_form.Del v)) ≡ None
+pub part_break : does.part_form stmt_form.Break ≡ other stmt_forms.nothing
 unfolding does.part_form
-names_del v = ap (λ x. name_of (meaning.class_part x)) (stmt_equations.stmt_del v)
+part_break = ap meaning.class_part (stmt_equations.stmt_break)
 
-pub names_pass : name_of (does.part_form stmt_form.Pass) ≡ None
+pub part_continue : does.part_form stmt_form.Continue ≡ other stmt_forms.nothing
 unfolding does.part_form
-names_pass = ap (λ x. name_of (meaning.class_part x)) (stmt_equations.stmt_pass)
+part_continue = ap meaning.class_part (stmt_equations.stmt_continue)
 
-pub names_break : name_of (does.part_form stmt_form.Break) ≡ None
+pub part_return : (e : Option Expr) → does.part_form (stmt_form.Return e) ≡ other stmt_forms.nothing
 unfolding does.part_form
-names_break = ap (λ x. name_of (meaning.class_part x)) (stmt_equations.stmt_break)
+part_return e = ap meaning.class_part (stmt_equations.stmt_return e)
 
-pub names_continue : name_of (does.part_form stmt_form.Continue) ≡ None
+pub part_raise : (e : Option Expr) → does.part_form (stmt_form.Raise e) ≡ other stmt_forms.nothing
 unfolding does.part_form
-names_continue = ap (λ x. name_of (meaning.class_part x)) (stmt_equations.stmt_continue)
+part_raise e = ap meaning.class_part (stmt_equations.stmt_raise e)
 
-pub names_return : (e : Option Expr) → name_of (does.part_form (stmt_form.Return e)) ≡ None
+pub part_assert : (e : Expr) (m : Option Expr) → does.part_form (stmt_form.Assert e m) ≡ other stmt_forms.nothing
 unfolding does.part_form
-names_return e = ap (λ x. name_of (meaning.class_part x)) (stmt_equations.stmt_return e)
+part_assert e m = ap meaning.class_part (stmt_equations.stmt_assert e m)
 
-pub names_raise : (e : Option Expr) → name_of (does.part_form (stmt_form.Raise e)) ≡ None
+pub part_global : (v : Vec Named Global) → does.part_form (stmt_form.Global v) ≡ other stmt_forms.nothing
 unfolding does.part_form
-names_raise e = ap (λ x. name_of (meaning.class_part x)) (stmt_equations.stmt_raise e)
+part_global v = ap meaning.class_part (stmt_equations.stmt_global v)
 
-pub names_assert : (e : Expr) (m : Option Expr) → name_of (does.part_form (stmt_form.Assert e m)) ≡ None
+pub part_if : (v : Vec Branch Global) (m : Option (Vec Stmt Global)) → does.part_form (stmt_form.If v m) ≡ other stmt_forms.nothing
 unfolding does.part_form
-names_assert e m = ap (λ x. name_of (meaning.class_part x)) (stmt_equations.stmt_assert e m)
+part_if v m = ap meaning.class_part (stmt_equations.stmt_if v m)
 
-pub names_global : (v : Vec Named Global) → name_of (does.part_form (stmt_form.Global v)) ≡ None
+pub part_while : (e : Expr) (v : Vec Stmt Global) → does.part_form (stmt_form.While e v) ≡ other stmt_forms.nothing
 unfolding does.part_form
-names_global v = ap (λ x. name_of (meaning.class_part x)) (stmt_equations.stmt_global v)
+part_while e v = ap meaning.class_part (stmt_equations.stmt_while e v)
 
-pub names_if : (v : Vec Branch Global) (m : Option (Vec Stmt Global)) → name_of (does.part_form (stmt_form.If v m)) ≡ None
+pub part_for : (w : Walk) (v : Vec Stmt Global) → does.part_form (stmt_form.For w v) ≡ other stmt_forms.nothing
 unfolding does.part_form
-names_if v m = ap (λ x. name_of (meaning.class_part x)) (stmt_equations.stmt_if v m)
+part_for w v = ap meaning.class_part (stmt_equations.stmt_for w v)
 
-pub names_while : (e : Expr) (v : Vec Stmt Global) → name_of (does.part_form (stmt_form.While e v)) ≡ None
+pub part_try : (b : Vec Stmt Global) (hs : Vec Except Global) (m l : Option (Vec Stmt Global)) → does.part_form (stmt_form.Try b hs m l) ≡ other stmt_forms.nothing
 unfolding does.part_form
-names_while e v = ap (λ x. name_of (meaning.class_part x)) (stmt_equations.stmt_while e v)
+part_try b hs m l = ap meaning.class_part (stmt_equations.stmt_try b hs m l)
 
-pub names_for : (w : Walk) (v : Vec Stmt Global) → name_of (does.part_form (stmt_form.For w v)) ≡ None
+pub part_class : (n : Named) (v : Vec Stmt Global) → does.part_form (stmt_form.Class n v) ≡ other stmt_forms.nothing
 unfolding does.part_form
-names_for w v = ap (λ x. name_of (meaning.class_part x)) (stmt_equations.stmt_for w v)
+part_class n v = ap meaning.class_part (stmt_equations.stmt_class n v)
 
-pub names_try : (b : Vec Stmt Global) (hs : Vec Except Global) (m l : Option (Vec Stmt Global)) → name_of (does.part_form (stmt_form.Try b hs m l)) ≡ None
-unfolding does.part_form
-names_try b hs m l = ap (λ x. name_of (meaning.class_part x)) (stmt_equations.stmt_try b hs m l)
-
-pub names_def : (k : Block) (n : Named) (p : Params) (v : Vec Stmt Global) → name_of (does.part_form (stmt_form.Def k n p v)) ≡ Some n.name
-unfolding does.part_form
-names_def k n p v = ap (λ x. name_of (meaning.class_part x)) (stmt_equations.stmt_def k n p v)
-
-pub names_class : (n : Named) (v : Vec Stmt Global) → name_of (does.part_form (stmt_form.Class n v)) ≡ None
-unfolding does.part_form
-names_class n v = ap (λ x. name_of (meaning.class_part x)) (stmt_equations.stmt_class n v)
-
-pub ruleset part_forms = (
-  names_expr,
-  names_assign,
-  names_unpack,
-  names_aug,
-  names_del,
-  names_pass,
-  names_break,
-  names_continue,
-  names_return,
-  names_raise,
-  names_assert,
-  names_global,
-  names_if,
-  names_while,
-  names_for,
-  names_try,
-  names_def,
-  names_class,
+pub ruleset act_forms = (
+  part_def,
+  part_expr,
+  part_pass,
+  part_assign,
+  part_unpack,
+  part_aug,
+  part_del,
+  part_break,
+  part_continue,
+  part_return,
+  part_raise,
+  part_assert,
+  part_global,
+  part_if,
+  part_while,
+  part_for,
+  part_try,
+  part_class,
 )

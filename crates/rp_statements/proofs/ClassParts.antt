@@ -1,17 +1,18 @@
 -- `class` statements, from what is known of the statements of their blocks that are done.
-use Rattle.std.proofs.Common.{◌≡◌, ◌<◌, ◌≤◌, ℕ, zero, suc, ◌+◌, List, [], ◌∷◌, ◌++◌, drop, get_or, length, reverse, take, Option, Some, None, Result, refl, sym, ap, ◌∙◌, subst, arith}
-use Rattle.std.specs.Prelude.{All, Bool, OnOk, if◌then◌else◌, nat_lt, true, false}
-use Rattle.std.proofs.lemmas.List.{append-nil, append_assoc, at_drop_all, drop_more, reverse-reverse, take-append-drop}
-use Rattle.std.proofs.lemmas.List.Elements.{All-cons, All-head, All-tail}
+use Rattle.std.proofs.Common.{◌≡◌, ◌<◌, ◌≤◌, ℕ, zero, suc, ◌+◌, List, [], ◌∷◌, ◌++◌, drop, get_or, length, reverse, take, Option, Some, None, Result, Ok, Err, refl, sym, ap, ◌∙◌, subst, arith}
+use Rattle.std.specs.Prelude.{Bool, IfOk, IsSomeAnd, OnOk, if◌then◌else◌, is_some, nat_lt, true, false}
+use Rattle.std.proofs.lemmas.List.{at_drop_all, drop_more, take_all}
 use Rattle.rp_base.specs.declared.value.Name.{Name}
 use Rattle.rp_base.specs.declared.value.Oid.{Oid}
 use Rattle.rp_base.specs.declared.value.OpEnd.{OpEnd}
+use Rattle.rp_base.specs.declared.value.Side.{Side}
 use Rattle.rp_base.specs.declared.value.Value.{Value}
 use Rattle.rp_base.specs.declared.value.Value.TheVariants as value
 use Rattle.rp_base.specs.Names.{word_of}
 use Rattle.rp_dict.specs.Dict.{insert_entry}
+use Rattle.rp_frame.specs.Top.{below, top}
 use Rattle.rp_frame.specs.declared.task.Task.{Task}
-use Rattle.rp_meaning.specs.Classes.{Methods, Part, class_made, declared_at, method, methods_made, other, part_done}
+use Rattle.rp_meaning.specs.Classes.{Methods, Part, class_made, declared_at, functions_in, method, methods_made, other, part_done}
 use Rattle.rp_meaning.specs.Expressions as forms
 use Rattle.rp_meaning.specs.Frame.{Frame, Meaning, Run, bind_name}
 use Rattle.rp_meaning.specs.State.{State, Outcome, Flow, plainly}
@@ -19,9 +20,12 @@ use Rattle.rp_meaning.specs.Statements as stmt_forms
 use Rattle.rp_meaning.proofs.Laws.{then_then}
 use Rattle.rp_ops.specs.Outcome.{ends, gives, no_cell, on_value, with_change, with_used}
 use Rattle.rp_proxy.specs.declared.world.World.{World}
-use Rattle.rp_store.specs.Heap.{Names, Owned}
+use Rattle.rp_store.specs.Heap.{Names, Owned, content_at}
+use Rattle.rp_store.specs.Kept.{IsFit}
 use Rattle.rp_store.specs.Key.{same_name}
-use Rattle.rp_store.specs.Parts.{IsFunction}
+use Rattle.rp_store.specs.Object as object
+use Rattle.rp_store.specs.Object.{Content}
+use Rattle.rp_store.specs.Parts.{IsClass, IsScope}
 use Rattle.rp_store.specs.Writers.{with_methods}
 use Rattle.rp_tree.specs.declared.stmt.Stmt.{Stmt}
 use Rattle.rp_tree.specs.declared.stmt.StmtForm.{StmtForm}
@@ -30,7 +34,7 @@ use Rattle.rp_access.specs.Comes.{IsEnd}
 use Rattle.rp_access.specs.Moment.{state_of}
 use Rattle.rp_access.specs.Parts.{step_end}
 use Rattle.rp_access.proofs.Going.{IsEnd-same, IsEnd-then, gives-then, on_same}
-use Rattle.rp_engine.specs.ClassSteps.{class_behind, class_bound, class_with, count_of, held_methods, made_by, methods_by, name_of}
+use Rattle.rp_engine.specs.ClassSteps.{class_behind, class_bound, class_with, count_of, held_methods, made_by, name_of}
 use Rattle.rp_engine.specs.ComprehensionSteps.{place_at}
 use Rattle.rp_expressions.specs.Defining.{Defines}
 use Rattle.rp_engine.specs.DefinitionSteps.{with_defaults}
@@ -43,6 +47,7 @@ use Rattle.rp_statements.proofs.ClassEquations.{part_out}
 use Rattle.rp_expressions.proofs.Definings.{made_is}
 use Rattle.rp_engine.proofs.Lasts.{reverse_cons}
 use Rattle.rp_engine.proofs.Moves.{on_ok}
+use Rattle.rp_engine.proofs.Passing.{below_dropped}
 
 module _ (n : Name) (f : Frame) where
   -- the step of the next statement
@@ -87,26 +92,6 @@ parts_more (y ∷ ys) x = ap (λ ps. does.part y ∷ ps) (parts_more ys x)
 pub parts_done : (i j : ℕ) (x : Stmt) (xs ys : List Stmt) → j ≡ suc i → drop i xs ≡ x ∷ ys → reverse (does.parts (take j xs)) ≡ does.part x ∷ reverse (does.parts (take i xs))
 parts_done i j x xs ys next is =
     ap (λ k. reverse (does.parts (take k xs))) next ∙ ap (λ zs. reverse (does.parts zs)) (take_next i x xs ys is) ∙ ap reverse (parts_more (take i xs) x) ∙ reverse_last (does.parts (take i xs)) (does.part x)
-
-onto : {A : Type 0} (xs : List A) (x : A) (ys : List A) → reverse (x ∷ xs) ++ ys ≡ reverse xs ++ x ∷ ys
-onto xs x ys = ap (λ zs. zs ++ ys) (reverse_cons x xs) ∙ append_assoc (reverse xs) (x ∷ []) ys
-
--- the methods by all functions
-
-held_all : (ps qs : List Part) (us vs : List Value) → count_of ps ≡ length us → held_methods (reverse ps ++ qs) (reverse us ++ vs) ≡ methods_by ps us (held_methods qs vs)
-held_all [] qs [] vs is = refl
-held_all [] qs (u ∷ us) vs is = absurd (omega (arith, is))
-held_all (method n m ∷ ps) qs [] vs is = absurd (omega (arith, is))
-held_all (method n m ∷ ps) qs (u ∷ us) vs is =
-    let less : count_of ps ≡ length us = omega (arith, is) in
-    ap (λ xs. held_methods xs (reverse (u ∷ us) ++ vs)) (onto ps (method n m) qs) ∙ ap (held_methods (reverse ps ++ method n m ∷ qs)) (onto us u vs)
-    ∙ held_all ps (method n m ∷ qs) us (u ∷ vs) less
-held_all (other d ∷ ps) qs us vs is = ap (λ xs. held_methods xs (reverse us ++ vs)) (onto ps (other d) qs) ∙ held_all ps (other d ∷ qs) us vs is
-
-pub held_taken : (ps : List Part) (us vs : List Value) (i : ℕ) → us ≡ reverse (take i vs) → count_of ps ≡ length us → methods_by ps us [] ≡ held_methods (reverse ps) vs
-held_taken ps us vs i are counted =
-    sym (held_all ps [] us (drop i vs) counted) ∙ ap (λ xs. held_methods xs (reverse us ++ drop i vs)) (append-nil (reverse ps))
-    ∙ ap (held_methods (reverse ps)) (ap (λ us. reverse us ++ drop i vs) are ∙ ap (λ xs. xs ++ drop i vs) (reverse-reverse (take i vs)) ∙ take-append-drop i vs)
 
 renewed_by : (b : Bool) (at : Oid) (ms : Methods) (s : State)
     → on_value (plainly (λ p. if b then ends no_cell p else gives (tt {0}) (with_used p (p.store.used + length ms))) s) (λ _ s. gives at (record s { plain = with_change s.plain at (with_methods ms) }))
@@ -225,93 +210,133 @@ method_held m n w v r count k name ps before a z is next h =
     (subst (λ (z : Machine). OnOk r ((base : Run) → rest_of base n (state_of v) ≡ rest z.tasks (did (frame_in base z) (drop k z.values) (class_behind name ps (held_methods before z.values) (frame_in base z) (state_of w))))) is h)
 
 -- the class is made
-module _ (m : Machine) (w u : World) (name : Name) (ms : Methods) (o : Option Oid) (is : (base : Run) → o ≡ declared_at (frame_in base m) (word_of w.names name) (state_of w).declarations.classes) where
-  class_is : (base : Run) → class_bound name ms (frame_in base m) (state_of w) ≡ on_value (made_by m.frame.side o name ms (state_of w)) (λ at s. bind_name name (value.Ref at) (frame_in base m) s)
+module _ (m : Machine) (w u : World) (name : Name) (ms fs : Methods) (are : fs ≡ functions_in w.store.heap ms) (o : Option Oid)
+    (is : (base : Run) → o ≡ declared_at (frame_in base m) w.store.heap (word_of w.names name) (state_of w).declarations.classes) where
+  class_is : (base : Run) → class_bound name ms (frame_in base m) (state_of w) ≡ on_value (made_by m.frame.side o name fs (state_of w)) (λ at s. bind_name name (value.Ref at) (frame_in base m) s)
   class_is base =
-      ap (λ o. on_value (class_made o name ms (frame_in base m) (state_of w)) (λ at s. bind_name name (value.Ref at) (frame_in base m) s)) (sym (is base))
-      ∙ ap (λ x. on_value x (λ at s. bind_name name (value.Ref at) (frame_in base m) s)) (made_by_is o name ms (frame_in base m) (state_of w))
+      ap (λ o. on_value (class_made o name (functions_in w.store.heap ms) (frame_in base m) (state_of w)) (λ at s. bind_name name (value.Ref at) (frame_in base m) s)) (sym (is base))
+      ∙ ap (λ fs. on_value (class_made o name fs (frame_in base m) (state_of w)) (λ at s. bind_name name (value.Ref at) (frame_in base m) s)) (sym are)
+      ∙ ap (λ x. on_value x (λ at s. bind_name name (value.Ref at) (frame_in base m) s)) (made_by_is o name fs (frame_in base m) (state_of w))
 
-  pub class_gives : (at : Oid) → made_by m.frame.side o name ms (state_of w) ≡ gives at (state_of u) → (base : Run)
+  pub class_gives : (at : Oid) → made_by m.frame.side o name fs (state_of w) ≡ gives at (state_of u) → (base : Run)
       → class_bound name ms (frame_in base m) (state_of w) ≡ bind_name name (value.Ref at) (frame_in base m) (state_of u)
   class_gives at made base = class_is base ∙ gives-then at (state_of u) _ (λ at s. bind_name name (value.Ref at) (frame_in base m) s) made
 
-  pub class_ends : (e : OpEnd) → IsEnd e (state_of u) (made_by m.frame.side o name ms (state_of w)) → (base : Run)
+  pub class_ends : (e : OpEnd) → IsEnd e (state_of u) (made_by m.frame.side o name fs (state_of w)) → (base : Run)
       → IsEnd e (state_of u) (class_bound name ms (frame_in base m) (state_of w))
   class_ends e ended base = IsEnd-same e (state_of u) _ _ (class_is base) (IsEnd-then e (state_of u) _ (λ at s. bind_name name (value.Ref at) (frame_in base m) s) ended)
 
+-- a class that got other methods may be held by the trusted code that it is of
+
+class_sound : (o : Option Content) → IsSomeAnd o IsClass → IsSomeAnd o (λ c. ¬ IsScope c)
+class_sound None is = is
+class_sound (Some (object.list vs)) is = absurd is
+class_sound (Some (object.tuple vs)) is = absurd is
+class_sound (Some (object.dict es)) is = absurd is
+class_sound (Some (object.instance of fields)) is = absurd is
+class_sound (Some (object.class name declared methods)) is = λ scope. scope
+class_sound (Some (object.function name unit block within defaults)) is = absurd is
+class_sound (Some (object.method receiver called)) is = absurd is
+class_sound (Some (object.scope block parent slots)) is = absurd is
+
+pub renewed_fit : (heap : List Owned) (side : Side) (r : Result Oid OpEnd) (at : Oid) → side.0 ≡ 0 → Names heap IsClass at → IfOk r (λ same. same ≡ at)
+    → IfOk r (λ made. IsFit heap side (value.Ref made))
+renewed_fit heap side (Ok made) at trusted class is =
+    subst (λ (at : Oid). IsFit heap side (value.Ref at)) (sym is) (class_sound (content_at heap at) class, (λ script. absurd (script trusted)))
+renewed_fit heap side (Err e) at trusted class is = tt
+
 -- a statement of the block that makes no method, or one
 
-pub other_by : (p : Part) (ps : List Part) (vs : List Value) (ms : Methods) → name_of p ≡ None → methods_by (p ∷ ps) vs ms ≡ methods_by ps vs ms
-other_by (method n m) ps vs ms is = let k : Some n ≡ None = is in absurd (cc)
-other_by (other d) ps vs ms is = refl
+pub other_part : (p : Part) (ps : List Part) (vs : List Value) → name_of p ≡ None → held_methods (p ∷ ps) vs ≡ held_methods ps vs
+other_part (method n m) ps vs is = let k : Some n ≡ None = is in absurd (cc)
+other_part (other d) ps vs is = refl
 
-pub method_by : (p : Part) (ps : List Part) (n : Name) (v : Value) (vs : List Value) (ms : Methods) → name_of p ≡ Some n
-    → methods_by (p ∷ ps) (v ∷ vs) ms ≡ methods_by ps vs (insert_entry same_name ms n (place_at v))
-method_by (method x m) ps n v vs ms is =
-    let k : Some x ≡ Some n = is in let j : x ≡ n = cc in ap (λ n. methods_by ps vs (insert_entry same_name ms n (place_at v))) j
-method_by (other d) ps n v vs ms is = let k : None ≡ Some n = is in absurd (cc)
+method_part : (p : Part) (n : Name) (ps : List Part) (vs : List Value) → name_of p ≡ Some n
+    → held_methods (p ∷ ps) vs ≡ insert_entry same_name (held_methods ps (below vs)) n (place_at (top vs))
+method_part (method x m) n ps vs is =
+    let k : Some x ≡ Some n = is in
+    let j : x ≡ n = cc in
+    ap (λ n. insert_entry same_name (held_methods ps (below vs)) n (place_at (top vs))) j
+method_part (other d) n ps vs is = let k : None ≡ Some n = is in absurd (cc)
 
-pub other_counted : (p : Part) (ps : List Part) → name_of p ≡ None → count_of (p ∷ ps) ≡ count_of ps
-other_counted (method n m) ps is = let k : Some n ≡ None = is in absurd (cc)
-other_counted (other d) ps is = refl
+pub other_counted : (p : Part) → name_of p ≡ None → count_of (p ∷ []) ≡ 0
+other_counted (method n m) is = let k : Some n ≡ None = is in absurd (cc)
+other_counted (other d) is = refl
 
-pub method_counted : (p : Part) (ps : List Part) (n : Name) → name_of p ≡ Some n → count_of (p ∷ ps) ≡ suc (count_of ps)
-method_counted (method x m) ps n is = refl
-method_counted (other d) ps n is = let k : None ≡ Some n = is in absurd (cc)
+pub method_counted : (p : Part) (n : Name) → name_of p ≡ Some n → count_of (p ∷ []) ≡ 1
+method_counted (method x m) n is = refl
+method_counted (other d) n is = let k : None ≡ Some n = is in absurd (cc)
+
+pub some_counted : (p : Part) → is_some (name_of p) ≡ true → 1 ≡ count_of (p ∷ [])
+some_counted (method x m) is = refl
+some_counted (other d) is = let k : false ≡ true = is in absurd (cc)
+
+pub none_counted : (p : Part) → is_some (name_of p) ≡ false → 0 ≡ count_of (p ∷ [])
+none_counted (method x m) is = let k : true ≡ false = is in absurd (cc)
+none_counted (other d) is = refl
+
+pub counted_first : (ps : List Part) → 0 + count_of ps ≡ count_of ps
+counted_first ps = omega arith
+
+first_counted : (p : Part) (ps : List Part) → count_of (p ∷ ps) ≡ count_of (p ∷ []) + count_of ps
+first_counted (method n m) ps = omega arith
+first_counted (other d) ps = omega arith
+
+-- one function becomes a method; those of the statements behind stand upon it
+pub part_put : (p : Part) (n : Name) → name_of p ≡ Some n → (ps : List Part) (vs : List Value) (left behind : ℕ) (ms ns : Methods) (at : Oid) → left ≡ suc behind
+    → ms ≡ held_methods ps (drop left vs) → at ≡ place_at (top (drop behind vs)) → ns ≡ insert_entry same_name ms n at
+    → ns ≡ held_methods (p ∷ ps) (drop behind vs)
+part_put p n named ps vs left behind ms ns at next before place set =
+    set ∙ ap (λ ms. insert_entry same_name ms n at) (before ∙ ap (λ k. held_methods ps (drop k vs)) next ∙ ap (held_methods ps) (sym (below_dropped behind vs)))
+    ∙ ap (λ at. insert_entry same_name (held_methods ps (below (drop behind vs))) n at) place ∙ sym (method_part p n ps (drop behind vs) named)
 
 -- the methods of some statements, one after another
 
-module _ (xs : List Stmt) (i : ℕ) (x : Stmt) (within : i < length xs) (is : x ≡ get_or xs i x) where
+module _ (xs : List Stmt) (i : ℕ) (x : Stmt) (form : StmtForm) (within : i < length xs) (is : x ≡ get_or xs i x) (inner : form ≡ (out-Stmt x).form.value) where
   left_is : drop i xs ≡ x ∷ drop (i + 1) xs
   left_is = drop_more xs i x within ∙ ap (λ y. y ∷ drop (i + 1) xs) (sym is)
 
-pub methods_more : (xs : List Stmt) (i : ℕ) (x : Stmt) (form : StmtForm) (vs us : List Value) (ms ns all : Methods) → i < length xs → x ≡ get_or xs i x → form ≡ (out-Stmt x).form.value
-    → ((ps : List Part) → methods_by (does.part_form form ∷ ps) vs ms ≡ methods_by ps us ns)
-    → methods_by (does.parts (drop i xs)) vs ms ≡ all → methods_by (does.parts (drop (i + 1) xs)) us ns ≡ all
-methods_more xs i x form vs us ms ns all within is inner step before =
-    let rest = does.parts (drop (i + 1) xs) in
-    sym (step rest) ∙ ap (λ p. methods_by (p ∷ rest) vs ms) (ap (λ (z : StmtForm). does.part_form z) inner ∙ sym (part_out x)) ∙ ap (λ ys. methods_by (does.parts ys) vs ms) (sym (left_is xs i x within is)) ∙ before
+  part_same : does.part x ≡ does.part_form form
+  part_same = part_out x ∙ ap (λ (z : StmtForm). does.part_form z) (sym inner)
 
-pub more_counted : (xs : List Stmt) (i : ℕ) (x : Stmt) (form : StmtForm) (vs us fs : List Value) (total : ℕ) → i < length xs → x ≡ get_or xs i x → form ≡ (out-Stmt x).form.value
-    → ((ps : List Part) → count_of (does.part_form form ∷ ps) + length us ≡ count_of ps + length vs)
-    → count_of (does.parts (drop i xs)) + length fs ≡ total + length vs → count_of (does.parts (drop (i + 1) xs)) + length fs ≡ total + length us
-more_counted xs i x form vs us fs total within is inner step before =
-    let rest = does.parts (drop (i + 1) xs) in
-    let same : count_of (does.parts (drop i xs)) ≡ count_of (does.part_form form ∷ rest) =
-    ap (λ ys. count_of (does.parts ys)) (left_is xs i x within is) ∙ ap (λ p. count_of (p ∷ rest)) (part_out x ∙ ap (λ (z : StmtForm). does.part_form z) (sym inner)) in
-    omega (arith, same, step rest, before)
+  pub counted_next : count_of (does.parts (drop i xs)) ≡ count_of (does.part_form form ∷ []) + count_of (does.parts (drop (i + 1) xs))
+  counted_next =
+      ap (λ ys. count_of (does.parts ys)) left_is ∙ ap (λ p. count_of (p ∷ does.parts (drop (i + 1) xs))) part_same
+      ∙ first_counted (does.part_form form) (does.parts (drop (i + 1) xs))
+
+  pub part_room : (left : ℕ) → left ≡ count_of (does.parts (drop i xs)) → count_of (does.part_form form ∷ []) ≤ left
+  part_room left e = omega (arith, counted_next, e)
+
+  pub part_left : (left behind : ℕ) → left ≡ count_of (does.parts (drop i xs)) → left ≡ count_of (does.part_form form ∷ []) + behind
+      → behind ≡ count_of (does.parts (drop (i + 1) xs))
+  part_left left behind e more = omega (arith, counted_next, e, more)
+
+  pub part_held : (ms : Methods) (vs : List Value) → ms ≡ held_methods (does.part_form form ∷ reverse (does.parts (take i xs))) vs
+      → ms ≡ held_methods (reverse (does.parts (take (i + 1) xs))) vs
+  part_held ms vs e =
+      e ∙ ap (λ ps. held_methods ps vs) (ap (λ p. p ∷ reverse (does.parts (take i xs))) (sym part_same) ∙ sym (parts_done i (i + 1) x xs (drop (i + 1) xs) (omega arith) left_is))
 
 -- where none is left
 
-pub methods_all : (xs : List Stmt) (i : ℕ) (vs : List Value) (ms all : Methods) → length xs ≤ i → methods_by (does.parts (drop i xs)) vs ms ≡ all → ms ≡ all
-methods_all xs i vs ms all past before = sym (at_drop_all (λ ys. methods_by (does.parts ys) vs ms) xs i past) ∙ before
+pub all_held : (xs : List Stmt) (i left : ℕ) (vs : List Value) (ms : Methods) → length xs ≤ i → left ≡ count_of (does.parts (drop i xs))
+    → ms ≡ held_methods (reverse (does.parts (take i xs))) (drop left vs) → ms ≡ held_methods (reverse (does.parts xs)) vs
+all_held xs i left vs ms past counted is =
+    is ∙ ap (λ k. held_methods (reverse (does.parts (take i xs))) (drop k vs)) (counted ∙ at_drop_all (λ ys. count_of (does.parts ys)) xs i past)
+    ∙ ap (λ ys. held_methods (reverse (does.parts ys)) vs) (take_all i xs past)
 
-pub methods_counted : (xs : List Stmt) (i : ℕ) (vs fs : List Value) → length xs ≤ i → length vs ≡ 0
-    → count_of (does.parts (drop i xs)) + length fs ≡ count_of (does.parts xs) + length vs → count_of (does.parts xs) ≡ length fs
-methods_counted xs i vs fs past none before = omega (arith, at_drop_all (λ ys. count_of (does.parts ys)) xs i past, none, before)
+-- no more methods than statements
 
--- one more function becomes a method
-module _ (p : Part) (n : Name) (named : name_of p ≡ Some n) (f : Value) (vs us : List Value) (first : f ∷ us ≡ vs) where
-  pub method_put : (ms ns : Methods) (at : Oid) → at ≡ place_at f → ns ≡ insert_entry same_name ms n at → (ps : List Part) → methods_by (p ∷ ps) vs ms ≡ methods_by ps us ns
-  method_put ms ns at place set ps =
-      ap (λ xs. methods_by (p ∷ ps) xs ms) (sym first) ∙ method_by p ps n f us ms named
-      ∙ ap (λ (at : Oid). methods_by ps us (insert_entry same_name ms n at)) (sym place) ∙ ap (methods_by ps us) (sym set)
+parts_few : (ps : List Part) → count_of ps ≤ length ps
+parts_few [] = omega arith
+parts_few (method n m ∷ ps) = omega (arith, parts_few ps)
+parts_few (other d ∷ ps) = omega (arith, parts_few ps)
 
-  pub one_counted : (ps : List Part) → count_of (p ∷ ps) + length us ≡ count_of ps + length vs
-  one_counted ps = omega (arith, method_counted p ps n named, ap length first)
+parts_length : (xs : List Stmt) → length (does.parts xs) ≡ length xs
+parts_length [] = refl
+parts_length (x ∷ xs) = let same = parts_length xs in omega (arith, same)
 
-module _ (P : Name × Oid → Type 0) where
-  put_by : (b : Bool) (m : Name × Oid) (ms more : Methods) (at : Oid) → P (m.0, at) → P m → All P ms → All P more → All P (if b then (m.0, at) ∷ ms else m ∷ more)
-  put_by true m ms more at new old all rest = All-cons P (m.0, at) ms new all
-  put_by false m ms more at new old all rest = All-cons P m more old rest
+pub counted_few : (xs : List Stmt) → count_of (does.parts xs) ≤ length xs
+counted_few xs = omega (arith, parts_few (does.parts xs), parts_length xs)
 
-  entries_put : (ms : Methods) (n : Name) (at : Oid) → ((k : Name) → P (k, at)) → All P ms → All P (insert_entry same_name ms n at)
-  entries_put [] n at new h = All-cons P (n, at) [] (new n) h
-  entries_put (m ∷ ms) n at new h =
-      put_by (same_name n m.0) m ms (insert_entry same_name ms n at) at (new m.0) (All-head P m ms h) (All-tail P m ms h) (entries_put ms n at new (All-tail P m ms h))
-
--- each is a function
-pub functions_put : (heap : List Owned) (ms ns : Methods) (n : Name) (at : Oid) → ns ≡ insert_entry same_name ms n at → Names heap IsFunction at
-    → All (λ m. Names heap IsFunction m.1) ms → All (λ m. Names heap IsFunction m.1) ns
-functions_put heap ms ns n at set function h =
-    subst (All (λ (m : Name × Oid). Names heap IsFunction m.1)) (sym set) (entries_put (λ m. Names heap IsFunction m.1) ms n at (λ k. function) h)
+pub counted_all : (xs : List Stmt) (i count : ℕ) → length xs ≤ i → count + count_of (does.parts (drop i xs)) ≡ count_of (does.parts xs) → count ≡ count_of (does.parts xs)
+counted_all xs i count past is = omega (arith, at_drop_all (λ ys. count_of (does.parts ys)) xs i past, is)

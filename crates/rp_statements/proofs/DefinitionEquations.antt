@@ -1,5 +1,5 @@
 -- What `return` and definitions of functions in the program's trees do, level by level.
-use Rattle.std.proofs.Common.{◌≡◌, List, [], ◌∷◌, map, Option, Some, None, option_map, Box, Vec, Global, refl, ap, ◌∙◌}
+use Rattle.std.proofs.Common.{◌≡◌, List, [], ◌∷◌, map, Option, Some, None, Box, Vec, Global, refl, ap, ◌∙◌}
 use Rattle.rp_tree.specs.Expressions.{Named}
 use Rattle.rp_tree.specs.declared.expr.Expr.{Expr}
 use Rattle.rp_tree.specs.declared.expr.ExprForm.TheVariants as form
@@ -14,6 +14,7 @@ use Rattle.rp_meaning.specs.Expressions as forms
 use Rattle.rp_meaning.specs.Meaning as meaning
 use Rattle.rp_meaning.specs.Statements as stmt_forms
 use Rattle.rp_engine.specs.Does as does
+use Rattle.rp_engine.proofs.Equations.{maybe_expr}
 
 plain_are : (ps : List (Named × Option Expr)) → meaning.plain (plain_of (map view_plain ps)) ≡ does.defaults ps
 unfolding does.expr
@@ -23,11 +24,6 @@ plain_are ((n, Some x) ∷ ps) = ap (λ ms. meaning.eval (view_expr x) ∷ ms) (
 
 pub defaults_are : (ps : Params) → meaning.defaults (view_params ps) ≡ does.defaults (out-Params ps).plain.items
 defaults_are ps = ap meaning.defaults (equations.params_out ps) ∙ plain_are (out-Params ps).plain.items
-
-maybe_expr : (x : Option Expr) → meaning.option (option_map view_expr x) ≡ does.maybe x
-unfolding does.expr
-maybe_expr None = refl
-maybe_expr (Some x) = refl
 
 pub stmt_return : (x : Option Expr) → does.stmt_form (stmt_form.Return x) ≡ stmt_forms.give_back (does.maybe x)
 unfolding does.stmt_form

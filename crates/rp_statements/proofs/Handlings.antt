@@ -49,7 +49,7 @@ handling_fit heap side v (Some r) is = subst (IsFit heap side) (sym is) (tt, tt)
 
 -- what is handled does not matter to what a machine may run in
 pub handling_ready : (units : Units) (a : Activation) (o : Option Raised) (vs : List Value) (w : World) → IsReady units a vs w → IsReady units (record a { handling = o }) vs w
-handling_ready units a o vs w h = record { faithful = h.faithful; block = h.block; scope = h.scope; fit = h.fit; indexed = h.indexed }
+handling_ready units a o vs w h = record { faithful = h.faithful; scope = h.scope; fit = h.fit; indexed = h.indexed }
 
 without_same : (name : Option Name) (o : Option Raised) (f : Frame) → without_as name (handling o f) ≡ without_as name f
 without_same None o f = refl

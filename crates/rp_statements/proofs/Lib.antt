@@ -5,4 +5,5 @@ pub mod DefinitionEquations
 pub mod Handlings
 pub mod Raisings
 pub mod GivenBack
+pub mod Resumings
 pub mod TryEquations

@@ -1,5 +1,5 @@
 //! Augmented assignment (Python Language Reference, Augmented assignment statements).
-#![tactic(auto, using(rp_store::proofs::Shapes::goes_on))]
+#![tactic(auto, using(rp_store::proofs::CallerLemmas::goes_on))]
 
 ghost use Rattle.std.specs.Prelude.{OnOk};
 ghost use Rattle.rp_meaning.specs.Frame.{bind_name};
@@ -22,7 +22,7 @@ use rp_tree::{Expr, Place};
 /// An augmented assignment.
 ///
 /// # Errors
-/// `Memory` where a growth was refused, `NotBuilt` where an item would call a special method, as all that follow.
+/// `Memory` where a growth was refused, as all that follow.
 #[inline(never)]
 pub fn augmented<'u>(
     machine: &mut Machine<'u>,

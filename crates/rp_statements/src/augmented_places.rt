@@ -1,16 +1,24 @@
 //! Augmented assignments to attributes and items (Python Language Reference, Augmented assignment statements).
-#![tactic(auto, using(rp_store::proofs::Shapes::goes_on))]
+#![tactic(auto, using(rp_store::proofs::CallerLemmas::goes_on))]
 
-ghost use Rattle.std.specs.Prelude.{OnOk};
+ghost use Rattle.std.specs.Prelude.{◌≡◌, ◌∷◌, [], OnOk};
+ghost use Rattle.rp_base.specs.declared.word.TheConstants.{GET_ITEM};
+ghost use Rattle.rp_meaning.specs.Frame.{Run};
+ghost use Rattle.rp_meaning.specs.State.{State};
 ghost use Rattle.rp_meaning.specs.Statements as stmt_forms;
+ghost use Rattle.rp_ops.specs.Outcome.{on_value};
+ghost use Rattle.rp_proxy.specs.declared.world.World.{World as TheWorld};
 ghost use Rattle.rp_store.specs.Kept.{IsFit};
 ghost use Rattle.rp_store.specs.Shape.{KeepsShape};
 ghost use Rattle.rp_engine.specs.Augments.{attribute_augmented, attribute_from, item_augmented, item_from, key_from};
 ghost use Rattle.rp_engine.specs.Does as does;
-ghost use Rattle.rp_engine.specs.Law.{Executes, ResumesStmt};
+ghost use Rattle.rp_engine.specs.Law.{Executes, ResumesStmt, frame_in, rest_of};
 ghost use Rattle.rp_engine.specs.Ready.{IsReady};
+ghost use Rattle.rp_engine.specs.Rest.{did, rest};
+ghost use Rattle.rp_engine.specs.SpecialSteps.{from_got, special_called};
 
 use rp_access::{augment, get_attribute, get_item};
+use rp_base::word::GET_ITEM;
 use rp_base::{BinOp, Name, Value};
 use rp_engine::{Halt, Machine};
 use rp_frame::{Control, StmtTask, Task};
@@ -252,9 +260,64 @@ fn augment_read_item<'u>(
 {
     match get_item(machine.alloc, world, machine.frame.side, &o, &i) {
         Ok(Some(a)) => item_by(machine, world, o, i, op, a, value),
-        Ok(None) => Err(Halt::NotBuilt),
+        Ok(None) => augment_by_method(machine, o, i, op, value),
         Err(end) => machine.cut_off(end),
     }
+}
+
+/// Asks for `__getitem__` of an object whose item is augmented, and goes on with the right side (Python Language
+/// Reference, Special method names).
+///
+/// # Errors
+/// `Memory` where a growth was refused.
+#[inline(never)]
+fn augment_by_method<'u>(
+    machine: &mut Machine<'u>,
+    o: Value,
+    i: Value,
+    op: BinOp,
+    value: &'u Expr,
+) -> Result<(), Halt>
+    ensures law { OnOk result ((base : Run) (s : State) → rest_of base machine.new s
+        ≡ rest machine.old.tasks (did (frame_in base machine.old) machine.old.values
+        (on_value (special_called GET_ITEM o (i ∷ []) (frame_in base machine.old) s)
+        (λ a s. from_got o i op (does.expr value.now) a (frame_in base machine.old) s)))) }
+    ensures ready { (w : TheWorld) → IsReady machine.old.units.now machine.old.frame machine.old.values w
+        → IsFit w.store.heap machine.old.frame.side o → IsFit w.store.heap machine.old.frame.side i
+        → IsReady machine.new.units.now machine.new.frame machine.new.values w }
+{
+    machine.hold_copy(&o)?;
+    machine.hold_copy(&i)?;
+    machine.wait_with_two(
+        o,
+        i,
+        Task::Stmt(StmtTask::AugmentGot(op, value)),
+        Control::Special(GET_ITEM, 1),
+    )
+}
+
+/// Goes on with the right side, once a special method gave the item; the container and the key are at hand.
+///
+/// # Errors
+/// `Memory` where a growth was refused.
+#[inline(always)]
+pub fn after_got<'u>(
+    machine: &mut Machine<'u>,
+    world: &mut World,
+    op: BinOp,
+    a: Value,
+    value: &'u Expr,
+) -> Result<(), Halt>
+    requires ready { IsReady machine.old.units.now machine.old.frame machine.old.values world.old }
+    requires a { IsFit world.old.store.heap machine.old.frame.side a }
+    ensures law { OnOk result (ResumesStmt (StmtTask.AugmentGot op value.entry) a
+        machine.old world.old machine.new world.new) }
+    ensures ready { IsReady machine.new.units.now machine.new.frame machine.new.values world.new }
+    ensures shape { KeepsShape world.old.store.heap world.new.store.heap }
+{
+    let i = machine.at_hand();
+    let o = machine.at_hand();
+    item_by(machine, world, o, i, op, a, value)
 }
 
 /// Goes on with the right side.

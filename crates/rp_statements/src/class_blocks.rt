@@ -1,5 +1,5 @@
 //! The class statement (Python Language Reference, Class definitions).
-#![tactic(auto, using(rp_store::proofs::Shapes::goes_on))]
+#![tactic(auto, using(rp_store::proofs::CallerLemmas::goes_on))]
 
 ghost use Rattle.std.specs.Prelude.{◌≡◌, ◌≤◌, ◌+◌, ◌∷◌, [], All, IfOk, IfSome, List, MatchOption, OnOk, drop};
 ghost use Rattle.std.specs.Prelude.{length, reverse, take};
@@ -7,7 +7,7 @@ ghost use Rattle.rp_access.specs.Comes.{Comes, IsEnd};
 ghost use Rattle.rp_access.specs.Moment.{state_of};
 ghost use Rattle.rp_meaning.specs.Classes as classes;
 ghost use Rattle.rp_meaning.specs.Classes.{Part};
-ghost use Rattle.rp_meaning.specs.Frame.{Run, bind_name};
+ghost use Rattle.rp_meaning.specs.Frame.{Run};
 ghost use Rattle.rp_meaning.specs.State.{Flow, Outcome, State};
 ghost use Rattle.rp_proxy.specs.Faithful.{IsFaithful};
 ghost use Rattle.rp_proxy.specs.declared.world.World.{World as TheWorld};
@@ -16,29 +16,37 @@ ghost use Rattle.rp_store.specs.Kept.{IsFit};
 ghost use Rattle.rp_store.specs.Parts.{IsClass, IsFunction};
 ghost use Rattle.rp_store.specs.Shape.{KeepsShape};
 ghost use Rattle.rp_engine.specs.ClassSteps.{class_behind, class_bound, class_with, count_of, held_methods, made_by};
-ghost use Rattle.rp_engine.specs.ClassSteps.{methods_by, name_of};
+ghost use Rattle.rp_engine.specs.ClassSteps.{name_of};
 ghost use Rattle.rp_engine.specs.Does as does;
 ghost use Rattle.rp_engine.specs.Law.{Executes, ResumesStmt, frame_in, rest_of};
 ghost use Rattle.rp_engine.specs.Ready.{IsReady};
 ghost use Rattle.rp_engine.specs.Rest.{did, rest};
+ghost use Rattle.rp_statements.specs.Acts.{part_of};
 
 use crate::augmentation::bind_next;
-use rp_access::{declared_class, new_class, renew_class, take_step};
-use rp_base::{Memory, Name, Oid, OpEnd, Side, Value};
+use rp_access::{declared_class, functions_in, new_class, renew_class, take_step};
+use rp_base::{Memory, Name, Oid, OpEnd, Rock, Seed, Side, Value};
 use rp_dict::Dict;
-use rp_engine::{Halt, Machine, function_at, is_class_if_any, is_own, one_more};
+use rp_engine::{Halt, Machine, one_more, place_at};
 use rp_expressions::defaults;
-use rp_frame::{Control, FlowTask, StmtTask, Task};
+use rp_frame::{Control, FlowTask, StmtTask, Task, Values};
 use rp_proxy::World;
-use rp_store::Store;
-use rp_tree::{Stmt, StmtForm};
+use rp_tree::{Expr, Params, Stmt, StmtForm};
 use std::alloc::Global;
+
+/// What a statement of a class block does: it makes a method of this name by a function of this code block with these
+/// parameters, evaluates an expression, or does nothing.
+#[derive(Clone, Copy)]
+pub(crate) enum Act<'u> {
+    Method(usize, Name, &'u Params),
+    Evaluate(&'u Expr),
+    Nothing,
+}
 
 /// A `class` statement: the statements of its block in order, then the class, which is bound to the name.
 ///
 /// # Errors
-/// `Memory` where a growth was refused; `NotBuilt` at more than 2^32 - 1 statements, and at a statement that stands in
-/// no class, as all that follow.
+/// `Memory` where a growth was refused, and at more than 2^32 - 1 statements, as all that follow.
 #[inline(never)]
 pub fn class<'u>(
     machine: &mut Machine<'u>,
@@ -85,7 +93,7 @@ pub fn class_part<'u>(
 
 /// Takes the step of the next statement of the block, and begins it.
 #[inline(always)]
-#[tactic(auto, using(rp_store::proofs::Shapes::goes_on, rp_engine::proofs::Worlds::shape_stored))]
+#[tactic(auto, using(rp_store::proofs::CallerLemmas::goes_on, rp_engine::proofs::Worlds::shape_stored))]
 fn class_step<'u>(
     machine: &mut Machine<'u>,
     world: &mut World,
@@ -152,7 +160,7 @@ fn class_next<'u>(
 /// Begins a statement of the block, which is the last of so many, behind its step.
 ///
 /// # Errors
-/// `NotBuilt` at a statement that stands in no class.
+/// As `class`.
 #[inline(always)]
 fn class_form<'u>(
     machine: &mut Machine<'u>,
@@ -173,24 +181,23 @@ fn class_form<'u>(
     ensures ready { IsReady machine.new.units.now machine.new.frame machine.new.values world.new }
     ensures shape { KeepsShape world.old.store.heap world.new.store.heap }
 {
-    match form {
-        StmtForm::Def(block, method, params, _) => {
+    match act_of(form) {
+        Act::Method(block, method, params) => {
             machine
                 .tasks
                 .push(Task::Stmt(StmtTask::Method(name, body, done, count)))?;
-            defaults(machine, world, Some(method.name), block.0, 0, &params.plain)
+            defaults(machine, world, Some(method), block, 0, &params.plain)
         }
-        StmtForm::Expr(x) => {
+        Act::Evaluate(x) => {
             machine
                 .tasks
                 .push(Task::Flow(FlowTask::Class(name, body, done, count)))?;
             machine.wait(Task::Stmt(StmtTask::Evaluate), Control::Expression(x))
         }
-        StmtForm::Pass => machine.wait(
+        Act::Nothing => machine.wait(
             Task::Flow(FlowTask::Class(name, body, done, count)),
             Control::Next,
         ),
-        _ => Err(Halt::NotBuilt),
     }
 }
 
@@ -237,11 +244,9 @@ fn make_class<'u>(
     ensures ready { IsReady machine.new.units.now machine.new.frame machine.new.values world.new }
     ensures shape { KeepsShape world.old.store.heap world.new.store.heap }
 {
-    let functions = machine.all_at_hand(count as usize)?;
-    match methods_of(machine.alloc, &world.store, body, functions.as_slice())? {
-        Some(methods) => bind_class(machine, world, name, methods),
-        None => Err(Halt::NotBuilt),
-    }
+    let methods = methods_of(machine.alloc, world.store.seed(), &machine.values, body)?;
+    machine.forget(count as usize);
+    bind_class(machine, world, name, methods)
 }
 
 /// Makes the class with these methods, and binds it to the name.
@@ -253,41 +258,16 @@ fn bind_class<'u>(
     methods: Dict<Name, Oid>,
 ) -> Result<(), Halt>
     requires ready { IsReady machine.old.units.now machine.old.frame machine.old.values world.old }
-    requires methods { All (λ m. Names world.old.store.heap IsFunction m.1) methods }
     ensures law { OnOk result (Executes (class_bound name methods) machine.old world.old machine.new world.new) }
     ensures ready { IsReady machine.new.units.now machine.new.frame machine.new.values world.new }
     ensures shape { KeepsShape world.old.store.heap world.new.store.heap }
 {
+    let functions = functions_in(machine.alloc, &world.store, methods);
     let declared = declared_class(world, machine.frame.side, machine.frame.block, name);
-    if !is_class_if_any(&world.store, declared) {
-        return Err(Halt::NotBuilt);
-    }
-    match class_with(world, machine.frame.side, declared, name, methods) {
-        Ok(at) => bind_made(machine, world, name, at),
+    match class_with(world, machine.frame.side, declared, name, functions) {
+        Ok(at) => bind_next(machine, world, name, Value::Ref(at)),
         Err(end) => machine.cut_off(end),
     }
-}
-
-/// Binds a class that was made.
-///
-/// # Errors
-/// `NotBuilt` where no class of the side stands there, as nowhere.
-#[inline(always)]
-fn bind_made<'u>(
-    machine: &mut Machine<'u>,
-    world: &mut World,
-    name: Name,
-    at: Oid,
-) -> Result<(), Halt>
-    requires ready { IsReady machine.old.units.now machine.old.frame machine.old.values world.old }
-    ensures law { OnOk result (Executes (bind_name name (Value.Ref at)) machine.old world.old machine.new world.new) }
-    ensures ready { IsReady machine.new.units.now machine.new.frame machine.new.values world.new }
-    ensures shape { KeepsShape world.old.store.heap world.new.store.heap }
-{
-    if !is_own(&world.store, machine.frame.side, at) {
-        return Err(Halt::NotBuilt);
-    }
-    bind_next(machine, world, name, Value::Ref(at))
 }
 
 /// The statement of a block behind so many; None where there is none.
@@ -303,78 +283,82 @@ fn part_at(body: &[Stmt], done: u32) -> Option<&Stmt>
     Some(&body[at])
 }
 
-/// The methods of the statements of a class block, by the functions that they made; None where these are no such
-/// functions.
+/// The methods of the statements of a class block, by the functions that they made, which stand at hand, the last one
+/// upon the others.
 ///
 /// # Errors
 /// `Memory` where a growth was refused.
 fn methods_of(
     alloc: Global,
-    store: &Store,
+    seed: Seed,
+    values: &Values,
     body: &[Stmt],
-    functions: &[Value],
-) -> Result<Option<Dict<Name, Oid>>, Memory>
-    ensures methods { IfOk result (λ o. IfSome o (λ methods.
-        methods ≡ methods_by (does.parts body.now) functions.now [])) }
-    ensures count { IfOk result (λ o. IfSome o (λ methods. count_of (does.parts body.now) ≡ length functions.now)) }
-    ensures functions { IfOk result (λ o. IfSome o (λ methods.
-        All (λ m. Names store.now.heap IsFunction m.1) methods)) }
+) -> Result<Dict<Name, Oid>, Memory>
+    ensures { IfOk result (λ methods. methods ≡ held_methods (reverse (does.parts body.now)) values.now) }
 {
-    let mut methods = Dict::new(alloc, store.seed());
-    let mut left = functions;
+    let mut methods = Dict::new(alloc, seed);
+    let mut left = method_count(body);
     for stmt in body {
-        let Some(rest) = with_part(store, &mut methods, left, &stmt.form)? else {
-            return Ok(None);
-        };
-        left = rest;
+        left = with_part(values, &mut methods, left, &stmt.form)?;
     }
-    match left {
-        [] => Ok(Some(methods)),
-        _ => Ok(None),
-    }
+    Ok(methods)
 }
 
-/// Gives the methods that of a statement of a class block, where it makes one; the functions that are left behind it,
-/// None where the next is none.
+/// How many statements of a class block make methods.
+fn method_count(body: &[Stmt]) -> usize
+    ensures { result ≡ count_of (does.parts body.now) }
+{
+    let mut count = 0;
+    for stmt in body {
+        count += part_count(&stmt.form);
+    }
+    count
+}
+
+/// How many methods a statement of a class block makes.
+fn part_count(form: &StmtForm) -> usize
+    ensures { result ≡ count_of (does.part_form form.now ∷ []) }
+{
+    if method_name(form).is_some() {
+        return 1;
+    }
+    0
+}
+
+/// Gives the methods that of a statement of a class block, where it makes one. So many functions of this statement and
+/// of those behind it are upon the others; answered is how many are of those behind it.
 ///
 /// # Errors
 /// `Memory` where a growth was refused.
-fn with_part<'a>(
-    store: &Store,
+fn with_part(
+    values: &Values,
     methods: &mut Dict<Name, Oid>,
-    left: &'a [Value],
+    left: usize,
     form: &StmtForm,
-) -> Result<Option<&'a [Value]>, Memory>
-    requires { All (λ m. Names store.now.heap IsFunction m.1) methods.old }
-    ensures methods { IfOk result (λ o. IfSome o (λ rest. (ps : List Part)
-        → methods_by (does.part_form form.now ∷ ps) left.now methods.old ≡ methods_by ps rest.now methods.new)) }
-    ensures count { IfOk result (λ o. IfSome o (λ rest. (ps : List Part)
-        → count_of (does.part_form form.now ∷ ps) + length rest.now ≡ count_of ps + length left.now)) }
-    ensures functions { IfOk result (λ o. IfSome o (λ rest.
-        All (λ m. Names store.now.heap IsFunction m.1) methods.new)) }
+) -> Result<usize, Memory>
+    requires { count_of (does.part_form form.now ∷ []) ≤ left }
+    ensures count { IfOk result (λ behind. left ≡ count_of (does.part_form form.now ∷ []) + behind) }
+    ensures methods { IfOk result (λ behind. (ps : List Part) → methods.old ≡ held_methods ps (drop left values.now)
+        → methods.new ≡ held_methods (does.part_form form.now ∷ ps) (drop behind values.now)) }
 {
     let Some(name) = method_name(form) else {
-        return Ok(Some(left));
+        return Ok(left);
     };
-    let [function, rest @ ..] = left else {
-        return Ok(None);
-    };
-    let Some(at) = function_at(store, function) else {
-        return Ok(None);
-    };
-    methods.set(name, at)?;
-    Ok(Some(rest))
+    let behind = left.saturating_sub(1);
+    let nil = Value::Rock(Rock::Nil);
+    methods.set(name, place_at(values.under(behind, &nil)))?;
+    Ok(behind)
 }
 
-/// The name of the method that a statement of a class block makes.
-#[tactic(auto, using(crate::proofs::ClassEquations::part_forms))]
-fn method_name(form: &StmtForm) -> Option<Name>
-    ensures { result ≡ name_of (does.part_form form.now) }
+/// What a statement of a class block does.
+#[tactic(auto, using(crate::proofs::ClassEquations::act_forms))]
+fn act_of<'u>(form: &'u StmtForm) -> Act<'u>
+    ensures { part_of result ≡ does.part_form form.now }
 {
     match form {
-        StmtForm::Def(_, name, _, _) => Some(name.name),
-        StmtForm::Expr(_)
-        | StmtForm::Assign(_, _)
+        StmtForm::Def(block, method, params, _) => Act::Method(block.0, method.name, params),
+        StmtForm::Expr(x) => Act::Evaluate(x),
+        StmtForm::Assign(_, _)
         | StmtForm::Unpack(_, _, _)
         | StmtForm::Aug { .. }
         | StmtForm::Del(_)
@@ -389,7 +373,18 @@ fn method_name(form: &StmtForm) -> Option<Name>
         | StmtForm::While(_, _)
         | StmtForm::For(_, _)
         | StmtForm::Try { .. }
-        | StmtForm::Class(_, _) => None,
+        | StmtForm::Class(_, _) => Act::Nothing,
+    }
+}
+
+/// The name of the method that a statement of a class block makes.
+fn method_name(form: &StmtForm) -> Option<Name>
+    ensures { result ≡ name_of (does.part_form form.now) }
+{
+    match act_of(form) {
+        Act::Method(_, name, _) => Some(name),
+        Act::Evaluate(_) => None,
+        Act::Nothing => None,
     }
 }
 
@@ -407,11 +402,13 @@ fn class_with(
     requires faithful { IsFaithful world.old }
     requires declared { IfSome declared (Names world.old.store.heap IsClass) }
     requires held { IfSome declared (IsHeld world.old.store.heap) }
+    requires trusted { IfSome declared (λ at. side.0 ≡ 0) }
     requires methods { All (λ m. Names world.old.store.heap IsFunction m.1) methods }
     ensures law { Comes result (state_of world.new)
         (made_by side declared name methods (state_of world.old)) }
     ensures faithful { IsFaithful world.new }
     ensures shape { KeepsShape world.old.store.heap world.new.store.heap }
+    ensures fit { IfOk result (λ at. IsFit world.new.store.heap side (Value.Ref at)) }
 {
     match declared {
         Some(at) => renew_class(world, at, methods),

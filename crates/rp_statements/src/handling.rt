@@ -1,5 +1,5 @@
 //! The try statement (Python Language Reference, The try statement).
-#![tactic(auto, using(rp_store::proofs::Shapes::goes_on))]
+#![tactic(auto, using(rp_store::proofs::CallerLemmas::goes_on))]
 
 ghost use Rattle.std.specs.Prelude.{◌≡◌, ◌∷◌, None, OnOk, Some};
 ghost use Rattle.rp_access.specs.Moment.{state_of};

@@ -12,7 +12,8 @@ mod returning;
 pub use asserting::{asserted, fail_with};
 pub use augmentation::{after_augment, augmented, bind_next};
 pub use augmented_places::{
-    after_attribute, after_augmented_item, after_augmented_key, augment_key, augment_read,
+    after_attribute, after_augmented_item, after_augmented_key, after_got, augment_key,
+    augment_read,
 };
 pub use class_blocks::{after_method, class, class_part};
 pub use handling::{after_handler, begin_try, behind_handler, finish, handle, leave};

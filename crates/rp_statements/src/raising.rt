@@ -1,5 +1,5 @@
 //! The raise statement (Python Language Reference, The raise statement).
-#![tactic(auto, using(rp_store::proofs::Shapes::goes_on))]
+#![tactic(auto, using(rp_store::proofs::CallerLemmas::goes_on))]
 
 ghost use Rattle.std.specs.Prelude.{OnOk, Some};
 ghost use Rattle.rp_meaning.specs.Statements as stmt_forms;

@@ -1,5 +1,5 @@
 //! `return` (Python Language Reference, The return statement).
-#![tactic(auto, using(rp_store::proofs::Shapes::goes_on, rp_engine::proofs::AtHand::at_hand))]
+#![tactic(auto, using(rp_store::proofs::CallerLemmas::goes_on, rp_engine::proofs::AtHand::at_hand))]
 
 ghost use Rattle.std.specs.Prelude.{◌≡◌, OnOk, drop};
 ghost use Rattle.rp_access.specs.Moment.{state_of};
@@ -23,7 +23,6 @@ use rp_base::{Name, Rock, Value};
 use rp_engine::{Halt, Machine};
 use rp_frame::{Control, FlowTask, Leaving, StmtTask, Task};
 use rp_proxy::World;
-use rp_targets::comprehended;
 use rp_tree::Expr;
 
 /// `return`, with a value or without.
@@ -165,9 +164,6 @@ fn flow_return<'u>(
             class_part(machine, world, name, body, done, count)
         }
         FlowTask::Clause(_, _, _) => returns(machine, value),
-        FlowTask::Comprehension(block, scope, at) => {
-            comprehended(machine, world, block, scope, at)
-        }
         FlowTask::Try(_, _) => returns(machine, value),
         FlowTask::Handled(name) => return_handled(machine, world, name, value),
         FlowTask::Finally(last) => finish(machine, value, Leaving::Returned, last),

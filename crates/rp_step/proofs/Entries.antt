@@ -1,10 +1,9 @@
 -- Calls of functions: what is done before their code runs, and what is left to be done then.
-use Rattle.std.proofs.Common.{◌≡◌, ◌<◌, ◌-◌, ℕ, zero, suc, List, [], ◌∷◌, codes, length, drop, reverse, take, Option, Some, None, Result, Ok, Err, refl, sym, ap, ◌∙◌, subst, arith}
-use Rattle.std.specs.Prelude.{Bool, IfOk, IfSome, IsSomeAnd, OnOk, get_or, option_map, slice_get}
+use Rattle.std.proofs.Common.{◌≡◌, ◌<◌, ◌-◌, ℕ, suc, List, [], codes, length, drop, Option, Some, None, Result, Ok, Err, refl, sym, ap, ◌∙◌, subst, arith}
+use Rattle.std.specs.Prelude.{Bool, IfOk, IfSome, IsSomeAnd, OnOk, option_map}
 use Rattle.std.specs.Option.{option_map_or}
 use Rattle.rp_base.specs.declared.kind.Kind.{Kind}
 use Rattle.rp_base.specs.declared.kind.Kind.TheVariants.{RecursionError}
-use Rattle.rp_base.specs.declared.value.Name.{Name}
 use Rattle.rp_base.specs.declared.value.Oid.{Oid}
 use Rattle.rp_base.specs.declared.value.OpEnd.{OpEnd}
 use Rattle.rp_base.specs.declared.value.Side.{Side}
@@ -17,19 +16,18 @@ use Rattle.rp_frame.specs.declared.activation.Activation.{Activation}
 use Rattle.rp_meaning.specs.Binding.{Arguments, bind}
 use Rattle.rp_meaning.specs.Blocks as blocks
 use Rattle.rp_meaning.specs.BuiltIn.{not_called}
-use Rattle.rp_meaning.specs.Frame.{Calls, Frame, Run}
-use Rattle.rp_meaning.specs.Running.{calls_within, code_called, frame_in as frame_made, function_called, params_of, taken_all, value_of_code}
+use Rattle.rp_meaning.specs.Frame.{Calls, Run}
+use Rattle.rp_meaning.specs.Running.{calls_within, code_called, frame_in as frame_made, function_called, params_of, slots_taken, taken_all, value_of_code}
 use Rattle.rp_meaning.specs.State.{State, Outcome, heap_of, plainly}
 use Rattle.rp_meaning.proofs.Laws.{then_then}
 use Rattle.rp_ops.specs.Outcome.{Raises, gives, on_value, raises}
 use Rattle.rp_proxy.specs.declared.world.World.{World}
 use Rattle.rp_scope.specs.Scopes.{locals_of}
-use Rattle.rp_store.specs.Heap.{Names, Owned, content_at}
+use Rattle.rp_store.specs.Heap.{Names, Owned}
 use Rattle.rp_store.specs.Parts.{IsFunction}
-use Rattle.rp_store.specs.Object as object
 use Rattle.rp_store.specs.Object.{Content}
 use Rattle.rp_tree.specs.Expressions.{Params as PureParams}
-use Rattle.rp_access.specs.Comes.{ComesIfAny, IsEnd}
+use Rattle.rp_access.specs.Comes.{Comes, IsEnd}
 use Rattle.rp_access.specs.Moment.{state_of}
 use Rattle.rp_access.proofs.Going.{IsEnd-same, IsEnd-then, gives-then, raises_end}
 use Rattle.rp_enter.specs.Entering.{entered, scope_made}
@@ -40,7 +38,7 @@ use Rattle.rp_engine.specs.Codes.{IsIndexed, code_at}
 use Rattle.rp_engine.specs.DefinitionSteps.{called, called_by, callee_of, got_by}
 use Rattle.rp_step.specs.declared.callables.Callable.{Callable}
 use Rattle.rp_engine.specs.Law.{frame_in, rest_of}
-use Rattle.rp_engine.specs.Moment.{frame_of, program_at, program_view, run_of}
+use Rattle.rp_engine.specs.Moment.{frame_of, program_at, run_of}
 use Rattle.rp_engine.specs.Rest.{gave, rest}
 use Rattle.rp_step.specs.Running.{unwound, whole_of}
 use Rattle.rp_step.specs.declared.callers.Caller.{Caller}
@@ -48,7 +46,6 @@ use Rattle.rp_engine.specs.declared.halt.Halt.{Halt}
 use Rattle.rp_engine.specs.declared.machine.Machine.{Machine}
 use Rattle.rp_step.specs.declared.runner.Runner.{Runner}
 use Rattle.rp_codes.specs.declared.code.Code.{Code}
-use Rattle.rp_engine.specs.declared.units.Program.{Program}
 use Rattle.rp_engine.proofs.Moves.{on_ok}
 use Rattle.rp_step.proofs.Runs.{Switches}
 
@@ -58,7 +55,7 @@ entered_call : (run : Run) (calls : Calls) (side : Side) (block : ℕ) (within :
     ≡ on_value (entered side block within (length ((run.programs side).layouts.locals block)) (params_of code) defaults a s)
     (λ scope s. value_of_code code (frame_made run calls side block scope) s)
 entered_call run calls side block within defaults code a s = sym (then_then (plainly (bind side s.names (params_of code) defaults (taken_all (heap_of s) side a)) s)
-    (λ bound s. scope_made side block within (length ((run.programs side).layouts.locals block)) bound s) (λ scope s. value_of_code code (frame_made run calls side block scope) s))
+    (λ bound s. scope_made side block within (length ((run.programs side).layouts.locals block)) (slots_taken (heap_of s) side bound) s) (λ scope s. value_of_code code (frame_made run calls side block scope) s))
 
 -- one call less may be made within
 abbrev pub activation : Entry → Oid → ℕ → Activation
@@ -174,18 +171,10 @@ pub one_less : (n : ℕ) → 0 < n → n ≡ suc (n - 1)
 one_less n some = omega arith
 
 -- what is called stands in the store
-pub callee_sound : (heap : List Owned) (v : Value) (at : Oid) (is_lent : Bool) → callee_of v ≡ Some (at, is_lent) → IsSound heap v → IsSound heap (value.Ref at)
-callee_sound heap (value.Rock rock) at is_lent e sound = let k : None ≡ Some (at, is_lent) = e in absurd (cc)
-callee_sound heap (value.Ref a) at is_lent e sound =
-    subst (λ (at : Oid). IsSound heap (value.Ref at)) (ap (λ (x : Option (Oid × Bool)). option_map_or (λ p. p.0) x a) e) sound
-callee_sound heap (value.Prox a) at is_lent e sound =
-    subst (λ (at : Oid). IsSound heap (value.Ref at)) (ap (λ (x : Option (Oid × Bool)). option_map_or (λ p. p.0) x a) e) sound
-
-pub callee_is : (v u : Value) (found : Option (Oid × Bool)) (c : Oid × Bool) → u ≡ v → found ≡ callee_of u → found ≡ Some c → callee_of v ≡ Some c
-callee_is v u found c same is some = ap callee_of (sym same) ∙ sym is ∙ some
-
-pub callee_none : (v u : Value) (found : Option (Oid × Bool)) → u ≡ v → found ≡ callee_of u → found ≡ None → callee_of v ≡ None
-callee_none v u found same is none = ap callee_of (sym same) ∙ sym is ∙ none
+pub callee_held : (heap : List Owned) (v : Value) → IsSound heap v → IfSome (callee_of v) (λ (p : Oid × Bool). IsSound heap (value.Ref p.0))
+callee_held heap (value.Rock rock) sound = tt
+callee_held heap (value.Ref at) sound = sound
+callee_held heap (value.Prox at) sound = sound
 
 -- an exception in place of a call
 pub refuses : (r : Runner) (n : Machine) (res : Result (Unit {0}) Halt) (count : ℕ) (kind : Kind) (text : List ℕ) (end : OpEnd) → Raises end (record { kind = kind; text = text })
@@ -198,33 +187,24 @@ refuses r n res count kind text end is law =
     ≡ unwound base r.callers.items (rest r.machine.tasks (gave (frame_in base r.machine) (drop (suc count) r.machine.values) (raises kind text s))))
     (λ law base s. ap (unwound base r.callers.items) (law base s (raises kind text s) (raises_end Value end (record { kind = kind; text = text }) s is))) law
 
--- a function that the table has is one of its code blocks
-get_within : (xs : List (Option Code)) (n : ℕ) (code : Code) → get_or xs n None ≡ Some code → n < length xs
-get_within [] n code e = let k : None ≡ Some code = e in absurd (cc)
-get_within (x ∷ xs) zero code e = omega arith
-get_within (x ∷ xs) (suc n) code e = let h = get_within xs n code e in omega arith
-
-pub coded_within : (p : Program) (n : ℕ) (code : Code) → IsIndexed p → code_at p n ≡ Some code → n < length p.layouts
-coded_within p n code indexed e = subst (λ (k : ℕ). n < k) indexed.blocks (get_within p.codes n code e)
-
 pub function_named : (heap : List Owned) (e : Entry) → IsFunctionAt heap e → Names heap IsFunction e.function
 function_named heap e h = subst (λ (c : Option Content). IsSomeAnd c IsFunction) (sym h.is) tt
 
 -- the scope of the code is that of the meaning
-pub enters_as : (e : Entry) (defaults : List Value) (s : State) (r : Result (Option Oid) OpEnd) (t : State) (ps qs : PureParams) (i j : ℕ) (us vs : Arguments) → ps ≡ qs → i ≡ j → us ≡ vs
-    → ComesIfAny r t (entered e.side e.block e.within i ps defaults us s) → ComesIfAny r t (entered e.side e.block e.within j qs defaults vs s)
+pub enters_as : (e : Entry) (defaults : List Value) (s : State) (r : Result Oid OpEnd) (t : State) (ps qs : PureParams) (i j : ℕ) (us vs : Arguments) → ps ≡ qs → i ≡ j → us ≡ vs
+    → Comes r t (entered e.side e.block e.within i ps defaults us s) → Comes r t (entered e.side e.block e.within j qs defaults vs s)
 enters_as e defaults s r t ps qs i j us vs params counted all is =
-    subst (λ ps. ComesIfAny r t (entered e.side e.block e.within j ps defaults vs s)) params
-    (subst (λ i. ComesIfAny r t (entered e.side e.block e.within i ps defaults vs s)) counted
-    (subst (λ us. ComesIfAny r t (entered e.side e.block e.within i ps defaults us s)) all is))
+    subst (λ ps. Comes r t (entered e.side e.block e.within j ps defaults vs s)) params
+    (subst (λ i. Comes r t (entered e.side e.block e.within i ps defaults vs s)) counted
+    (subst (λ us. Comes r t (entered e.side e.block e.within i ps defaults us s)) all is))
 
 -- what an answer tells
-module _ (r : Result (Option Oid) OpEnd) (s : State) (o : Outcome Oid) where
-  pub comes_some : (a : Oid) → r ≡ Ok (Some a) → ComesIfAny r s o → o ≡ gives a s
-  comes_some a is comes = subst (λ (r : Result (Option Oid) OpEnd). ComesIfAny r s o) is comes
+module _ (r : Result Oid OpEnd) (s : State) (o : Outcome Oid) where
+  pub comes_ok : (a : Oid) → r ≡ Ok a → Comes r s o → o ≡ gives a s
+  comes_ok a is comes = subst (λ (r : Result Oid OpEnd). Comes r s o) is comes
 
-  pub comes_end : (e : OpEnd) → r ≡ Err e → ComesIfAny r s o → IsEnd e s o
-  comes_end e is comes = subst (λ (r : Result (Option Oid) OpEnd). ComesIfAny r s o) is comes
+  pub comes_end : (e : OpEnd) → r ≡ Err e → Comes r s o → IsEnd e s o
+  comes_end e is comes = subst (λ (r : Result Oid OpEnd). Comes r s o) is comes
 
-pub some_held : (r : Result (Option Oid) OpEnd) (P : Oid → Type 0) (a : Oid) → r ≡ Ok (Some a) → IfOk r (λ at. IfSome at P) → P a
-some_held r P a is h = subst (λ (r : Result (Option Oid) OpEnd). IfOk r (λ at. IfSome at P)) is h
+pub ok_held : (r : Result Oid OpEnd) (P : Oid → Type 0) (a : Oid) → r ≡ Ok a → IfOk r P → P a
+ok_held r P a is h = subst (λ (r : Result Oid OpEnd). IfOk r P) is h

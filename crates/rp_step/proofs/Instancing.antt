@@ -1,8 +1,6 @@
 -- Calls of classes, from what is known of the instance that was made.
-use Rattle.std.proofs.Common.{◌≡◌, ◌≢◌, ◌<◌, ◌==◌, ℕ, zero, suc, true, false, true≢false, arith, List, [], ◌∷◌, Option, Some, None, Result, Ok, Err, codes, drop, length, reverse, take, refl, sym, ap, ◌∙◌, subst}
+use Rattle.std.proofs.Common.{◌≡◌, ◌≢◌, ℕ, suc, List, [], ◌∷◌, Option, Some, None, Result, Ok, Err, codes, drop, refl, sym, ap, ◌∙◌, subst}
 use Rattle.std.specs.Prelude.{Bool, OnOk, IsSomeAnd, option_map, slice_get}
-use Rattle.std.proofs.lemmas.Bool.Decides.{nat_tests}
-use Rattle.std.proofs.lemmas.List.{nil_from_length}
 use Rattle.rp_base.specs.declared.kind.Kind.TheVariants.{TypeError}
 use Rattle.rp_base.specs.declared.value.Oid.{Oid}
 use Rattle.rp_base.specs.declared.value.OpEnd.{OpEnd}
@@ -12,13 +10,13 @@ use Rattle.rp_base.specs.declared.value.Value.{Value}
 use Rattle.rp_base.specs.declared.value.Value.TheVariants as value
 use Rattle.rp_base.specs.declared.word.TheConstants.{INIT}
 use Rattle.rp_meaning.specs.Binding.{Arguments, behind, none}
-use Rattle.rp_meaning.specs.Calls.{found_call, made_instance, object_call}
+use Rattle.rp_meaning.specs.Calls.{made_instance}
 use Rattle.rp_meaning.specs.Frame.{Frame, Run}
 use Rattle.rp_meaning.specs.Running.{calls_within}
-use Rattle.rp_meaning.specs.State.{State, Outcome, heap_of, makes}
+use Rattle.rp_meaning.specs.State.{State, Outcome, heap_of}
 use Rattle.rp_ops.specs.Outcome.{End, gives, on_value, raises}
 use Rattle.rp_proxy.specs.declared.world.World.{World}
-use Rattle.rp_store.specs.Heap.{Names, Owned, content_at, method_at, owner_at}
+use Rattle.rp_store.specs.Heap.{Names, Owned, method_at, owner_at}
 use Rattle.rp_store.specs.Object as object
 use Rattle.rp_store.specs.Object.{Content}
 use Rattle.rp_store.specs.Parts.{IsClass}
@@ -28,14 +26,13 @@ use Rattle.rp_meaning.proofs.Laws.{then_then}
 use Rattle.rp_access.proofs.Going.{IsEnd-same, IsEnd-then, gives-then}
 use Rattle.rp_enter.specs.Entering.{instance_made, lent_by}
 use Rattle.rp_proxy.specs.Taken.{taken}
-use Rattle.rp_step.specs.Callables.{IsCallWith, before_all, given_by, initialised}
-use Rattle.rp_engine.specs.DefinitionSteps.{called_by, got_by}
+use Rattle.rp_step.specs.Callables.{initialised}
+use Rattle.rp_engine.specs.DefinitionSteps.{code_call, code_of, got_by}
 use Rattle.rp_engine.specs.HandSteps.{held_by, size_of}
 use Rattle.rp_engine.specs.Law.{frame_in, rest_of}
 use Rattle.rp_engine.specs.Moment.{run_of}
 use Rattle.rp_engine.specs.Rest.{gave, rest}
 use Rattle.rp_step.specs.Running.{CallsAt, Enters, Instances, unwound, whole_of}
-use Rattle.rp_step.specs.declared.callables.Callable.{Callable}
 use Rattle.rp_engine.specs.declared.calling.Hand.{Hand}
 use Rattle.rp_engine.specs.declared.halt.Halt.{Halt}
 use Rattle.rp_engine.specs.declared.machine.Machine.{Machine}
@@ -44,7 +41,7 @@ use Rattle.rp_engine.proofs.Moves.{on_ok}
 
 -- a class is called
 class_call : (at : Oid) (owner : Side) (c : Content) (a : Arguments) (f : Frame) (s : State) → IsClass c
-    → object_call at owner c a f s ≡ made_instance owner at (method_at (heap_of s) at INIT) a f s
+    → code_of at owner c a f s ≡ made_instance owner at (method_at (heap_of s) at INIT) a f s
 class_call at owner (object.list vs) a f s is = absurd is
 class_call at owner (object.tuple vs) a f s is = absurd is
 class_call at owner (object.dict es) a f s is = absurd is
@@ -56,7 +53,7 @@ class_call at owner (object.scope block parent slots) a f s is = absurd is
 
 found_class : (at : Oid) (o : Option Owned) (owner : Side) (a : Arguments) (f : Frame) (s : State)
     → IsSomeAnd (option_map (λ (o : Owned). o.content) o) IsClass → option_map (λ (o : Owned). o.owner) o ≡ Some owner
-    → found_call at o a f s ≡ made_instance owner at (method_at (heap_of s) at INIT) a f s
+    → code_call at o a f s ≡ made_instance owner at (method_at (heap_of s) at INIT) a f s
 found_class at None owner a f s is owned = absurd is
 found_class at (Some o) owner a f s is owned =
     class_call at o.owner o.content a f s is ∙ ap (λ (x : Option Side). made_instance (owner_in x owner) at (method_at (heap_of s) at INIT) a f s) owned where
@@ -198,11 +195,3 @@ module _ (r : Runner) (w u : World) (h : Hand) (owner : Side) (class function : 
       (Instances h owner class (Some function) lent r w (record r { machine = z }) u)
       (λ law base. ap (unwound base r.callers.items) (law base (state_of u) _ (IsEnd-then end (state_of u) _ (λ x s. got_by lent x (frame_in base r.machine) s)
       (init_ends owner class function (held_by h r.machine.values) (frame_in base r.machine) (state_of w) (state_of u) end is)))) law
-
-  -- the function that is called stands at its place
-  pub init_enters : (q : Runner) (v : World) (res : Result (Unit {0}) Halt) (at : Oid) (c : Callable) → IsCallWith u.store.heap function (Some (value.Ref at)) c
-      → OnOk res (Enters h c.entry.function (before_all c.receiver (held_by h r.machine.values)) lent (Some at) r u q v)
-      → OnOk res (Enters h function (behind (value.Ref at) (held_by h r.machine.values)) lent (Some at) r u q v)
-  init_enters q v res at c is law =
-      subst (λ place. OnOk res (Enters h place (behind (value.Ref at) (held_by h r.machine.values)) lent (Some at) r u q v)) is.place
-      (subst (λ o. OnOk res (Enters h c.entry.function (before_all o (held_by h r.machine.values)) lent (Some at) r u q v)) is.receiver law)

@@ -1,6 +1,10 @@
+pub mod Asks
 pub mod CalledObjects
 pub mod Entries
 pub mod Hands
+pub mod InnerTurns
 pub mod Instancing
 pub mod Loops
+pub mod Others
 pub mod Runs
+pub mod SpecialCalls

@@ -1,11 +1,12 @@
 -- Runs of code: what a step leaves to be done, where code waits for the ends of calls.
-use Rattle.std.proofs.Common.{◌≡◌, ◌<◌, ℕ, suc, ◌+◌, ◌-◌, List, [], ◌∷◌, ◌++◌, drop, length, Option, Some, None, Result, Ok, Err, refl, sym, ap, ◌∙◌, subst}
+use Rattle.std.proofs.Common.{◌≡◌, ℕ, List, [], ◌∷◌, ◌++◌, drop, Option, Some, None, Result, refl, sym, ap, ◌∙◌, subst}
 use Rattle.std.specs.Prelude.{All, Bool, IfSome, OnOk, codes, false, true}
 use Rattle.std.proofs.lemmas.List.Elements.{All-append, All-cons, All-head, All-nil, All-tail, All-weaker}
 use Rattle.rp_base.specs.declared.value.OpEnd.{OpEnd}
 use Rattle.rp_base.specs.declared.kind.Kind.TheVariants.{TypeError}
 use Rattle.rp_base.specs.declared.value.Oid.{Oid}
 use Rattle.rp_base.specs.declared.value.Rock.TheVariants as rock
+use Rattle.rp_base.specs.declared.value.Side.{Side}
 use Rattle.rp_base.specs.declared.value.Value.{Value}
 use Rattle.rp_base.specs.declared.value.Value.TheVariants as value
 use Rattle.rp_frame.specs.declared.activation.Activation.{Activation}
@@ -24,16 +25,16 @@ use Rattle.rp_proxy.specs.Taken.{taken}
 use Rattle.rp_proxy.specs.declared.world.World.{World}
 use Rattle.rp_enter.specs.Entering.{lent_by}
 use Rattle.rp_store.specs.Heap.{Owned}
-use Rattle.rp_store.specs.Kept.{IsScopeOf, IsSound}
+use Rattle.rp_store.specs.Kept.{IsFit, IsScopeOf, IsSound}
 use Rattle.rp_store.specs.Shape.{KeepsShape}
 use Rattle.rp_access.specs.Comes.{IsEnd}
 use Rattle.rp_access.specs.Moment.{state_of}
 use Rattle.rp_access.proofs.Going.{raises_end}
 use Rattle.rp_codes.specs.Codes.{code_view}
-use Rattle.rp_step.specs.Callables.{given_by, initialised, is_nil}
+use Rattle.rp_step.specs.Callables.{given_at, given_by, initialised, is_nil}
 use Rattle.rp_engine.specs.DefinitionSteps.{got_by}
 use Rattle.rp_engine.specs.Law.{Leaves, frame_in, rest_of}
-use Rattle.rp_engine.specs.Moment.{frame_of, program_at, run_of}
+use Rattle.rp_engine.specs.Moment.{frame_of, run_of}
 use Rattle.rp_engine.specs.Ready.{IsReady}
 use Rattle.rp_engine.specs.Ends.{end_of}
 use Rattle.rp_engine.specs.Does as does
@@ -44,13 +45,13 @@ use Rattle.rp_tree.specs.StatementViews.{view_stmts}
 use Rattle.rp_tree.specs.declared.expr.Expr.{Expr}
 use Rattle.rp_tree.specs.declared.expr.Params.{Params}
 use Rattle.rp_tree.specs.declared.stmt.Stmt.{Stmt}
+use Rattle.rp_step.specs.Left.{left_by}
 use Rattle.rp_step.specs.Running.{GoesOn, IsRunnable, IsWaiting, given, got, resumed, unwound, whole_of}
 use Rattle.rp_step.specs.declared.callers.Caller.{Caller}
 use Rattle.rp_engine.specs.declared.halt.Halt.{Halt}
 use Rattle.rp_engine.specs.declared.machine.Machine.{Machine}
 use Rattle.rp_step.specs.declared.runner.Runner.{Runner}
 use Rattle.rp_codes.specs.declared.code.Code.{Code}
-use Rattle.rp_engine.specs.declared.units.Units.{Units}
 use Rattle.rp_engine.proofs.AtHand.{drop_ready}
 use Rattle.rp_engine.proofs.Moves.{on_ok}
 use Rattle.rp_engine.proofs.Worlds.{IsReady-goes}
@@ -66,6 +67,12 @@ pub made_goes : (w v : World) (made : Option Oid) → KeepsShape w.store.heap v.
 made_goes w v None shape h = tt
 made_goes w v (Some at) shape h = shape.sound (value.Ref at) h
 
+-- so does what is filled, and it is fit
+pub filled_goes : (w v : World) (side : Side) (filled : Option Oid) → KeepsShape w.store.heap v.store.heap → IfSome filled (λ at. IsFit w.store.heap side (value.Ref at))
+    → IfSome filled (λ at. IsFit v.store.heap side (value.Ref at))
+filled_goes w v side None shape h = tt
+filled_goes w v side (Some at) shape h = shape.fit side (value.Ref at) h
+
 pub made_sound : (heap : List Owned) (made : Option Oid) (at : Oid) → made ≡ Some at → IfSome made (λ at. IsSound heap (value.Ref at)) → IsSound heap (value.Ref at)
 made_sound heap made at is h = subst (λ (made : Option Oid). IfSome made (λ at. IsSound heap (value.Ref at))) is h
 
@@ -73,7 +80,7 @@ made_sound heap made at is h = subst (λ (made : Option Oid). IfSome made (λ at
 pub waiting_goes : (w v : World) (cs : List Caller) → KeepsShape w.store.heap v.store.heap → IsFaithful v → All (IsWaiting w) cs → All (IsWaiting v) cs
 waiting_goes w v cs shape faithful h =
     All-weaker (IsWaiting w) (IsWaiting v)
-    (λ c h. record { ready = IsReady-goes c.units.now c.frame c.values w v h.ready shape faithful; made = made_goes w v c.made shape h.made }) cs h
+    (λ c h. record { ready = IsReady-goes c.units.now c.frame c.values w v h.ready shape faithful; made = made_goes w v c.made shape h.made; filled = filled_goes w v c.frame.side c.filled shape h.filled }) cs h
 
 pub runnable_goes : (r : Runner) (m : Machine) (w v : World) → IsRunnable r w → IsReady m.units.now m.frame m.values v → KeepsShape w.store.heap v.store.heap
     → IsRunnable (record r { machine = m }) v
@@ -146,31 +153,54 @@ module _ (m h : Machine) (cs : List Caller) (c : Caller) (over : h ≡ record m 
       (subst (λ (z : Machine). rest_of base n s ≡ rest z.tasks (gave (frame_in base z) z.values (raises TypeError (codes "init") s))) over
       (law base s (raises TypeError (codes "init") s) (raises_end Value end (record { kind = TypeError; text = codes "init" }) s is)))) law
 
+  -- or it has what a comprehension filled
+  pub fills : (n : Machine) (r : Result (Unit {0}) Halt) (v : Value)
+      → OnOk r ((base : Run) (s : State) → rest_of base n s ≡ rest h.tasks (gave (frame_in base h) h.values (gives v s)))
+      → OnOk r ((base : Run) (s : State) → unwound base cs (rest_of base n s) ≡ unwound base cs (rest c.tasks (gave (frame_of (run_of base c.units.now) c.frame) c.values (gives v s))))
+  fills n r v law =
+      on_ok r ((base : Run) (s : State) → rest_of base n s ≡ rest h.tasks (gave (frame_in base h) h.values (gives v s)))
+      ((base : Run) (s : State) → unwound base cs (rest_of base n s) ≡ unwound base cs (rest c.tasks (gave (frame_of (run_of base c.units.now) c.frame) c.values (gives v s))))
+      (λ law base s. ap (unwound base cs)
+      (subst (λ (z : Machine). rest_of base n s ≡ rest z.tasks (gave (frame_in base z) z.values (gives v s))) over (law base s))) law
+
+  pub filled_fit : (w : World) (at : Oid) → c.filled ≡ Some at → IsWaiting w c → IsFit w.store.heap h.frame.side (value.Ref at)
+  filled_fit w at is waits =
+      subst (λ (z : Machine). IsFit w.store.heap z.frame.side (value.Ref at)) (sym over)
+      (subst (λ (filled : Option Oid). IfSome filled (λ at. IsFit w.store.heap c.frame.side (value.Ref at))) is waits.filled)
+
   pub over_ready : (w : World) → IsWaiting w c → IsReady h.units.now h.frame h.values w
   over_ready w h = subst (λ (z : Machine). IsReady z.units.now z.frame z.values w) (sym over) h.ready
 
--- it gets the value itself, or the instance that was made
+-- it gets the value itself, or the instance that was made, or what a comprehension filled
 module _ (base : Run) (c : Caller) (v : Value) (s : State) where
   abbrev there : Frame
   there = frame_of (run_of base c.units.now) c.frame
 
-  pub gives_plain : c.made ≡ None → given base c (gives v s) ≡ got base c v s
-  gives_plain is = ap (λ (made : Option Oid). gave there c.values (given_by c.lent made v there s)) is
+  -- it waited for a call
+  calls : c.filled ≡ None → given base c (gives v s) ≡ gave there c.values (given_by c.lent c.made v there s)
+  calls call = ap (λ (filled : Option Oid). gave there c.values (given_at filled c.lent c.made v there s)) call
 
-  pub gives_made : (at : Oid) → c.made ≡ Some at → is_nil v ≡ true → given base c (gives v s) ≡ got base c (value.Ref at) s
-  gives_made at is nil =
-      ap (λ (made : Option Oid). gave there c.values (given_by c.lent made v there s)) is
+  pub gives_plain : c.filled ≡ None → c.made ≡ None → given base c (gives v s) ≡ got base c v s
+  gives_plain call is = calls call ∙ ap (λ (made : Option Oid). gave there c.values (given_by c.lent made v there s)) is
+
+  pub gives_made : (at : Oid) → c.filled ≡ None → c.made ≡ Some at → is_nil v ≡ true → given base c (gives v s) ≡ got base c (value.Ref at) s
+  gives_made at call is nil =
+      calls call ∙ ap (λ (made : Option Oid). gave there c.values (given_by c.lent made v there s)) is
       ∙ ap (λ o. gave there c.values (on_value o (λ v s. got_by c.lent v there s))) (made_nil at v s nil)
 
-  pub gives_other : (at : Oid) → c.made ≡ Some at → is_nil v ≡ false → given base c (gives v s) ≡ gave there c.values (raises TypeError (codes "init") s)
-  gives_other at is other =
-      ap (λ (made : Option Oid). gave there c.values (given_by c.lent made v there s)) is
+  pub gives_other : (at : Oid) → c.filled ≡ None → c.made ≡ Some at → is_nil v ≡ false → given base c (gives v s) ≡ gave there c.values (raises TypeError (codes "init") s)
+  gives_other at call is other =
+      calls call ∙ ap (λ (made : Option Oid). gave there c.values (given_by c.lent made v there s)) is
       ∙ ap (λ o. gave there c.values (on_value o (λ v s. got_by c.lent v there s))) (made_other at v s other)
 
--- code is left, which waits
+  -- or for the turns of a comprehension
+  pub gives_filled : (at : Oid) → c.filled ≡ Some at → given base c (gives v s) ≡ gave there c.values (gives (value.Ref at) s)
+  gives_filled at is = ap (λ (filled : Option Oid). gave there c.values (given_at filled c.lent c.made v there s)) is
+
+-- code is left, which waits for the end of a call
 
 abbrev pub left : Machine → Bool → Option Oid → Caller
-left m lent made = record { units = m.units; frame = m.frame; tasks = m.tasks; values = m.values; lent = lent; made = made }
+left m lent made = record { units = m.units; frame = m.frame; tasks = m.tasks; values = m.values; lent = lent; made = made; filled = None }
 
 abbrev pub dropped : Machine → ℕ → Machine
 dropped m n = record m { values = drop n m.values }
@@ -204,14 +234,14 @@ module _ (m : Machine) (cs : List Caller) (n : ℕ) (lent : Bool) (made : Option
 -- all may go on in the code of the function
 pub switch_ready : (m h g : Machine) (us cs : List Caller) (c : Caller) (n : ℕ) (lent : Bool) (made : Option Oid) (a : Activation) (w : World)
     → h ≡ dropped m n → c ≡ left h lent made → g ≡ record h { frame = a; tasks = []; values = [] } → us ≡ cs ++ c ∷ []
-    → IsReady m.units.now m.frame m.values w → All (IsWaiting w) cs → a.block < length (program_at m.units.now a.side).layouts → IsScopeOf w.store.heap a.side a.scope
+    → IsReady m.units.now m.frame m.values w → All (IsWaiting w) cs → IsScopeOf w.store.heap a.side a.scope
     → IfSome made (λ at. IsSound w.store.heap (value.Ref at)) → IsReady g.units.now g.frame g.values w × All (IsWaiting w) us
-switch_ready m h g us cs c n lent made a w drops waits goes more ready all block scope sound = (
+switch_ready m h g us cs c n lent made a w drops waits goes more ready all scope sound = (
   subst (λ (g : Machine). IsReady g.units.now g.frame g.values w) (sym (goes ∙ ap (λ (h : Machine). record h { frame = a; tasks = []; values = [] }) drops))
-      (record { faithful = ready.faithful; block = block; scope = scope; fit = All-nil _; indexed = ready.indexed }),
+      (record { faithful = ready.faithful; scope = scope; fit = All-nil _; indexed = ready.indexed }),
   subst (λ (us : List Caller). All (IsWaiting w) us) (sym (more ∙ ap (λ (c : Caller). cs ++ c ∷ []) (waits ∙ ap (λ (h : Machine). left h lent made) drops)))
       (All-append (IsWaiting w) cs (left (dropped m n) lent made ∷ []) all
-      (All-cons (IsWaiting w) (left (dropped m n) lent made) [] (record { ready = drop_ready m.units.now m.frame n m.values w ready; made = sound }) (All-nil (IsWaiting w)))),
+      (All-cons (IsWaiting w) (left (dropped m n) lent made) [] (record { ready = drop_ready m.units.now m.frame n m.values w ready; made = sound; filled = tt }) (All-nil (IsWaiting w)))),
 )
 
 -- the code that waited gets this, by how the code that it called came to its end
@@ -230,13 +260,6 @@ pub cut_here : (r : Result (Unit {0}) Halt) (p q : Runner) (c : Caller) (s : Sta
 cut_here r p q c s law =
     on_ok r ((base : Run) (t : State) → whole_of base p t ≡ unwound base q.callers.items (rest c.tasks (given base c (ends (end_of q.machine.end) t))))
     ((base : Run) → whole_of base p s ≡ unwound base q.callers.items (rest c.tasks (given base c (ends (end_of q.machine.end) s)))) (λ law base. law base s) law
-
-pub wait_here : (r : Result (Unit {0}) Halt) (p q : Runner) (c : Caller) (s : State)
-    → OnOk r ((base : Run) (t : State) → whole_of base p t ≡ unwound base q.callers.items (rest c.tasks (resumed base c (rest_of base q.machine t))))
-    → OnOk r ((base : Run) → whole_of base p s ≡ unwound base q.callers.items (rest c.tasks (resumed base c (rest_of base q.machine s))))
-wait_here r p q c s law =
-    on_ok r ((base : Run) (t : State) → whole_of base p t ≡ unwound base q.callers.items (rest c.tasks (resumed base c (rest_of base q.machine t))))
-    ((base : Run) → whole_of base p s ≡ unwound base q.callers.items (rest c.tasks (resumed base c (rest_of base q.machine s)))) (λ law base. law base s) law
 
 -- the last caller is taken off, and goes on
 pub comes_back : (r : Result (Unit {0}) Halt) (q p : Runner) (w : World) (us : List Caller) (c : Caller) → q.callers.items ≡ us ++ c ∷ []
@@ -276,26 +299,19 @@ pub begins_def : (ps : Params) (body : List Stmt) (base : Run) (c : Caller) (f :
 begins_def ps body base c f s =
     ap (λ (D : Doing). resumed base c (did f [] (D f s))) (sym (blocks_are body))
     ∙ ap (λ o. gave (frame_of (run_of base c.units.now) c.frame) c.values o)
-    (sym (then_then (meaning.block (view_stmts body) f s) (λ flow s. gives (value_of flow) s) (λ v s. given_by c.lent c.made v (frame_of (run_of base c.units.now) c.frame) s)))
+    (sym (then_then (meaning.block (view_stmts body) f s) (λ flow s. gives (value_of flow) s) (λ v s. given_at c.filled c.lent c.made v (frame_of (run_of base c.units.now) c.frame) s)))
 
 pub begins_lambda : (ps : Params) (body : Expr) (base : Run) (c : Caller) (f : Frame) (s : State)
     → resumed base c (gave f [] (does.expr body f s)) ≡ given base c (value_of_code (blocks.lambda (view_params ps) (view_expr body)) f s)
 unfolding does.expr
 begins_lambda ps body base c f s = refl
 
--- code waits on
-pub waits_on : (base : Run) (r q : Runner) (s : State) (c : Caller) → q.callers.items ≡ r.callers.items ++ c ∷ [] → q.machine ≡ r.machine
-    → whole_of base q s ≡ unwound base r.callers.items (rest c.tasks (resumed base c (rest_of base r.machine s)))
-waits_on base r q s c more same =
-    ap (λ cs. unwound base cs (rest_of base q.machine s)) more ∙ ap (λ m. unwound base (r.callers.items ++ c ∷ []) (rest_of base m s)) same
-    ∙ unwound_last base r.callers.items c (rest_of base r.machine s)
-
-pub waits_ready : (r q : Runner) (w : World) (c : Caller) → q.callers.items ≡ r.callers.items ++ c ∷ [] → q.machine ≡ r.machine → IsRunnable r w → IsWaiting w c → IsRunnable q w
-waits_ready r q w c more same h ready = record {
-  machine = subst (λ (m : Machine). IsReady m.units.now m.frame m.values w) (sym same) h.machine;
-  callers = subst (λ (cs : List Caller). All (IsWaiting w) cs) (sym more)
-      (All-append (IsWaiting w) r.callers.items (c ∷ []) h.callers (All-cons (IsWaiting w) c [] ready (All-nil (IsWaiting w))));
-}
+-- how the code was left that comes to its end
+pub left_at : (base : Run) (m : Machine) (s : State) (z : Control) → m.tasks ≡ [] → m.control ≡ z
+    → left_by (rest_of base m s) ≡ left_by (begun (frame_in base m) z m.values m.end s)
+left_at base m s z none is =
+    ap (λ ts. left_by (rest ts (begun (frame_in base m) m.control m.values m.end s))) none
+    ∙ ap (λ z. left_by (begun (frame_in base m) z m.values m.end s)) is
 
 pub came_back : (q z p : Runner) (w : World) (c : Caller) → q.callers.items ≡ z.callers.items ++ c ∷ [] → z.machine ≡ q.machine
     → ((base : Run) → whole_of base p (state_of w) ≡ unwound base z.callers.items (rest c.tasks (resumed base c (rest_of base z.machine (state_of w)))))

@@ -1,5 +1,5 @@
 -- What a call of an object runs, and what the one who calls gets of it.
-use Rattle.std.specs.Prelude.{◌≡◌, Bool, true, false, IfSome, List, Option, Some, None, codes, slice_get}
+use Rattle.std.specs.Prelude.{◌≡◌, Bool, IfSome, List, Option, Some, None, codes, slice_get}
 use Rattle.rp_base.specs.declared.kind.Kind.TheVariants.{TypeError}
 use Rattle.rp_base.specs.declared.value.Name.{Name}
 use Rattle.rp_base.specs.declared.value.Oid.{Oid}
@@ -9,15 +9,19 @@ use Rattle.rp_base.specs.declared.value.Value.TheVariants as value
 pub use Rattle.rp_enter.specs.Entering.{before_all}
 use Rattle.rp_enter.specs.declared.entering.Entry.{Entry}
 use Rattle.rp_meaning.specs.Binding.{Arguments}
-use Rattle.rp_meaning.specs.Calls.{found_call}
+use Rattle.rp_meaning.specs.BuiltIn.{not_called}
 use Rattle.rp_meaning.specs.Frame.{Frame, Meaning}
+pub use Rattle.rp_meaning.specs.Operators.{is_nil}
 use Rattle.rp_meaning.specs.State.{State, Outcome, heap_of}
 use Rattle.rp_ops.specs.Outcome.{gives, on_value, raises}
-use Rattle.rp_store.specs.Heap.{Owned, content_at}
+use Rattle.rp_store.specs.Heap.{Names, Owned, content_at, owner_at}
 use Rattle.rp_store.specs.Kept.{IsScopeOf, IsSound}
 use Rattle.rp_store.specs.Object as object
-use Rattle.rp_engine.specs.DefinitionSteps.{got_by}
+use Rattle.rp_store.specs.Parts.{IsClass}
+use Rattle.rp_engine.specs.DefinitionSteps.{code_call, got_by}
 use Rattle.rp_step.specs.declared.callables.Callable.{Callable}
+use Rattle.rp_step.specs.declared.callables.Called.{Called}
+use Rattle.rp_step.specs.declared.callables.Called.TheVariants as called
 
 -- what stands at a place is this function
 pub record IsFunctionAt (heap : List Owned) (e : Entry) : Type 0 where
@@ -38,7 +42,17 @@ pub record IsCallableAt (heap : List Owned) (at : Oid) (c : Callable) : Type 0 w
   pub function : IsFunctionAt heap c.entry
   pub sound : IfSome c.receiver (IsSound heap)
   pub called : (a : Arguments) (f : Frame) (s : State) → heap_of s ≡ heap
-      → found_call at (slice_get (heap_of s) at.0) a f s ≡ f.calls c.entry.function (before_all c.receiver a) s
+      → code_call at (slice_get (heap_of s) at.0) a f s ≡ f.calls c.entry.function (before_all c.receiver a) s
+
+-- a call of the object at a place runs no code
+abbrev pub IsUncalledAt : List Owned → Oid → Type 0
+IsUncalledAt heap at = (a : Arguments) (f : Frame) (s : State) → heap_of s ≡ heap → code_call at (slice_get (heap_of s) at.0) a f s ≡ not_called s
+
+-- what a call of the object at a place does
+abbrev pub IsCalledAt : List Owned → Oid → Called → Type 0
+IsCalledAt heap at (called.Code c) = IsCallableAt heap at c
+IsCalledAt heap at (called.Class owner) = Names heap IsClass at × (owner_at heap at ≡ Some owner)
+IsCalledAt heap at called.Nothing = IsUncalledAt heap at
 
 -- an instance that was made is what a call gives, where `__init__` gave None
 abbrev pub initialised : Oid → Value → State → Outcome Value
@@ -50,6 +64,7 @@ abbrev pub given_by : Bool → Option Oid → Value → Meaning
 given_by lent None v f s = got_by lent v f s
 given_by lent (Some at) v f s = on_value (initialised at v s) (λ v s. got_by lent v f s)
 
-abbrev pub is_nil : Value → Bool
-is_nil (value.Rock rock.Nil) = true
-is_nil _ = false
+-- the same, or the list or dict that a comprehension filled, whatever its turns came to
+abbrev pub given_at : Option Oid → Bool → Option Oid → Value → Meaning
+given_at None lent made v f s = given_by lent made v f s
+given_at (Some at) lent made v f s = gives (value.Ref at) s

@@ -1,3 +1,4 @@
 pub mod Callables
 pub mod Left
 pub mod Running
+pub mod TaskGroups

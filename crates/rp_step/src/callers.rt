@@ -1,4 +1,4 @@
-//! Code that waits for the end of a call.
+//! Code that waits for the end of a call, or of the turns of a comprehension.
 
 ghost use Rattle.std.specs.Prelude.{◌≡◌, []};
 
@@ -7,8 +7,8 @@ use rp_engine::{Machine, Units};
 use rp_frame::{Activation, Tasks, Values};
 use std::mem::replace;
 
-/// Code that waits for the end of a call that it made: where it runs, the tasks that wait there for the value of the
-/// call, and the values at hand there (Python Language Reference, Calls).
+/// Code that waits for the end of a call that it made, or of the turns of a comprehension: where it runs, the tasks
+/// that wait there for the value of that, and the values at hand there (Python Language Reference, Calls).
 #[derive(Drop)]
 pub struct Caller<'u> {
     pub units: &'u Units<'u>,
@@ -19,14 +19,17 @@ pub struct Caller<'u> {
     pub lent: bool,
     /// The instance that it made, and then called `__init__` of; it gets that, in place of None.
     pub made: Option<Oid>,
+    /// The list or dict that the turns fill for which it waits; it gets that.
+    pub filled: Option<Oid>,
 }
 
-/// Leaves its code, which then waits for the end of a call, and goes on elsewhere, with no task and no value at
-/// hand.
+/// Leaves its code, which then waits for the end of a call or of the turns of a comprehension, and goes on elsewhere,
+/// with no task and no value at hand.
 pub(crate) fn suspend<'u>(
     machine: &mut Machine<'u>,
     lent: bool,
     made: Option<Oid>,
+    filled: Option<Oid>,
     frame: Activation,
 ) -> Caller<'u>
     ensures caller { result ≡ record {
@@ -36,6 +39,7 @@ pub(crate) fn suspend<'u>(
       values = machine.old.values;
       lent = lent;
       made = made;
+      filled = filled;
     } }
     ensures left { machine.new ≡ record machine.old { frame = frame; tasks = []; values = [] } }
 {
@@ -46,6 +50,7 @@ pub(crate) fn suspend<'u>(
         values: replace(&mut machine.values, Values::new(machine.alloc)),
         lent,
         made,
+        filled,
     }
 }
 

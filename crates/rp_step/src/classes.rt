@@ -1,21 +1,19 @@
 //! Calls of classes.
-#![tactic(auto, using(rp_store::proofs::Shapes::goes_on))]
+#![tactic(auto, using(rp_store::proofs::CallerLemmas::goes_on))]
 
 ghost use Rattle.std.specs.Prelude.{◌≡◌, None, OnOk, Some, drop, suc};
 ghost use Rattle.rp_access.specs.Moment.{state_of};
 ghost use Rattle.rp_meaning.specs.Frame.{Run};
-ghost use Rattle.rp_meaning.specs.Binding.{behind};
 ghost use Rattle.rp_engine.specs.DefinitionSteps.{got_by};
-ghost use Rattle.rp_engine.specs.HandSteps.{held_by, size_of};
+ghost use Rattle.rp_engine.specs.HandSteps.{size_of};
 ghost use Rattle.rp_engine.specs.Law.{frame_in};
 ghost use Rattle.rp_engine.specs.Rest.{gave, rest};
 ghost use Rattle.rp_store.specs.Heap.{Names, method_at};
 ghost use Rattle.rp_store.specs.Kept.{IsSound};
 ghost use Rattle.rp_store.specs.Parts.{IsClass, IsFunction};
 ghost use Rattle.rp_store.specs.Shape.{KeepsShape};
-ghost use Rattle.rp_step.specs.Running.{CallsAt, Enters, Instances, IsRunnable, unwound, whole_of};
+ghost use Rattle.rp_step.specs.Running.{Instances, IsRunnable, unwound, whole_of};
 
-use crate::callables::callable_with;
 use crate::runner::Runner;
 use rp_base::word::INIT;
 use rp_base::{Kind, Oid, OpEnd, Side, Value};
@@ -23,38 +21,15 @@ use rp_engine::{Halt, Hand};
 use rp_enter::{given, new_instance};
 use rp_expressions::without_hand;
 use rp_proxy::World;
-use rp_store::Object;
 
 impl<'u> Runner<'u> {
     /// Calls the class at a place: an instance is made, and its `__init__` is called, where it has one (Python Language
     /// Reference, Calls, Basic customization).
     ///
     /// # Errors
-    /// `Memory` where a growth was refused, `NotBuilt` where no class stands there.
+    /// As `enter`.
     #[inline(never)]
-    pub(crate) fn call_class(
-        &mut self,
-        world: &mut World,
-        hand: Hand,
-        at: Oid,
-        lent: bool,
-    ) -> Result<(), Halt>
-        requires ready { IsRunnable self.old world.old }
-        requires sound { IsSound world.old.store.heap (Value.Ref at) }
-        ensures law { OnOk result (CallsAt hand at lent self.old world.old self.new world.new) }
-        ensures ready { OnOk result (IsRunnable self.new world.new) }
-        ensures shape { KeepsShape world.old.store.heap world.new.store.heap }
-    {
-        let owner = world.store.owner(at);
-        match world.store.object(at) {
-            Object::Class { .. } => self.instance_of(world, hand, owner, at, lent),
-            _ => Err(Halt::NotBuilt),
-        }
-    }
-
-    /// Makes an instance of a class, and calls its `__init__`.
-    #[inline(always)]
-    fn instance_of(
+    pub(crate) fn instance_of(
         &mut self,
         world: &mut World,
         hand: Hand,
@@ -78,7 +53,7 @@ impl<'u> Runner<'u> {
     /// Makes an instance of a class without `__init__`, which takes no arguments.
     ///
     /// # Errors
-    /// `NotBuilt` where the arguments are not at hand, as no call comes to.
+    /// As `enter`.
     #[inline(always)]
     fn bare_instance(
         &mut self,
@@ -94,11 +69,12 @@ impl<'u> Runner<'u> {
         ensures ready { OnOk result (IsRunnable self.new world.new) }
         ensures shape { KeepsShape world.old.store.heap world.new.store.heap }
     {
-        let size = hand.size();
-        if self.machine.values.last(size).len() < size {
-            return Err(Halt::NotBuilt);
+        let plain = self.count_plain(hand);
+        if plain > 0 {
+            return self.refuse(hand, Kind::TypeError, "arguments");
         }
-        if size > 0 {
+        let named = self.count_named(hand)?;
+        if named > 0 {
             return self.refuse(hand, Kind::TypeError, "arguments");
         }
         match new_instance(self.machine.alloc, world, owner, class) {
@@ -144,34 +120,9 @@ impl<'u> Runner<'u> {
         ensures shape { KeepsShape world.old.store.heap world.new.store.heap }
     {
         match new_instance(self.machine.alloc, world, owner, class) {
-            Ok(at) => self.call_init(world, hand, function, at, lent),
+            Ok(at) => self.call_behind(world, hand, function, at, lent, Some(at)),
             Err(OpEnd::Memory) => Err(Halt::Memory),
             Err(end) => without_hand(&mut self.machine, hand, end),
-        }
-    }
-
-    /// Calls a function behind an instance that was made.
-    #[inline(always)]
-    fn call_init(
-        &mut self,
-        world: &mut World,
-        hand: Hand,
-        function: Oid,
-        at: Oid,
-        lent: bool,
-    ) -> Result<(), Halt>
-        requires ready { IsRunnable self.old world.old }
-        requires function { Names world.old.store.heap IsFunction function }
-        requires sound { IsSound world.old.store.heap (Value.Ref at) }
-        ensures law { OnOk result (Enters hand function
-            (behind (Value.Ref at) (held_by hand self.old.machine.values)) lent (Some at)
-            self.old world.old self.new world.new) }
-        ensures ready { OnOk result (IsRunnable self.new world.new) }
-        ensures shape { KeepsShape world.old.store.heap world.new.store.heap }
-    {
-        match callable_with(&world.store, function, Some(Value::Ref(at))) {
-            Some(callable) => self.call_function(world, hand, callable, lent, Some(at)),
-            None => Err(Halt::NotBuilt),
         }
     }
 }

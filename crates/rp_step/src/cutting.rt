@@ -1,5 +1,5 @@
 //! Parts of a try statement that take up that a statement was cut off. A stop passes them.
-#![tactic(auto, using(rp_store::proofs::Shapes::goes_on))]
+#![tactic(auto, using(rp_store::proofs::CallerLemmas::goes_on))]
 
 ghost use Rattle.std.specs.Prelude.{◌≡◌, IfSome, None, OnOk, false};
 ghost use Rattle.rp_access.specs.Moment.{state_of};
@@ -22,7 +22,6 @@ use rp_engine::{Halt, Machine, thrown};
 use rp_frame::{Control, FlowTask, Leaving};
 use rp_proxy::World;
 use rp_statements::{behind_handler, finish, handle};
-use rp_targets::leave_scope;
 use rp_tree::{Except, Stmt};
 
 /// What waits for the end of a statement takes up that it was cut off: it drops the value that it waited with.
@@ -48,7 +47,6 @@ pub(crate) fn flow_cut<'u>(
         FlowTask::StoreEach(targets) => go_less(machine, targets.len(), Control::CutOff),
         FlowTask::Class(_, _, _, count) => go_less(machine, count as usize, Control::CutOff),
         FlowTask::Clause(_, _, _) => machine.go(Control::CutOff),
-        FlowTask::Comprehension(block, scope, _) => leave_scope(machine, world, block, scope),
         FlowTask::Try(handlers, _) => catch(machine, world, handlers),
         FlowTask::Handled(name) => cut_handler(machine, world, name),
         FlowTask::Finally(last) => cut_finally(machine, last),

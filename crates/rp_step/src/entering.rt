@@ -1,15 +1,16 @@
 //! Calls of functions: their code is entered.
-#![tactic(auto, using(rp_store::proofs::Shapes::goes_on))]
+#![tactic(auto, using(rp_store::proofs::CallerLemmas::goes_on))]
 
-ghost use Rattle.std.specs.Prelude.{◌≡◌, ◌<◌, ◌≢◌, ◌∷◌, ◌++◌, [], Err, IfOk, IfSome, Ok, Option, OnOk, Some, ◌-◌, drop};
-ghost use Rattle.std.specs.Prelude.{◌^◌, length, reverse, suc, take};
+ghost use Rattle.std.specs.Prelude.{◌≡◌, ◌<◌, ◌≢◌, [], Err, IfOk, IfSome, Ok, Option, OnOk, Some, ◌-◌, drop};
+ghost use Rattle.std.specs.Prelude.{length, reverse, suc, take};
 ghost use Rattle.std.specs.Str.{chars};
 ghost use Rattle.rp_access.specs.Moment.{state_of};
+ghost use Rattle.rp_frame.specs.Top.{top};
 ghost use Rattle.rp_meaning.specs.Frame.{Run};
 ghost use Rattle.rp_meaning.specs.Binding.{only};
 ghost use Rattle.rp_meaning.specs.Running.{params_of, value_of_code};
 ghost use Rattle.rp_calls.specs.Binding.{defaults_at};
-ghost use Rattle.rp_access.specs.Comes.{ComesIfAny};
+ghost use Rattle.rp_access.specs.Comes.{Comes};
 ghost use Rattle.rp_enter.specs.Entering.{entered};
 ghost use Rattle.rp_proxy.specs.Faithful.{IsFaithful};
 ghost use Rattle.rp_scope.specs.Scopes.{locals_of};
@@ -26,32 +27,30 @@ ghost use Rattle.rp_engine.specs.DefinitionSteps.{callee_of};
 ghost use Rattle.rp_engine.specs.Law.{frame_in};
 ghost use Rattle.rp_engine.specs.Moment.{frame_of, program_at, run_of};
 ghost use Rattle.rp_engine.specs.Rest.{begun, gave, rest};
-ghost use Rattle.rp_engine.specs.ArgumentSteps.{named_in, word_at};
 ghost use Rattle.rp_step.specs.Callables.{IsFunctionAt, before_all, given_by};
 ghost use Rattle.rp_engine.specs.HandSteps.{held_by, size_of};
 ghost use Rattle.rp_step.specs.Running.{CallsAt, Enters, GoesOn, IsRunnable, Makes, given, resumed, unwound, whole_of};
 ghost use Rattle.rp_step.specs.declared.callers.Caller.{Caller as TheCaller};
 
-use crate::callables::{Callable, callable_at};
+use crate::callables::{Callable, Called, called_at};
 use crate::callers::suspend;
 use crate::run::Progress;
 use crate::runner::Runner;
-use rp_base::{Kind, Memory, Oid, OpEnd, Rock, Text, Value};
+use rp_base::{Kind, Memory, Oid, OpEnd, Rock, Value};
 use rp_codes::Code;
 use rp_engine::{Halt, Hand, local_count};
 use rp_enter::{Entry, enter, enter_bound, enter_named};
-use rp_expressions::without_hand;
+use rp_expressions::{named_at_hand, without_hand};
 use rp_frame::{Activation, Control};
 use rp_ops::raised;
 use rp_proxy::World;
-use std::alloc::Global;
+use rp_targets::ComprehensionParts;
 
 impl<'u> Runner<'u> {
-    /// Makes the call for which the machine asks.
+    /// Makes the call, or the turns of a comprehension, for which the machine asks.
     ///
     /// # Errors
-    /// `Memory` where a growth was refused, `NotBuilt` where a default is no value that code of the
-    /// function's side may hold.
+    /// `Memory` where a growth was refused.
     #[inline(always)]
     pub fn enter(&mut self, world: &mut World) -> Result<Progress, Halt>
         requires ready { IsRunnable self.old world.old }
@@ -63,6 +62,20 @@ impl<'u> Runner<'u> {
         match self.machine.control {
             Control::Call(plain, named) => {
                 self.call(world, Hand { plain, named })?;
+                Ok(Progress::More)
+            }
+            Control::Special(name, count) => {
+                self.call_special(world, name, count)?;
+                Ok(Progress::More)
+            }
+            Control::Comprehension(block, first, behind, made, spot) => {
+                let parts = ComprehensionParts {
+                    block,
+                    first,
+                    behind,
+                    made,
+                };
+                self.comprehend(world, parts, spot)?;
                 Ok(Progress::More)
             }
             _ => Ok(Progress::More),
@@ -77,11 +90,21 @@ impl<'u> Runner<'u> {
         ensures ready { OnOk result (IsRunnable self.new world.new) }
         ensures shape { KeepsShape world.old.store.heap world.new.store.heap }
     {
-        let nil = Value::Rock(Rock::Nil);
-        match callee_of(self.machine.values.under(hand.size(), &nil)) {
+        match self.callee(hand) {
             None => self.refuse(hand, Kind::TypeError, "call"),
             Some((at, lent)) => self.call_object(world, hand, at, lent),
         }
+    }
+
+    /// The place of what is called under these arguments by a reference, and whether it is called through a proxy.
+    #[inline(always)]
+    pub(crate) fn callee(&self, hand: Hand) -> Option<(Oid, bool)>
+        ensures value { result ≡ callee_of (top (drop (size_of hand) self.now.machine.values)) }
+        ensures sound { (w : TheWorld) → IsRunnable self.now w
+            → IfSome result (λ callee. IsSound w.store.heap (Value.Ref callee.0)) }
+    {
+        let nil = Value::Rock(Rock::Nil);
+        callee_of(self.machine.values.under(hand.size(), &nil))
     }
 
     /// Calls the object at a place.
@@ -99,9 +122,10 @@ impl<'u> Runner<'u> {
         ensures ready { OnOk result (IsRunnable self.new world.new) }
         ensures shape { KeepsShape world.old.store.heap world.new.store.heap }
     {
-        match callable_at(&world.store, at)? {
-            Some(callable) => self.call_function(world, hand, callable, lent, None),
-            None => self.call_class(world, hand, at, lent),
+        match called_at(&world.store, at)? {
+            Called::Code(callable) => self.call_function(world, hand, callable, lent, None),
+            Called::Class(owner) => self.instance_of(world, hand, owner, at, lent),
+            Called::Nothing => self.refuse(hand, Kind::TypeError, "call"),
         }
     }
 
@@ -162,7 +186,7 @@ impl<'u> Runner<'u> {
         let Callable { entry, receiver } = callable;
         let entered = self.scope_of(world, hand, entry, receiver, code);
         match unless_memory(entered)? {
-            Ok(Some(scope)) => {
+            Ok(scope) => {
                 let frame = Activation {
                     side: entry.side,
                     block: entry.block,
@@ -172,7 +196,6 @@ impl<'u> Runner<'u> {
                 };
                 self.switch(hand, lent, made, frame, code)
             }
-            Ok(None) => Err(Halt::NotBuilt),
             Err(end) => without_hand(&mut self.machine, hand, end),
         }
     }
@@ -186,18 +209,18 @@ impl<'u> Runner<'u> {
         entry: Entry,
         receiver: Option<Value>,
         code: Code<'u>,
-    ) -> Result<Option<Oid>, OpEnd>
+    ) -> Result<Oid, OpEnd>
         requires ready { IsRunnable self.now world.old }
         requires function { IsFunctionAt world.old.store.heap entry }
         requires receiver { IfSome receiver (IsSound world.old.store.heap) }
         requires code { code_at (program_at self.now.machine.units.now entry.side) entry.block ≡ Some code }
-        ensures law { ComesIfAny result (state_of world.new) (entered entry.side entry.block entry.within
+        ensures law { Comes result (state_of world.new) (entered entry.side entry.block entry.within
             (length (locals_of (program_at self.now.machine.units.now entry.side).layouts entry.block))
             (params_of (code_view code.entry)) (defaults_at world.old.store.heap entry.function)
             (before_all receiver (held_by hand self.now.machine.values)) (state_of world.old)) }
         ensures faithful { (result ≢ Err OpEnd.Memory) → IsFaithful world.new }
         ensures shape { KeepsShape world.old.store.heap world.new.store.heap }
-        ensures scope { IfOk result (λ at. IfSome at (IsScopeOf world.new.store.heap entry.side)) }
+        ensures scope { IfOk result (IsScopeOf world.new.store.heap entry.side) }
     {
         if hand.named == 0 {
             return self.plain_scope(world, hand.plain, entry, receiver, code);
@@ -214,18 +237,18 @@ impl<'u> Runner<'u> {
         entry: Entry,
         receiver: Option<Value>,
         code: Code<'u>,
-    ) -> Result<Option<Oid>, OpEnd>
+    ) -> Result<Oid, OpEnd>
         requires ready { IsRunnable self.now world.old }
         requires function { IsFunctionAt world.old.store.heap entry }
         requires receiver { IfSome receiver (IsSound world.old.store.heap) }
         requires code { code_at (program_at self.now.machine.units.now entry.side) entry.block ≡ Some code }
-        ensures law { ComesIfAny result (state_of world.new) (entered entry.side entry.block entry.within
+        ensures law { Comes result (state_of world.new) (entered entry.side entry.block entry.within
             (length (locals_of (program_at self.now.machine.units.now entry.side).layouts entry.block))
             (params_of (code_view code.entry)) (defaults_at world.old.store.heap entry.function)
             (before_all receiver (only (reverse (take count self.now.machine.values)))) (state_of world.old)) }
         ensures faithful { (result ≢ Err OpEnd.Memory) → IsFaithful world.new }
         ensures shape { KeepsShape world.old.store.heap world.new.store.heap }
-        ensures scope { IfOk result (λ at. IfSome at (IsScopeOf world.new.store.heap entry.side)) }
+        ensures scope { IfOk result (IsScopeOf world.new.store.heap entry.side) }
     {
         let alloc = self.machine.alloc;
         let locals = local_count(self.machine.units.program(entry.side), entry.block);
@@ -254,24 +277,24 @@ impl<'u> Runner<'u> {
         entry: Entry,
         receiver: Option<Value>,
         code: Code<'u>,
-    ) -> Result<Option<Oid>, OpEnd>
+    ) -> Result<Oid, OpEnd>
         requires ready { IsRunnable self.now world.old }
         requires function { IsFunctionAt world.old.store.heap entry }
         requires receiver { IfSome receiver (IsSound world.old.store.heap) }
         requires code { code_at (program_at self.now.machine.units.now entry.side) entry.block ≡ Some code }
-        ensures law { ComesIfAny result (state_of world.new) (entered entry.side entry.block entry.within
+        ensures law { Comes result (state_of world.new) (entered entry.side entry.block entry.within
             (length (locals_of (program_at self.now.machine.units.now entry.side).layouts entry.block))
             (params_of (code_view code.entry)) (defaults_at world.old.store.heap entry.function)
             (before_all receiver (held_by hand self.now.machine.values)) (state_of world.old)) }
         ensures faithful { (result ≢ Err OpEnd.Memory) → IsFaithful world.new }
         ensures shape { KeepsShape world.old.store.heap world.new.store.heap }
-        ensures scope { IfOk result (λ at. IfSome at (IsScopeOf world.new.store.heap entry.side)) }
+        ensures scope { IfOk result (IsScopeOf world.new.store.heap entry.side) }
     {
         let alloc = self.machine.alloc;
         let locals = local_count(self.machine.units.program(entry.side), entry.block);
         let params = code.params();
         let args = self.plain_args(hand);
-        let named = self.named_args(hand)?;
+        let named = named_at_hand(&self.machine, hand)?;
         enter_named(
             alloc,
             world,
@@ -293,15 +316,22 @@ impl<'u> Runner<'u> {
         args
     }
 
-    /// Copies of those that have one.
+    /// How many these are.
+    pub(crate) fn count_plain(&self, hand: Hand) -> usize
+        ensures { result ≡ length (held_by hand self.now.machine.values).plain }
+    {
+        self.plain_args(hand).len()
+    }
+
+    /// How many have one.
     ///
     /// # Errors
-    /// `Memory` where a growth was refused.
-    fn named_args(&self, hand: Hand) -> Result<Vec<(Text, Value)>, Memory>
-        ensures { IfOk result (λ all. all.items ≡ (held_by hand self.now.machine.values).named) }
+    /// As `named_at_hand`.
+    pub(crate) fn count_named(&self, hand: Hand) -> Result<usize, Memory>
+        ensures { IfOk result (λ count. count ≡ length (held_by hand self.now.machine.values).named) }
     {
-        let pairs = self.machine.values.last(2 * hand.named as usize);
-        all_named(self.machine.alloc, pairs)
+        let named = named_at_hand(&self.machine, hand)?;
+        Ok(named.as_slice().len())
     }
 
     /// Goes on in the code of a function; the callee and the arguments are dropped.
@@ -319,12 +349,11 @@ impl<'u> Runner<'u> {
             (on_value (value_of_code (code_view code.entry) (frame_of (run_of base self.old.machine.units.now) frame) s)
             (λ v s. given_by lent made v (frame_in base self.old.machine) s))))) }
         ensures ready { (w : TheWorld) → IsRunnable self.old w
-            → frame.block < length (program_at self.old.machine.units.now frame.side).layouts
             → IsScopeOf w.store.heap frame.side frame.scope
             → IfSome made (λ at. IsSound w.store.heap (Value.Ref at)) → OnOk result (IsRunnable self.new w) }
     {
         self.machine.forget(hand.size() + 1);
-        let caller = suspend(&mut self.machine, lent, made, frame);
+        let caller = suspend(&mut self.machine, lent, made, None, frame);
         self.keep(caller)?;
         self.machine.go(begin_of(code))
     }
@@ -370,7 +399,7 @@ fn callee_of(value: &Value) -> Option<(Oid, bool)>
 ///
 /// # Errors
 /// `Memory` where that was answered.
-fn unless_memory(entered: Result<Option<Oid>, OpEnd>) -> Result<Result<Option<Oid>, OpEnd>, Halt>
+fn unless_memory(entered: Result<Oid, OpEnd>) -> Result<Result<Oid, OpEnd>, Halt>
     ensures same { IfOk result (λ answer. answer ≡ entered) }
     ensures known { OnOk result (entered ≢ Err OpEnd.Memory) }
 {
@@ -387,67 +416,4 @@ fn apart(values: &[Value], last: usize) -> (&[Value], &[Value])
     ensures named { result.1.now ≡ drop (length values.now - last) values.now }
 {
     values.split_at(values.len().saturating_sub(last))
-}
-
-/// Copies of arguments with names, each of which stands behind its name.
-///
-/// # Errors
-/// `Memory` where a growth was refused, or the count of a text's owners is full.
-fn all_named(alloc: Global, pairs: &[Value]) -> Result<Vec<(Text, Value)>, Memory>
-    requires { length pairs.now < 2 ^ 34 }
-    ensures { IfOk result (λ all. all.items ≡ named_in (reverse pairs.now)) }
-{
-    let mut all = Vec::with_capacity(alloc, pairs.len() / 2)?;
-    let mut left = pairs;
-    'pairs: while let [rest @ .., word, value] = left {
-        push_named(alloc, &mut all, word, value)?;
-        left = rest;
-    }
-    all.reverse();
-    Ok(all)
-}
-
-/// Puts a copy of an argument with its name last.
-fn push_named(
-    alloc: Global,
-    all: &mut Vec<(Text, Value)>,
-    word: &Value,
-    value: &Value,
-) -> Result<(), Memory>
-    ensures { OnOk result (all.new.items ≡ all.old.items ++ (word_at word.now, value.now) ∷ []) }
-{
-    all.push((word_at(alloc, word)?, value.copy()?))?;
-    Ok(())
-}
-
-/// The name that stands at hand; the empty one, where no text does, which no call comes to.
-fn word_at(alloc: Global, value: &Value) -> Result<Text, Memory>
-    ensures { IfOk result (λ word. word ≡ word_at value.now) }
-{
-    match value {
-        Value::Rock(rock) => rock_word(alloc, rock),
-        Value::Ref(_) => no_word(alloc),
-        Value::Prox(_) => no_word(alloc),
-    }
-}
-
-/// The same, of a rock.
-fn rock_word(alloc: Global, rock: &Rock) -> Result<Text, Memory>
-    ensures { IfOk result (λ word. word ≡ word_at (Value.Rock rock.now)) }
-{
-    match rock {
-        Rock::Text(text) => text.copy(),
-        Rock::Nil => no_word(alloc),
-        Rock::Truth(_) => no_word(alloc),
-        Rock::Int(_) => no_word(alloc),
-        Rock::Exc(_, _) => no_word(alloc),
-        Rock::Kind(_) => no_word(alloc),
-        Rock::Native(_) => no_word(alloc),
-    }
-}
-
-fn no_word(alloc: Global) -> Result<Text, Memory>
-    ensures { IfOk result (λ word. word ≡ []) }
-{
-    Text::new(alloc, "")
 }

@@ -4,12 +4,14 @@
 mod callables;
 mod callers;
 mod classes;
+mod comprehending;
 mod cutting;
 mod entering;
 mod expressions;
 mod forms;
 mod run;
 mod runner;
+mod special_calls;
 mod statements;
 mod unwinding;
 

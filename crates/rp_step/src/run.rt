@@ -1,12 +1,13 @@
 //! Steps of the machine.
-#![tactic(auto, using(rp_store::proofs::Shapes::goes_on))]
+#![tactic(auto, using(rp_store::proofs::CallerLemmas::goes_on))]
 
-ghost use Rattle.std.specs.Prelude.{◌≡◌, [], OnOk, Ok};
+ghost use Rattle.std.specs.Prelude.{◌≡◌, [], OnOk, Ok, true};
 ghost use Rattle.rp_proxy.specs.declared.world.World.{World as TheWorld};
 ghost use Rattle.rp_store.specs.Shape.{KeepsShape};
 ghost use Rattle.rp_engine.specs.Does as does;
 ghost use Rattle.rp_engine.specs.Law.{Executes, Leaves};
 ghost use Rattle.rp_engine.specs.Ready.{IsReady};
+ghost use Rattle.rp_step.specs.Left.{at_end};
 
 use crate::expressions::expression;
 use crate::statements::statement;
@@ -22,7 +23,7 @@ pub enum Progress {
     More,
     /// No task waits for the end at which the machine stands.
     Ended,
-    /// A call is to be made; nothing was done.
+    /// A call is to be made, or the turns of a comprehension; nothing was done.
     Call,
 }
 
@@ -42,7 +43,7 @@ pub(crate) fn block<'u>(machine: &mut Machine<'u>, block: &'u [Stmt]) -> Result<
 /// A step: begins a part, or goes on from the end of one. What it leaves to be done is what was to be done.
 ///
 /// # Errors
-/// `Memory` where a growth was refused, `NotBuilt` where the code comes to what does not run yet.
+/// `Memory` where a growth was refused, and where the code has more parts of a form than are counted.
 #[inline(always)]
 pub(crate) fn step<'u>(machine: &mut Machine<'u>, world: &mut World) -> Result<Progress, Halt>
     requires ready { IsReady machine.old.units.now machine.old.frame machine.old.values world.old }
@@ -50,6 +51,7 @@ pub(crate) fn step<'u>(machine: &mut Machine<'u>, world: &mut World) -> Result<P
     ensures ready { IsReady machine.new.units.now machine.new.frame machine.new.values world.new }
     ensures shape { KeepsShape world.old.store.heap world.new.store.heap }
     ensures ended { result ≡ Ok Progress.Ended → machine.new.tasks ≡ [] }
+    ensures stands { result ≡ Ok Progress.Ended → at_end machine.new.control ≡ true }
 {
     match machine.control {
         Control::Expression(x) => {
@@ -65,6 +67,8 @@ pub(crate) fn step<'u>(machine: &mut Machine<'u>, world: &mut World) -> Result<P
             Ok(Progress::More)
         }
         Control::Call(_, _) => Ok(Progress::Call),
+        Control::Special(_, _) => Ok(Progress::Call),
+        Control::Comprehension(_, _, _, _, _) => Ok(Progress::Call),
         _ => end_part(machine, world),
     }
 }
@@ -73,10 +77,12 @@ pub(crate) fn step<'u>(machine: &mut Machine<'u>, world: &mut World) -> Result<P
 #[inline(always)]
 fn end_part<'u>(machine: &mut Machine<'u>, world: &mut World) -> Result<Progress, Halt>
     requires ready { IsReady machine.old.units.now machine.old.frame machine.old.values world.old }
+    requires stands { at_end machine.old.control ≡ true }
     ensures law { OnOk result (Leaves machine.old world.old machine.new world.new) }
     ensures ready { IsReady machine.new.units.now machine.new.frame machine.new.values world.new }
     ensures shape { KeepsShape world.old.store.heap world.new.store.heap }
     ensures ended { result ≡ Ok Progress.Ended → machine.new.tasks ≡ [] }
+    ensures stands { result ≡ Ok Progress.Ended → at_end machine.new.control ≡ true }
 {
     match machine.tasks.pop() {
         Some(task) => {

@@ -1,7 +1,7 @@
 //! Runs of code: a machine, and the code that waits for the ends of calls that it made.
-#![tactic(auto, using(rp_store::proofs::Shapes::goes_on))]
+#![tactic(auto, using(rp_store::proofs::CallerLemmas::goes_on))]
 
-ghost use Rattle.std.specs.Prelude.{◌≡◌, ◌∷◌, ◌++◌, [], IfOk, MatchOption, Ok, OnOk, Some, codes};
+ghost use Rattle.std.specs.Prelude.{◌≡◌, ◌∷◌, ◌++◌, [], IfOk, MatchOption, None, Ok, OnOk, Some, codes, true};
 ghost use Rattle.rp_access.specs.Comes.{Comes};
 ghost use Rattle.rp_access.specs.Moment.{state_of};
 ghost use Rattle.rp_meaning.specs.Frame.{Run};
@@ -13,7 +13,7 @@ ghost use Rattle.rp_store.specs.Shape.{KeepsShape};
 ghost use Rattle.rp_engine.specs.Does as does;
 ghost use Rattle.rp_engine.specs.Ends.{end_of};
 ghost use Rattle.rp_engine.specs.Law.{frame_in, rest_of};
-ghost use Rattle.rp_step.specs.Left.{flows};
+ghost use Rattle.rp_step.specs.Left.{at_end, flows};
 ghost use Rattle.rp_engine.specs.Moment.{frame_of, run_of};
 ghost use Rattle.rp_engine.specs.Rest.{gave, rest};
 ghost use Rattle.rp_step.specs.Callables.{is_nil};
@@ -44,7 +44,8 @@ pub struct Runner<'u> {
 const STEPS: u64 = u64::MAX;
 
 impl<'u> Runner<'u> {
-    /// A step of the machine, or the begin or the end of a call. What it leaves to be done is what was to be done.
+    /// A step of the machine, or the begin or the end of a call or of the turns of a comprehension. What it leaves to
+    /// be done is what was to be done.
     ///
     /// # Errors
     /// As `Machine::step` and `enter`.
@@ -56,6 +57,7 @@ impl<'u> Runner<'u> {
         ensures shape { KeepsShape world.old.store.heap world.new.store.heap }
         ensures ended { result ≡ Ok Progress.Ended → self.new.machine.tasks ≡ [] }
         ensures none { result ≡ Ok Progress.Ended → self.new.callers.items ≡ [] }
+        ensures stands { result ≡ Ok Progress.Ended → at_end self.new.machine.control ≡ true }
     {
         match step(&mut self.machine, world)? {
             Progress::More => Ok(Progress::More),
@@ -72,10 +74,12 @@ impl<'u> Runner<'u> {
     fn come_back(&mut self, world: &World) -> Result<Progress, Halt>
         requires ready { IsRunnable self.old world.now }
         requires tasks { self.old.machine.tasks ≡ [] }
+        requires stands { at_end self.old.machine.control ≡ true }
         ensures law { OnOk result (GoesOn self.old world.now self.new world.now) }
         ensures ready { OnOk result (IsRunnable self.new world.now) }
         ensures ended { result ≡ Ok Progress.Ended → self.new.machine.tasks ≡ [] }
         ensures none { result ≡ Ok Progress.Ended → self.new.callers.items ≡ [] }
+        ensures stands { result ≡ Ok Progress.Ended → at_end self.new.machine.control ≡ true }
     {
         match self.next_caller() {
             None => Ok(Progress::Ended),
@@ -101,6 +105,7 @@ impl<'u> Runner<'u> {
         requires ready { IsRunnable self.old world.now }
         requires caller { IsWaiting world.now caller }
         requires tasks { self.old.machine.tasks ≡ [] }
+        requires stands { at_end self.old.machine.control ≡ true }
         ensures law { OnOk result ((base : Run) → whole_of base self.new (state_of world.now)
             ≡ unwound base self.old.callers.items (rest caller.entry.tasks
             (resumed base caller.entry (rest_of base self.old.machine (state_of world.now))))) }
@@ -120,14 +125,44 @@ impl<'u> Runner<'u> {
             Control::Continued => self.give(world, caller, Value::Rock(Rock::Nil)),
             Control::NoValue => self.cut(caller),
             Control::CutOff => self.cut(caller),
-            _ => self.wait(caller),
+            _ => unreachable!(),
         }
     }
 
-    /// Code that waited gets a value, or the instance that it made.
+    /// Code that waited gets a value, or the instance that it made, or what a comprehension filled.
     fn give(&mut self, world: &World, caller: Caller<'u>, value: Value) -> Result<(), Halt>
         requires ready { IsRunnable self.old world.now }
         requires caller { IsWaiting world.now caller }
+        requires value { IsSound world.now.store.heap value }
+        ensures law { OnOk result ((base : Run) → whole_of base self.new (state_of world.now)
+            ≡ unwound base self.old.callers.items (rest caller.entry.tasks
+            (given base caller.entry (gives value (state_of world.now))))) }
+        ensures ready { OnOk result (IsRunnable self.new world.now) }
+    {
+        match caller.filled {
+            None => self.give_called(world, caller, value),
+            Some(at) => self.give_filled(caller, at),
+        }
+    }
+
+    /// Code that waited for the turns of a comprehension gets what they filled.
+    fn give_filled(&mut self, caller: Caller<'u>, at: Oid) -> Result<(), Halt>
+        ensures law { OnOk result ((base : Run) (s : State) → whole_of base self.new s
+            ≡ unwound base self.old.callers.items (rest caller.entry.tasks
+            (gave (frame_of (run_of base caller.entry.units.now) caller.entry.frame) caller.entry.values
+            (gives (Value.Ref at) s)))) }
+        ensures ready { (w : TheWorld) → IsRunnable self.old w → IsWaiting w caller.entry
+            → caller.entry.filled ≡ Some at → IsRunnable self.new w }
+    {
+        take_over(&mut self.machine, caller);
+        self.machine.back(Value::Ref(at))
+    }
+
+    /// Code that waited for a call gets a value, or the instance that it made.
+    fn give_called(&mut self, world: &World, caller: Caller<'u>, value: Value) -> Result<(), Halt>
+        requires ready { IsRunnable self.old world.now }
+        requires caller { IsWaiting world.now caller }
+        requires call { caller.filled ≡ None }
         requires value { IsSound world.now.store.heap value }
         ensures law { OnOk result ((base : Run) → whole_of base self.new (state_of world.now)
             ≡ unwound base self.old.callers.items (rest caller.entry.tasks
@@ -150,6 +185,7 @@ impl<'u> Runner<'u> {
     ) -> Result<(), Halt>
         requires ready { IsRunnable self.old world.now }
         requires caller { IsWaiting world.now caller }
+        requires call { caller.filled ≡ None }
         requires made { caller.made ≡ Some at }
         ensures law { OnOk result ((base : Run) → whole_of base self.new (state_of world.now)
             ≡ unwound base self.old.callers.items (rest caller.entry.tasks
@@ -201,19 +237,6 @@ impl<'u> Runner<'u> {
         self.machine.go(Control::NoValue)
     }
 
-    /// Code waits on.
-    #[inline(never)]
-    fn wait(&mut self, caller: Caller<'u>) -> Result<(), Halt>
-        ensures law { OnOk result ((base : Run) (s : State) → whole_of base self.new s
-            ≡ unwound base self.old.callers.items (rest caller.entry.tasks
-            (resumed base caller.entry (rest_of base self.old.machine s)))) }
-        ensures ready { (w : TheWorld) → IsRunnable self.old w → IsWaiting w caller.entry
-            → OnOk result (IsRunnable self.new w) }
-    {
-        self.keep(caller)?;
-        Ok(())
-    }
-
     /// Puts code that waits upon the others.
     pub(crate) fn keep(&mut self, caller: Caller<'u>) -> Result<(), Memory>
         ensures kept { OnOk result (self.new.callers.items ≡ self.old.callers.items ++ caller.entry ∷ []) }
@@ -234,6 +257,7 @@ impl<'u> Runner<'u> {
         ensures shape { KeepsShape world.old.store.heap world.new.store.heap }
         ensures ended { OnOk result (self.new.machine.tasks ≡ []) }
         ensures none { OnOk result (self.new.callers.items ≡ []) }
+        ensures stands { OnOk result (at_end self.new.machine.control ≡ true) }
     {
         for _ in 0..STEPS {
             match self.step(world)? {

@@ -1,15 +1,17 @@
 //! Statements: what begins them, and what goes on from the value or the end of a part.
-#![tactic(auto, using(rp_store::proofs::Shapes::goes_on))]
+#![tactic(auto, using(rp_store::proofs::CallerLemmas::goes_on))]
 
-ghost use Rattle.std.specs.Prelude.{OnOk, suc};
+ghost use Rattle.std.specs.Prelude.{◌≡◌, OnOk, suc, true};
 ghost use Rattle.rp_meaning.specs.Statements as stmt_forms;
 ghost use Rattle.rp_proxy.specs.declared.world.World.{World as TheWorld};
 ghost use Rattle.rp_store.specs.Kept.{IsFit};
 ghost use Rattle.rp_store.specs.Shape.{KeepsShape};
 ghost use Rattle.rp_engine.specs.Does as does;
-ghost use Rattle.rp_engine.specs.Law.{Executes, ResumesStmt};
+ghost use Rattle.rp_engine.specs.Law.{Executes, Moves, ResumesStmt};
 ghost use Rattle.rp_engine.specs.Ready.{IsReady};
 ghost use Rattle.rp_engine.specs.Rest.{loop, tested_turn, turn};
+ghost use Rattle.rp_step.specs.TaskGroups.{of_place};
+ghost use Rattle.rp_tree.specs.declared.expr.Arg.TheViews.{out-Walk};
 
 use rp_access::{take_step, truth};
 use rp_base::{OpEnd, Value};
@@ -18,23 +20,23 @@ use rp_expressions::definition;
 use rp_frame::{Control, Each, FlowTask, Inside, StmtTask, Task};
 use rp_proxy::World;
 use rp_statements::{
-    after_attribute, after_augment, after_augmented_item, after_augmented_key, after_handler,
-    after_method, asserted, augment_key, augment_read, augmented, begin_try, bind_next, class,
-    fail_with, give_back, raise, raised, returns,
+    after_attribute, after_augment, after_augmented_item, after_augmented_key, after_got,
+    after_handler, after_method, asserted, augment_key, augment_read, augmented, begin_try,
+    bind_next, class, fail_with, give_back, raise, raised, returns,
 };
 use rp_targets::{
     add_element, add_entry, after_added_key, after_container, after_deleted_key, after_object,
     after_store_key, after_where, assign_target, del_attribute, delete_all, delete_key, for_each,
     store_all, store_target, walk_over,
 };
-use rp_tree::{Branch, Expr, Place, Stmt, StmtForm, stmts_of};
+use rp_tree::{Branch, Expr, Place, Stmt, StmtForm, Walk, stmts_of};
 
 /// Begins a statement, with its step.
 ///
 /// # Errors
-/// `Memory` where a growth was refused, `NotBuilt` where it comes to what does not run, as all that follow.
+/// `Memory` where a growth was refused, and where it has more parts than are counted, as all that follow.
 #[inline(never)]
-#[tactic(auto, using(rp_store::proofs::Shapes::goes_on, rp_engine::proofs::Worlds::shape_stored))]
+#[tactic(auto, using(rp_store::proofs::CallerLemmas::goes_on, rp_engine::proofs::Worlds::shape_stored))]
 pub(crate) fn statement<'u>(
     machine: &mut Machine<'u>,
     world: &mut World,
@@ -48,25 +50,19 @@ pub(crate) fn statement<'u>(
     if let Err(end) = take_step(world) {
         return machine.cut_off(end);
     }
-    stmt_form(machine, world, &x.form)
+    form(machine, world, &x.form)
 }
 
+/// Begins a form of any kind.
 #[inline(always)]
-fn stmt_form<'u>(
-    machine: &mut Machine<'u>,
-    world: &mut World,
-    form: &'u StmtForm,
-) -> Result<(), Halt>
+fn form<'u>(machine: &mut Machine<'u>, world: &mut World, form: &'u StmtForm) -> Result<(), Halt>
     requires ready { IsReady machine.old.units.now machine.old.frame machine.old.values world.old }
     ensures law { OnOk result (Executes (does.stmt_form form.now) machine.old world.old machine.new world.new) }
     ensures ready { IsReady machine.new.units.now machine.new.frame machine.new.values world.new }
     ensures shape { KeepsShape world.old.store.heap world.new.store.heap }
 {
     match form {
-        StmtForm::Expr(value) => machine.wait(
-            Task::Stmt(StmtTask::Evaluate),
-            Control::Expression(value),
-        ),
+        StmtForm::Expr(value) => evaluate(machine, value),
         StmtForm::Assign(places, value) => assign(machine, world, places, value),
         StmtForm::Pass => machine.go(Control::Next),
         StmtForm::Global(_) => machine.go(Control::Next),
@@ -75,27 +71,14 @@ fn stmt_form<'u>(
         StmtForm::If(branches, other) => choose(machine, branches, stmts_of(other)),
         StmtForm::While(test, body) => begin_loop(machine, world, test, body),
         StmtForm::Del(places) => delete_all(machine, world, places),
-        StmtForm::Assert(test, message) => {
-            machine.wait(
-                Task::Stmt(StmtTask::Assert(message)),
-                Control::Expression(test),
-            )
-        }
+        StmtForm::Assert(test, message) => assertion(machine, test, message),
         StmtForm::Aug {
             place,
             op,
             value,
             ..
         } => augmented(machine, world, place, *op, value),
-        StmtForm::For(walk, body) => for_each(
-            machine,
-            world,
-            &walk.of,
-            Each {
-                target: &walk.target,
-                inside: Inside::Block(body),
-            },
-        ),
+        StmtForm::For(walk, body) => iterate(machine, world, walk, body),
         StmtForm::Raise(value) => raise(machine, world, value),
         StmtForm::Unpack(target, value, _) => assign_target(machine, world, target, value),
         StmtForm::Try {
@@ -110,6 +93,55 @@ fn stmt_form<'u>(
             definition(machine, world, name.name, block.0, params)
         }
     }
+}
+
+/// An expression statement.
+#[inline(always)]
+fn evaluate<'u>(machine: &mut Machine<'u>, value: &'u Expr) -> Result<(), Halt>
+    ensures law { OnOk result (Moves (stmt_forms.evaluate (does.expr value.now)) machine.old machine.new) }
+    ensures ready { (w : TheWorld) → IsReady machine.old.units.now machine.old.frame machine.old.values w
+        → IsReady machine.new.units.now machine.new.frame machine.new.values w }
+{
+    machine.wait(Task::Stmt(StmtTask::Evaluate), Control::Expression(value))
+}
+
+/// `assert`.
+#[inline(always)]
+fn assertion<'u>(
+    machine: &mut Machine<'u>,
+    test: &'u Expr,
+    message: &'u Option<Expr>,
+) -> Result<(), Halt>
+    ensures law { OnOk result (Moves (stmt_forms.assert (does.expr test.now) (does.maybe message.now))
+        machine.old machine.new) }
+    ensures ready { (w : TheWorld) → IsReady machine.old.units.now machine.old.frame machine.old.values w
+        → IsReady machine.new.units.now machine.new.frame machine.new.values w }
+{
+    machine.wait(
+        Task::Stmt(StmtTask::Assert(message)),
+        Control::Expression(test),
+    )
+}
+
+/// A `for` statement.
+#[inline(always)]
+fn iterate<'u>(
+    machine: &mut Machine<'u>,
+    world: &mut World,
+    walk: &'u Walk,
+    body: &'u [Stmt],
+) -> Result<(), Halt>
+    requires ready { IsReady machine.old.units.now machine.old.frame machine.old.values world.old }
+    ensures law { OnOk result (Executes (stmt_forms.for (does.expr (out-Walk walk.now).of)
+        (does.target (out-Walk walk.now).target) (does.block body.now)) machine.old world.old machine.new world.new) }
+    ensures ready { IsReady machine.new.units.now machine.new.frame machine.new.values world.new }
+    ensures shape { KeepsShape world.old.store.heap world.new.store.heap }
+{
+    let each = Each {
+        target: &walk.target,
+        inside: Inside::Block(body),
+    };
+    for_each(machine, world, &walk.of, each)
 }
 
 /// An assignment.
@@ -220,7 +252,7 @@ fn next_turn<'u>(
 
 /// A turn, with its step; a test that is false leaves the loop.
 #[inline(always)]
-#[tactic(auto, using(rp_store::proofs::Shapes::goes_on, rp_engine::proofs::Worlds::shape_stored))]
+#[tactic(auto, using(rp_store::proofs::CallerLemmas::goes_on, rp_engine::proofs::Worlds::shape_stored))]
 fn turn<'u>(
     machine: &mut Machine<'u>,
     world: &mut World,
@@ -312,20 +344,8 @@ pub(crate) fn after_stmt<'u>(
         StmtTask::Test(body) => tested(machine, world, value, body),
         StmtTask::Assert(message) => asserted(machine, world, value, message),
         StmtTask::Fail => fail_with(machine, world, value),
-        StmtTask::StoreAttr(name) => after_object(machine, world, name, value),
-        StmtTask::StoreItem(key) => after_container(machine, world, key, value),
-        StmtTask::StoreKey => after_store_key(machine, world, value),
-        StmtTask::DeleteAttr(name) => del_attribute(machine, world, value, name),
-        StmtTask::DeleteItem(key) => delete_key(machine, world, value, key),
-        StmtTask::DeleteKey => after_deleted_key(machine, world, value),
-        StmtTask::AugmentName(name, op) => after_augment(machine, world, name, op, value),
         StmtTask::For(each) => walk_over(machine, world, value, each),
         StmtTask::Raise => raised(machine, value),
-        StmtTask::AugmentAttr(name, op, x) => augment_read(machine, world, value, name, op, x),
-        StmtTask::AugmentedAttr(name, op) => after_attribute(machine, world, name, op, value),
-        StmtTask::AugmentItem(key, op, x) => augment_key(machine, world, value, key, op, x),
-        StmtTask::AugmentKey(op, x) => after_augmented_key(machine, world, op, value, x),
-        StmtTask::AugmentedItem(op) => after_augmented_item(machine, world, op, value),
         StmtTask::Unpack(target) => store_target(machine, world, target, value),
         StmtTask::Handler(handler, behind) => after_handler(machine, world, handler, behind, value),
         StmtTask::Return => returns(machine, value),
@@ -339,5 +359,39 @@ pub(crate) fn after_stmt<'u>(
         StmtTask::Method(name, body, done, count) => {
             after_method(machine, world, name, body, done, count, value)
         }
+        _ => after_place(machine, world, task, value),
+    }
+}
+
+/// What a statement does with a part of a place that it stores to, deletes or augments, or with what augments it.
+#[inline(always)]
+fn after_place<'u>(
+    machine: &mut Machine<'u>,
+    world: &mut World,
+    task: StmtTask<'u>,
+    value: Value,
+) -> Result<(), Halt>
+    requires ready { IsReady machine.old.units.now machine.old.frame machine.old.values world.old }
+    requires value { IsFit world.old.store.heap machine.old.frame.side value }
+    requires task { of_place task ≡ true }
+    ensures law { OnOk result (ResumesStmt task.entry value machine.old world.old machine.new world.new) }
+    ensures ready { IsReady machine.new.units.now machine.new.frame machine.new.values world.new }
+    ensures shape { KeepsShape world.old.store.heap world.new.store.heap }
+{
+    match task {
+        StmtTask::StoreAttr(name) => after_object(machine, world, name, value),
+        StmtTask::StoreItem(key) => after_container(machine, world, key, value),
+        StmtTask::StoreKey => after_store_key(machine, world, value),
+        StmtTask::DeleteAttr(name) => del_attribute(machine, world, value, name),
+        StmtTask::DeleteItem(key) => delete_key(machine, world, value, key),
+        StmtTask::DeleteKey => after_deleted_key(machine, world, value),
+        StmtTask::AugmentName(name, op) => after_augment(machine, world, name, op, value),
+        StmtTask::AugmentAttr(name, op, x) => augment_read(machine, world, value, name, op, x),
+        StmtTask::AugmentedAttr(name, op) => after_attribute(machine, world, name, op, value),
+        StmtTask::AugmentItem(key, op, x) => augment_key(machine, world, value, key, op, x),
+        StmtTask::AugmentKey(op, x) => after_augmented_key(machine, world, op, value, x),
+        StmtTask::AugmentGot(op, x) => after_got(machine, world, op, value, x),
+        StmtTask::AugmentedItem(op) => after_augmented_item(machine, world, op, value),
+        _ => unreachable!(),
     }
 }

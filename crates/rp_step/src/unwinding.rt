@@ -1,12 +1,11 @@
 //! Tasks that take up how a part ended.
-#![tactic(auto, using(rp_store::proofs::Shapes::goes_on, rp_engine::proofs::AtHand::at_hand))]
+#![tactic(auto, using(rp_store::proofs::CallerLemmas::goes_on, rp_engine::proofs::AtHand::at_hand))]
 
-ghost use Rattle.std.specs.Prelude.{◌≡◌, List, [], None, drop, OnOk};
-ghost use Rattle.rp_meaning.specs.Frame.{Frame, Run};
+ghost use Rattle.std.specs.Prelude.{◌≡◌, [], None, drop, OnOk, true};
+ghost use Rattle.rp_meaning.specs.Frame.{Run};
 ghost use Rattle.rp_meaning.specs.State.{State, Outcome, Flow, next, broke, continued};
 ghost use Rattle.rp_meaning.specs.Statements.{leave};
 ghost use Rattle.rp_ops.specs.Outcome.{ends, gives};
-ghost use Rattle.rp_base.specs.declared.value.Value.{Value as TheValue};
 ghost use Rattle.rp_frame.specs.Top.{top, below};
 ghost use Rattle.rp_proxy.specs.declared.world.World.{World as TheWorld};
 ghost use Rattle.rp_access.specs.Comes.{Comes, IsEnd};
@@ -14,7 +13,7 @@ ghost use Rattle.rp_store.specs.Shape.{KeepsShape};
 ghost use Rattle.rp_engine.specs.Ends.{end_of};
 ghost use Rattle.rp_engine.specs.Law.{Takes, TakesUp, frame_in, rest_of};
 ghost use Rattle.rp_engine.specs.Left.{at_hand, stmt_with};
-ghost use Rattle.rp_step.specs.Left.{flows};
+ghost use Rattle.rp_step.specs.Left.{at_end, flows, left_by};
 ghost use Rattle.rp_access.specs.Moment.{state_of};
 ghost use Rattle.rp_engine.specs.Ready.{IsReady};
 ghost use Rattle.rp_engine.specs.Rest.{after, after_flow, begun, did, gave, rest};
@@ -27,7 +26,7 @@ use rp_engine::{Halt, Machine};
 use rp_frame::{Control, ExprTask, FlowTask, Leaving, StmtTask, Task};
 use rp_proxy::World;
 use rp_statements::{behind_handler, class_part, finish, leave, with_return};
-use rp_targets::{comprehended, delete_all, store_each, store_more, walk_on, where_all};
+use rp_targets::{delete_all, store_each, store_more, walk_on, where_all};
 
 /// How a block was left (Python Language Reference, Simple statements).
 #[derive(Drop)]
@@ -50,6 +49,7 @@ pub(crate) fn take_up<'u>(
     task: Task<'u>,
 ) -> Result<(), Halt>
     requires ready { IsReady machine.old.units.now machine.old.frame machine.old.values world.old }
+    requires stands { at_end machine.old.control ≡ true }
     ensures law { OnOk result (Takes task.entry machine.old world.old machine.new world.new) }
     ensures ready { IsReady machine.new.units.now machine.new.frame machine.new.values world.new }
     ensures shape { KeepsShape world.old.store.heap world.new.store.heap }
@@ -62,19 +62,8 @@ pub(crate) fn take_up<'u>(
         Control::NoValue => without_value(machine, task),
         Control::CutOff => with_cut(machine, world, task),
         Control::Returned => with_return(machine, world, task),
-        _ => put_back(machine, task),
+        _ => unreachable!(),
     }
-}
-
-/// A task waits on.
-#[inline(never)]
-fn put_back<'u>(machine: &mut Machine<'u>, task: Task<'u>) -> Result<(), Halt>
-    ensures law { OnOk result ((w : TheWorld) → Takes task.entry machine.old w machine.new w) }
-    ensures ready { (w : TheWorld) → IsReady machine.old.units.now machine.old.frame machine.old.values w
-        → IsReady machine.new.units.now machine.new.frame machine.new.values w }
-{
-    machine.tasks.push(task)?;
-    Ok(())
 }
 
 /// A task gets the value for which it waited.
@@ -160,9 +149,6 @@ fn flow_next<'u>(
             class_part(machine, world, name, body, done, count)
         }
         FlowTask::Clause(tests, clauses, adds) => where_all(machine, world, tests, clauses, adds),
-        FlowTask::Comprehension(block, scope, at) => {
-            comprehended(machine, world, block, scope, at)
-        }
         FlowTask::Try(_, other) => machine.go(Control::Block(other)),
         FlowTask::Handled(name) => behind_handler(machine, world, name, Control::Next),
         FlowTask::Finally(last) => finish(machine, Value::Rock(Rock::Nil), Leaving::Next, last),
@@ -213,9 +199,6 @@ fn flow_continue<'u>(
             class_part(machine, world, name, body, done, count)
         }
         FlowTask::Clause(_, _, _) => machine.go(Control::Continued),
-        FlowTask::Comprehension(block, scope, at) => {
-            comprehended(machine, world, block, scope, at)
-        }
         FlowTask::Try(_, _) => machine.go(Control::Continued),
         FlowTask::Handled(name) => behind_handler(machine, world, name, Control::Continued),
         FlowTask::Finally(last) => {
@@ -264,9 +247,6 @@ fn flow_break<'u>(
             class_part(machine, world, name, body, done, count)
         }
         FlowTask::Clause(_, _, _) => machine.go(Control::Broke),
-        FlowTask::Comprehension(block, scope, at) => {
-            comprehended(machine, world, block, scope, at)
-        }
         FlowTask::Try(_, _) => machine.go(Control::Broke),
         FlowTask::Handled(name) => behind_handler(machine, world, name, Control::Broke),
         FlowTask::Finally(last) => { finish(machine, Value::Rock(Rock::Nil), Leaving::Broke, last) }
@@ -317,14 +297,14 @@ fn with_cut<'u>(machine: &mut Machine<'u>, world: &mut World, task: Task<'u>) ->
     }
 }
 
-/// How a block was left, where no task waits for that.
+/// How a part was left that came to its end, where no task waits for that; an expression as by `return` with its value.
 ///
 /// # Errors
 /// Why it was cut off.
 pub(crate) fn how_left<'u>(machine: &mut Machine<'u>) -> Result<Left, OpEnd>
-    ensures law { (base : Run) (s : State) (f : Frame) (vs : List TheValue) (o : Outcome Flow)
-        → machine.old.tasks ≡ []
-        → rest_of base machine.old s ≡ did f vs o → Comes (flows result) s o }
+    requires stands { at_end machine.old.control ≡ true }
+    ensures law { (base : Run) (s : State) → machine.old.tasks ≡ []
+        → Comes (flows result) s (left_by (rest_of base machine.old s)) }
     ensures ready { (w : TheWorld) → IsReady machine.old.units.now machine.old.frame machine.old.values w
         → IsReady machine.new.units.now machine.new.frame machine.new.values w }
 {
@@ -332,13 +312,15 @@ pub(crate) fn how_left<'u>(machine: &mut Machine<'u>) -> Result<Left, OpEnd>
         Control::Next => Ok(Left::Next),
         Control::Broke => Ok(Left::Broke),
         Control::Continued => Ok(Left::Continued),
-        Control::CutOff => Err(why(machine)),
+        Control::Value => Ok(Left::Returned(machine.values.pop())),
         Control::Returned => Ok(Left::Returned(machine.values.pop())),
-        _ => Err(OpEnd::Memory),
+        Control::NoValue => Err(why(machine)),
+        Control::CutOff => Err(why(machine)),
+        _ => unreachable!(),
     }
 }
 
-/// Why a statement was cut off.
+/// Why a statement was cut off, or an expression has no value.
 fn why<'u>(machine: &mut Machine<'u>) -> OpEnd
     ensures end { (s : State) (o : Outcome Flow) → o ≡ ends (end_of machine.old.end) s → IsEnd result s o }
     ensures same { machine.new ≡ record machine.old { end = None } }
@@ -368,7 +350,10 @@ fn held_with(task: ExprTask) -> usize
         ExprTask::StarArgument(count, _, _) => count as usize + 1,
         ExprTask::NamedArgument(count, named, _, _, _) => 2 * named as usize + count as usize + 1,
         ExprTask::StarsArgument(count, named, _, _) => 2 * named as usize + count as usize + 1,
+        ExprTask::LaterArgument(count, named, _, _) => 2 * named as usize + count as usize + 1,
+        ExprTask::LaterStar(count, named, _, _) => 2 * named as usize + count as usize + 1,
         ExprTask::Default(_, _, count, _) => count as usize,
+        ExprTask::Contained(_, _) => 1,
         _ => 0,
     }
 }
@@ -385,6 +370,7 @@ fn stmt_with(task: StmtTask) -> usize
         StmtTask::AugmentName(_, _) => 1,
         StmtTask::AugmentedAttr(_, _) => 2,
         StmtTask::AugmentKey(_, _) => 1,
+        StmtTask::AugmentGot(_, _) => 2,
         StmtTask::AugmentedItem(_) => 3,
         StmtTask::Handler(_, _) => 1,
         StmtTask::AddEntry(_) => 1,

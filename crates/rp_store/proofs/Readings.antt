@@ -16,11 +16,7 @@ use Rattle.rp_store.specs.Kept.{AreSound, Holds, IsEntry, IsFit, IsHeldBySome, I
 use Rattle.rp_store.specs.Key.{same_key, same_name}
 use Rattle.rp_store.specs.Object.{Content, list, tuple, dict, instance, class, function, method, scope}
 use Rattle.rp_store.specs.Parts.{IsClass, IsFunction, class_of, entries, fields, methods, parent, sequence, slots}
-
-get_all : {A : Type 0} (P : A → Type 0) (xs : List A) (i : ℕ) → All P xs → IfSome (slice_get xs i) P
-get_all P [] i h = tt
-get_all P (x ∷ xs) zero h = All-head P x xs h
-get_all P (x ∷ xs) (suc i) h = get_all P xs i (All-tail P x xs h)
+use Rattle.rp_base.proofs.CallerLemmas.{IfSome-slice_get}
 
 module _ (heap : List Owned) (owner : Side) where
   entries_in : (c : Content) → Holds heap owner c → All (IsEntry heap) (entries c)
@@ -111,7 +107,7 @@ module _ (heap : List Owned) (c : Content) (h : IsHeldBySome heap c) where
       (All-weaker (IsEntry heap) (λ entry. IsSound heap entry.1.1) (λ entry is. is.1) (entries c) (entries_in heap h.owner c h.holds)))
 
   pub IsSound-element : (i : ℕ) (x : Option Value) → x ≡ slice_get (sequence c) i → IfSome x (IsSound heap)
-  IsSound-element i x e = subst (λ (x : Option Value). IfSome x (IsSound heap)) (sym e) (get_all (IsSound heap) (sequence c) i (sequence_in heap h.owner c h.holds))
+  IsSound-element i x e = subst (λ (x : Option Value). IfSome x (IsSound heap)) (sym e) (IfSome-slice_get (IsSound heap) (sequence c) i (sequence_in heap h.owner c h.holds))
 
   pub AreSound-sequence : AreSound heap (sequence c)
   AreSound-sequence = sequence_in heap h.owner c h.holds
@@ -143,7 +139,7 @@ module _ (heap : List Owned) (owner : Side) (c : Content) (h : Holds heap owner 
   pub IsFit-slot : (i : ℕ) (x : Option Value) → x ≡ option_map_or (λ slot. slot) (slice_get (slots c) i) None → IfSome x (IsFit heap owner)
   IsFit-slot i x e =
       subst (λ (x : Option Value). IfSome x (IsFit heap owner)) (sym e)
-      (bound_fit (slice_get (slots c) i) (get_all (λ (slot : Option Value). IfSome slot (IsFit heap owner)) (slots c) i (slots_in heap owner c h)))
+      (bound_fit (slice_get (slots c) i) (IfSome-slice_get (λ (slot : Option Value). IfSome slot (IsFit heap owner)) (slots c) i (slots_in heap owner c h)))
 
   pub IsScopeOf-parent : (x : Option Oid) → x ≡ parent c → IfSome x (IsScopeOf heap owner)
   IsScopeOf-parent x e = subst (λ (x : Option Oid). IfSome x (IsScopeOf heap owner)) (sym e) (parent_in heap owner c h)

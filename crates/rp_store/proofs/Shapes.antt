@@ -5,6 +5,7 @@ use Rattle.std.specs.Prelude.{insert, remove}
 use Rattle.std.specs.Map.{lookup, remove_entry}
 use Rattle.std.specs.Option.{IfSome, option_map, option_map_or}
 use Rattle.std.proofs.lemmas.List.Elements.{All-append, All-cons, All-nil, All-drop, All-head, All-set, All-tail, All-take, All-weaker}
+use Rattle.std.proofs.lemmas.List.{map-append}
 use Rattle.rp_base.specs.declared.value.Oid.{Oid}
 use Rattle.rp_base.specs.declared.value.Name.{Name}
 use Rattle.rp_base.specs.declared.value.Rock.{Rock}
@@ -18,10 +19,9 @@ use Rattle.rp_store.specs.declared.object.Callee.TheVariants as callee
 use Rattle.rp_store.specs.Heap.{Owned, IsHeld, Names, changed_at, changed_from, content_at, owner_at}
 use Rattle.rp_store.specs.Kept.{AreSound, Holds, IsCallee, IsEntry, IsFit, IsKept, IsReceiver, IsSafe, IsScopeOf, IsSound}
 use Rattle.rp_store.specs.Key.{key_form, same_key, same_name}
-use Rattle.rp_store.specs.Object.{Content, list, tuple, dict, instance, class, function, method, scope}
+use Rattle.rp_store.specs.Object.{Content, list, tuple, dict, instance, class, function, method, scope, Entry}
 use Rattle.rp_store.specs.Parts.{IsClass, IsDict, IsFunction, IsInstance, IsList, IsScope, fields}
 use Rattle.rp_store.specs.Shape.{KeepsShape, ShapeStays, shape, shape_at, shaped}
-use Rattle.rp_store.proofs.Counters.{KeepsCounters-same, KeepsCounters-trans}
 use Rattle.rp_store.specs.Writers.{extended, first_written, inserted, on_dict, on_fields, on_list, on_methods, pushed, with_element, with_elements, with_entry, with_field, with_method, with_methods, with_slot, without_element, without_entry, without_field, without_methods}
 
 -- the shape of what stands at a place
@@ -41,7 +41,7 @@ held-map [] i held = held
 held-map (x ∷ xs) zero held = omega arith
 held-map (x ∷ xs) (suc i) held = let within : i < length (map shaped xs) = held-map xs i (omega arith) in omega arith
 
-named_held : (P : Content → Type 0) (heap : List Owned) (i : ℕ) → IsSomeAnd (option_map (λ o. o.content) (slice_get heap i)) P → i < length heap
+pub named_held : (P : Content → Type 0) (heap : List Owned) (i : ℕ) → IsSomeAnd (option_map (λ o. o.content) (slice_get heap i)) P → i < length heap
 named_held P [] i h = absurd h
 named_held P (o ∷ os) zero h = omega arith
 named_held P (o ∷ os) (suc i) h = omega (arith, named_held P os i h)
@@ -292,10 +292,6 @@ ShapeStays-trans old mid new a b =
 pub ShapeStays-changed : (heap : List Owned) (at : Oid) (change : Content → Content) → IsShapely change → ShapeStays heap (changed_at heap at change)
 ShapeStays-changed heap at change same = record { more = []; same = shapes-changed heap at.0 change same ∙ sym (append-nil (map shaped heap)) }
 
-map-append : {A B : Type 0} (f : A → B) (xs ys : List A) → map f (xs ++ ys) ≡ map f xs ++ map f ys
-map-append f [] ys = refl
-map-append f (x ∷ xs) ys = ap (λ zs. f x ∷ zs) (map-append f xs ys)
-
 pub ShapeStays-grown : (old new more : List Owned) → new ≡ old ++ more → ShapeStays old new
 ShapeStays-grown old new more e = record { more = map shaped more; same = ap (map shaped) e ∙ map-append shaped old more }
 
@@ -361,9 +357,6 @@ pub Allows-list : (heap : List Owned) (at : Oid) (f : List Value → List Value)
 Allows-list heap at f go = record { shapely = shapely_list f; still = λ new keeps o is h. list_still f new (go new keeps) o.owner o.content h }
 
 -- dicts
-
-abbrev Entry : Type 0
-Entry = Key × (Rock × Value)
 
 shapely_dict : (f : List Entry → List Entry) → IsShapely (on_dict f)
 shapely_dict f (list xs) = refl
@@ -591,15 +584,15 @@ module _ (heap : List Owned) (at : Oid) where
     still = λ new keeps o is h. slot_still i v new o.owner (slot_kept heap new keeps o.owner v (sound o.owner (owned (slice_get heap at.0) o is))) o.content h;
   }
 
-last_at : (heap : List Owned) (o : Owned) → slice_get (heap ++ o ∷ []) (length heap) ≡ Some o
-last_at [] o = refl
-last_at (p ∷ ps) o = last_at ps o
+pub slice_get-last : (heap : List Owned) (o : Owned) → slice_get (heap ++ o ∷ []) (length heap) ≡ Some o
+slice_get-last [] o = refl
+slice_get-last (p ∷ ps) o = slice_get-last ps o
 
 -- a plain reference to an object put last that is no scope
 pub IsSound-last : (heap : List Owned) (o : Owned) (at : Oid) → at.0 ≡ length heap → ¬ (IsScope o.content) → IsSound (heap ++ o ∷ []) (value.Ref at)
 IsSound-last heap o at place h =
     subst (λ (c : Option Content). IsSomeAnd c (λ c. ¬ IsScope c))
-    (sym (ap (λ i. option_map (λ (p : Owned). p.content) (slice_get (heap ++ o ∷ []) i)) place ∙ ap (option_map (λ p. p.content)) (last_at heap o))) h
+    (sym (ap (λ i. option_map (λ (p : Owned). p.content) (slice_get (heap ++ o ∷ []) i)) place ∙ ap (option_map (λ p. p.content)) (slice_get-last heap o))) h
 
 module _ (old new : List Owned) (stays : ShapeStays old new) where
   shape_held : (xs : List Owned) (i : ℕ) (s : Content) → option_map shape (option_map (λ o. o.content) (slice_get xs i)) ≡ Some s → i < length xs
@@ -659,6 +652,3 @@ KeepsShape-trans old mid new a b = record {
   function = λ at h. b.function at (a.function at h);
   scope = λ owner at h. b.scope owner at (a.scope owner at h);
 }
-
--- what holds of a heap and of counters that have gone on
-pub ruleset goes_on = (KeepsShape-trans, KeepsShape-same, KeepsCounters-trans, KeepsCounters-same)

@@ -1,6 +1,7 @@
 -- Comprehensions, from what is known of a part: what the code does is what their forms of rp_meaning do.
-use Rattle.std.proofs.Common.{◌≡◌, ℕ, Bool, true, false, List, [], ◌∷◌, Result, Ok, Err, refl, ap, ◌∙◌, subst}
-use Rattle.std.specs.Prelude.{OnOk, if◌then◌else◌, length, nat_lt, ◌+◌}
+use Rattle.std.proofs.Common.{◌≡◌, ℕ, Bool, true, false, List, [], ◌∷◌, Result, Ok, Err, is_ok, refl, sym, ap, ◌∙◌}
+use Rattle.std.specs.Prelude.{if◌then◌else◌, codes, length, nat_lt, ◌+◌}
+use Rattle.rp_base.specs.declared.kind.Kind.TheVariants.{TypeError}
 use Rattle.rp_base.specs.declared.value.Oid.{Oid}
 use Rattle.rp_base.specs.declared.value.OpEnd.{OpEnd}
 use Rattle.rp_base.specs.declared.value.Side.{Side}
@@ -9,18 +10,15 @@ use Rattle.rp_base.specs.declared.value.Value.TheVariants as value
 use Rattle.rp_base.specs.declared.word.TheConstants.{ITER}
 use Rattle.rp_frame.specs.declared.spot.Made.{Made}
 use Rattle.rp_frame.specs.declared.spot.Made.TheVariants as made
-use Rattle.rp_frame.specs.declared.task.FlowTask.TheVariants as flow
-use Rattle.rp_frame.specs.declared.task.Task.{Task}
-use Rattle.rp_frame.specs.declared.task.Task.TheVariants as task
 use Rattle.rp_items.specs.Items as items
 use Rattle.rp_meaning.specs.Expressions as forms
 use Rattle.rp_meaning.specs.Expressions.{Clause}
 use Rattle.rp_meaning.specs.Frame.{Doing, Meaning, Run, layouts_of}
-use Rattle.rp_meaning.specs.State.{State, Outcome, done, heap_of, makes, plainly}
+use Rattle.rp_meaning.specs.State.{State, Outcome, done, heap_of, lifted, makes, plainly}
 use Rattle.rp_meaning.specs.Statements as stmt_forms
-use Rattle.rp_meaning.specs.Statements.{Store}
 use Rattle.rp_meaning.specs.Walks.{walk}
-use Rattle.rp_ops.specs.Outcome.{End, ends, gives, no_cell, on_found, on_value, with_change, with_used}
+use Rattle.rp_ops.specs.Outcome as plain
+use Rattle.rp_ops.specs.Outcome.{End, Raises, ends, gives, no_cell, on_found, on_value, raises, with_change, with_used}
 use Rattle.rp_ops.specs.Walk.{Cursor, walk_of}
 use Rattle.rp_proxy.specs.declared.world.World.{World}
 use Rattle.rp_store.specs.Object.{Content}
@@ -30,16 +28,12 @@ use Rattle.rp_access.specs.Comes.{Comes, IsEnd}
 use Rattle.rp_access.specs.Moment.{state_of}
 use Rattle.rp_access.specs.Parts.{step_end}
 use Rattle.rp_access.specs.Spots.{walk_asked}
-use Rattle.rp_access.proofs.Going.{IsEnd-same, IsEnd-then, gives-then}
-use Rattle.rp_engine.specs.ComprehensionSteps.{Result as TheResult, comprehension_in, comprehension_of, comprehension_over, display_of, does_made, element_added, entry_added, place_at, turns_within}
+use Rattle.rp_access.proofs.Going.{IsEnd-same, IsEnd-then, gives-then, raises_end}
+use Rattle.rp_engine.specs.ComprehensionSteps.{HasNoItems, Result as TheResult, comprehension_in, comprehension_of, comprehension_over, display_of, does_made, element_added, entry_added, place_at, turns_within}
 use Rattle.rp_engine.specs.DisplaySteps.{makes_display, makes_of}
-use Rattle.rp_engine.specs.Law.{Evaluates, Executes, frame_in, rest_of}
-use Rattle.rp_engine.specs.Loops.{all_turns}
-use Rattle.rp_engine.specs.Rest.{gave, rest}
-use Rattle.rp_engine.specs.declared.halt.Halt.{Halt}
+use Rattle.rp_engine.specs.Law.{frame_in}
 use Rattle.rp_engine.specs.declared.machine.Machine.{Machine}
 use Rattle.rp_engine.proofs.Going.{asked_then}
-use Rattle.rp_engine.proofs.Moves.{on_ok}
 
 -- a comprehension by its first clause, those behind it, and what it makes
 module _ (m : Machine) (w u : World) (block : ℕ) (c : Clause) (cs : List Clause) (r : TheResult) where
@@ -99,6 +93,30 @@ display_is (made.Dict k x) side s = refl
 made_is : (x : Made) (side : Side) (s : State) → makes side (does_made x).0 s ≡ on_value (makes_display side (display_of x) [] s) (λ v s. gives (place_at v) s)
 made_is x side s = makes_placed side (does_made x).0 s ∙ ap (λ o. on_value o (λ v s. gives (place_at v) s)) (display_is x side s)
 
+-- it is a plain reference
+
+abbrev refers : Result Value End → Bool
+refers (Ok (value.Ref at)) = true
+refers _ = false
+
+never : (v : Value) → false ≡ true → refers (Ok v) ≡ true
+never v is = absurd (cc)
+
+placed_refers : (r : Result Oid End) (s t : State) (v : Value) → on_value (record { answer = r; state = s }) (λ at s. gives (value.Ref at) s) ≡ gives v t
+    → refers (Ok v) ≡ true
+placed_refers (Ok at) s t v is = sym (ap (λ (o : Outcome Value). refers o.answer) is)
+placed_refers (Err e) s t v is = never v (ap (λ (o : Outcome Value). is_ok o.answer) is)
+
+placed_holds : (P : Value → Type 0) (v : Value) → refers (Ok v) ≡ true → P v → P (value.Ref (place_at v))
+placed_holds P (value.Ref at) is h = h
+placed_holds P (value.Prox at) is h = let k : false ≡ true = is in absurd (cc)
+placed_holds P (value.Rock r) is h = let k : false ≡ true = is in absurd (cc)
+
+-- so what is known of the value is known of the reference to its place
+pub result_holds : (x : Made) (side : Side) (s t : State) (v : Value) (P : Value → Type 0) → makes_display side (display_of x) [] s ≡ gives v t → P v → P (value.Ref (place_at v))
+result_holds x side s t v P is =
+    placed_holds P v (placed_refers (makes side (does_made x).0 s).answer (makes side (does_made x).0 s).state t v (display_is x side s ∙ is))
+
 module _ (m : Machine) (w u : World) (block : ℕ) (c : Clause) (cs : List Clause) (x : Made) (d : Cursor) (scope : Oid) where
   pub result_gives : (v : Value) → makes_display m.frame.side (display_of x) [] (state_of w) ≡ gives v (state_of u) → (base : Run)
       → comprehension_in block c cs (does_made x) d scope (frame_in base m) (state_of w)
@@ -112,25 +130,6 @@ module _ (m : Machine) (w u : World) (block : ℕ) (c : Clause) (cs : List Claus
   result_ends e is base =
       IsEnd-then e (state_of u) _ (λ at s. turns_within block c cs (does_made x).1 d scope at (frame_in base m) s)
       (IsEnd-same e (state_of u) _ _ (made_is x m.frame.side (state_of w)) (IsEnd-then e (state_of u) _ (λ v s. gives (place_at v) s) is))
-
--- the turns, in the scope of the comprehension
-module _ (m n : Machine) (w v : World) (r : Result (Unit {0}) Halt) (block : ℕ) (c : Clause) (cs : List Clause) (add : Oid → Doing) (d : Cursor) (scope at : Oid) where
-  abbrev around : Task
-  around = task.Flow (flow.Comprehension m.frame.block m.frame.scope at)
-
-  abbrev inner : List Task → Machine
-  inner ts = record m { tasks = ts; frame = record m.frame { block = block; scope = scope } }
-
-  turns_back : Executes (all_turns c.bind (forms.where_all c.tests (forms.nest cs (add at))) d) (inner (around ∷ m.tasks)) w n v → Evaluates (turns_within block c cs add d scope at) m w n v
-  turns_back law base = law base
-
-  pub turns_ok : (ts : List Task) (store : Store) (body : Doing) → ts ≡ around ∷ m.tasks → store ≡ c.bind → body ≡ forms.where_all c.tests (forms.nest cs (add at))
-      → OnOk r (Executes (all_turns store body d) (inner ts) w n v) → OnOk r (Evaluates (turns_within block c cs add d scope at) m w n v)
-  turns_ok ts store body is binds does h =
-      on_ok r (Executes (all_turns c.bind (forms.where_all c.tests (forms.nest cs (add at))) d) (inner (around ∷ m.tasks)) w n v) (Evaluates (turns_within block c cs add d scope at) m w n v) turns_back
-      (subst (λ (body : Doing). OnOk r (Executes (all_turns c.bind body d) (inner (around ∷ m.tasks)) w n v)) does
-      (subst (λ (store : Store). OnOk r (Executes (all_turns store body d) (inner (around ∷ m.tasks)) w n v)) binds
-      (subst (λ (ts : List Task). OnOk r (Executes (all_turns store body d) (inner ts) w n v)) is h)))
 
 -- a later clause is a loop
 pub nest_is : (c : Clause) (cs : List Clause) (inside : Doing) → forms.nest (c ∷ cs) inside ≡ stmt_forms.for c.of c.bind (forms.where_all c.tests (forms.nest cs inside))
@@ -163,8 +162,9 @@ module _ (m : Machine) (w u : World) (at : Oid) (v : Value) where
       → IsEnd e (state_of u) (entry_added at k v (frame_in base m) (state_of w))
   entry_ends k e is base = IsEnd-then e (state_of u) _ (λ _ s. done s) is
 
--- back in the scope around
-module _ (m z n : Machine) (r : Result (Unit {0}) Halt) (block : ℕ) (scope : Oid) (is : z ≡ record m { frame = record m.frame { block = block; scope = scope } }) where
-  pub back_in : (o : State → Outcome Value) → OnOk r ((base : Run) (s : State) → rest_of base n s ≡ rest z.tasks (gave (frame_in base z) z.values (o s)))
-      → OnOk r ((base : Run) (s : State) → rest_of base n s ≡ rest m.tasks (gave (record (frame_in base m) { block = block; scope = scope }) m.values (o s)))
-  back_in o h = subst (λ (z : Machine). OnOk r ((base : Run) (s : State) → rest_of base n s ≡ rest z.tasks (gave (frame_in base z) z.values (o s)))) is h
+-- or nothing that stands there has items
+pub entry_refused : (m : Machine) (w : World) (at : Oid) (v k : Value) (e : OpEnd) → Raises e (record { kind = TypeError; text = codes "item" })
+    → HasNoItems w.store.heap at → (base : Run) → IsEnd e (state_of w) (entry_added at k v (frame_in base m) (state_of w))
+entry_refused m w at v k e is none base =
+    entry_ends m w w at v k e (IsEnd-same e (state_of w) (plainly (items.set_item (value.Ref at) k v) (state_of w)) (raises TypeError (codes "item") (state_of w))
+    (ap (λ (o : plain.Outcome (Unit {0})). lifted o (state_of w)) (none k v (state_of w).plain refl)) (raises_end (Unit {0}) e (record { kind = TypeError; text = codes "item" }) (state_of w) is)) base

@@ -1,7 +1,9 @@
 pub mod Changed
 pub mod Comprehending
 pub mod ComprehensionEquations
+pub mod Found
 pub mod PlaceEquations
+pub mod Resumings
 pub mod Steps
 pub mod Unpacked
 pub mod Walked

@@ -22,6 +22,7 @@ use Rattle.rp_meaning.specs.Frame.{Meaning}
 use Rattle.rp_meaning.specs.Meaning as meaning
 use Rattle.rp_meaning.specs.Statements as stmt_forms
 use Rattle.rp_engine.specs.Does as does
+use Rattle.rp_engine.proofs.Equations.{stmts_are}
 
 pub place_attr : (x : Expr) (n : Named) (g : Option Guard) → does.place (place.Attr x n g) ≡ stmt_forms.store_attribute (does.expr x) n.name
 unfolding does.place does.expr
@@ -50,11 +51,6 @@ stmt_aug p op at x g = ap meaning.exec_form (stmt_equations.stmt_aug p op at x g
 pub target_place : (p : Place) → does.target (target.Place p) ≡ does.place p
 unfolding does.target does.place
 target_place p = ap meaning.target (equations.target_place p)
-
-stmts_are : (xs : List Stmt) → meaning.stmts (stmts_of (map view_stmt xs)) ≡ map does.stmt xs
-unfolding does.stmt
-stmts_are [] = refl
-stmts_are (x ∷ xs) = ap (λ ms. meaning.exec (view_stmt x) ∷ ms) (stmts_are xs)
 
 pub stmt_for : (x : Walk) (b : Vec Stmt Global)
     → does.stmt_form (stmt_form.For x b) ≡ stmt_forms.for (does.expr (out-Walk x).of) (does.target (out-Walk x).target) (does.block b.items)

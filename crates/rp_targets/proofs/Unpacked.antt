@@ -108,7 +108,6 @@ module _ (m n : Machine) (w v : World) (r : Result (Unit {0}) Halt) (task : Task
 pub put_ready : (units : Units) (a : Activation) (us vs ws : List Value) (w : World) → ws ≡ us ++ vs → IsReady units a vs w → AreFit w.store.heap a.side us → IsReady units a ws w
 put_ready units a us vs ws w is h fit = record {
   faithful = h.faithful;
-  block = h.block;
   scope = h.scope;
   fit = subst (AreFit w.store.heap a.side) (sym is) (All-append (IsFit w.store.heap a.side) us vs fit h.fit);
   indexed = h.indexed;

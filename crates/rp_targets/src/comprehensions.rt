@@ -1,36 +1,29 @@
 //! Comprehensions (Python Language Reference, Displays for lists, sets and dictionaries).
-#![tactic(auto, using(rp_store::proofs::Shapes::goes_on, rp_engine::proofs::AtHand::at_hand))]
+#![tactic(auto, using(rp_store::proofs::CallerLemmas::goes_on, rp_engine::proofs::AtHand::at_hand))]
 
-ghost use Rattle.std.specs.Prelude.{◌≡◌, ◌<◌, ◌∷◌, [], IfOk, OnErr, OnOk, length};
+ghost use Rattle.std.specs.Prelude.{◌≡◌, ◌∷◌, [], IfOk, OnOk, length};
 ghost use Rattle.rp_access.specs.Comes.{Comes};
 ghost use Rattle.rp_access.specs.Moment.{state_of};
-ghost use Rattle.rp_access.specs.Spots.{cursor_at};
 ghost use Rattle.rp_meaning.specs.Expressions as forms;
 ghost use Rattle.rp_meaning.specs.Frame.{Run, layouts_of};
-ghost use Rattle.rp_ops.specs.Outcome as outcome;
 ghost use Rattle.rp_proxy.specs.Faithful.{IsFaithful};
 ghost use Rattle.rp_proxy.specs.declared.world.World.{World as TheWorld};
-ghost use Rattle.rp_store.specs.Kept.{IsFit, IsScopeOf};
+ghost use Rattle.rp_store.specs.Kept.{IsFit, IsScopeOf, IsSound};
 ghost use Rattle.rp_store.specs.Shape.{KeepsShape};
-ghost use Rattle.rp_engine.specs.ComprehensionSteps.{comprehension_in, comprehension_of, comprehension_over};
-ghost use Rattle.rp_engine.specs.ComprehensionSteps.{display_of, does_made, element_added, entry_added, place_at};
-ghost use Rattle.rp_engine.specs.ComprehensionSteps.{turns_within};
+ghost use Rattle.rp_engine.specs.ComprehensionSteps.{comprehension_of};
+ghost use Rattle.rp_engine.specs.ComprehensionSteps.{display_of, does_made, element_added, entry_added};
 ghost use Rattle.rp_engine.specs.DisplaySteps.{makes_display};
 ghost use Rattle.rp_engine.specs.Does as does;
-ghost use Rattle.rp_engine.specs.Ends.{end_of};
-ghost use Rattle.rp_engine.specs.Law.{Evaluates, Executes, ResumesStmt, frame_in, rest_of};
-ghost use Rattle.rp_engine.specs.Moment.{program_at};
+ghost use Rattle.rp_engine.specs.Law.{Evaluates, Executes, ResumesStmt, frame_in};
 ghost use Rattle.rp_engine.specs.Ready.{IsReady};
-ghost use Rattle.rp_engine.specs.Rest.{gave, rest};
 
-use crate::looping::{first_turn, for_each};
+use crate::looping::for_each;
 use rp_access::{put_element, put_item, take_step, truth, walk};
-use rp_base::{Oid, OpEnd, Rock, Side, Value};
-use rp_engine::{Halt, Machine, is_list, is_own, is_scope_of, local_count, new_display};
+use rp_base::{Kind, Oid, OpEnd, Rock, Side, Value};
+use rp_engine::{Halt, Machine, is_value, local_count, new_display};
 use rp_enter::new_scope;
-use rp_frame::{
-    Adds, Control, Display, Each, ExprTask, FlowTask, Inside, Made, Spot, StmtTask, Task,
-};
+use rp_frame::{Adds, Control, Display, Each, ExprTask, Inside, Made, StmtTask, Task};
+use rp_ops::raised;
 use rp_proxy::World;
 use rp_tree::{Clause, Expr};
 use std::alloc::Global;
@@ -79,7 +72,7 @@ pub fn comprehension<'u>(
 
 /// Takes the step of a comprehension, and begins it.
 #[inline(always)]
-#[tactic(auto, using(rp_store::proofs::Shapes::goes_on, rp_engine::proofs::Worlds::shape_stored))]
+#[tactic(auto, using(rp_store::proofs::CallerLemmas::goes_on, rp_engine::proofs::Worlds::shape_stored))]
 fn begin_comprehension<'u>(
     machine: &mut Machine<'u>,
     world: &mut World,
@@ -101,11 +94,11 @@ fn begin_comprehension<'u>(
     }
 }
 
-/// Goes on with a comprehension over what its first clause goes over: it fills a new list or dict in a scope of its
-/// own.
+/// Goes on with a comprehension over what its first clause goes over: it asks for the turns, which fill a new list or
+/// dict in a scope of their own.
 ///
 /// # Errors
-/// `NotBuilt` where the program has no such code block.
+/// `Memory` where a growth was refused.
 #[inline(never)]
 pub fn comprehend<'u>(
     machine: &mut Machine<'u>,
@@ -122,44 +115,21 @@ pub fn comprehend<'u>(
     ensures shape { KeepsShape world.old.store.heap world.new.store.heap }
 {
     match walk(machine.alloc, world, &value) {
-        Ok(spot) => make_scope(machine, world, value, spot, parts),
+        Ok(spot) => machine.go_with(
+            value,
+            Control::Comprehension(parts.block, parts.first, parts.behind, parts.made, spot),
+        ),
         Err(end) => machine.no_value(end),
     }
 }
 
-/// Makes the scope of a comprehension, which is one more code block in the scope around.
+/// The scope of a comprehension, which is one more code block in the scope around, and where none of its names is
+/// bound.
 ///
 /// # Errors
-/// `NotBuilt` where the program has no such code block.
-#[inline(always)]
-fn make_scope<'u>(
-    machine: &mut Machine<'u>,
-    world: &mut World,
-    value: Value,
-    spot: Spot,
-    parts: ComprehensionParts<'u>,
-) -> Result<(), Halt>
-    requires ready { IsReady machine.old.units.now machine.old.frame machine.old.values world.old }
-    requires value { IsFit world.old.store.heap machine.old.frame.side value }
-    ensures law { OnOk result (Evaluates (comprehension_over parts.entry.block
-        (does.clause parts.entry.first.now) (does.clauses parts.entry.behind.now) (does_made parts.entry.made)
-        (cursor_at value spot)) machine.old world.old machine.new world.new) }
-    ensures ready { IsReady machine.new.units.now machine.new.frame machine.new.values world.new }
-    ensures shape { KeepsShape world.old.store.heap world.new.store.heap }
-{
-    if parts.block >= machine.units.program(machine.frame.side).layouts.len() {
-        return Err(Halt::NotBuilt);
-    }
-    match inner_scope(machine, world, parts.block) {
-        Ok(scope) => make_result(machine, world, value, spot, parts, scope),
-        Err(end) => machine.no_value(end),
-    }
-}
-
-/// The scope of a comprehension, where none of its names is bound.
-fn inner_scope<'u>(machine: &Machine<'u>, world: &mut World, block: usize) -> Result<Oid, OpEnd>
+/// `StopCells` where its cells are over the limit, `Memory` where a growth was refused.
+pub fn inner_scope<'u>(machine: &Machine<'u>, world: &mut World, block: usize) -> Result<Oid, OpEnd>
     requires ready { IsReady machine.now.units.now machine.now.frame machine.now.values world.old }
-    requires block { block < length (program_at machine.now.units.now machine.now.frame.side).layouts }
     ensures law { (base : Run) → Comes result (state_of world.new) (forms.new_scope block (frame_in base machine.now)
         (forms.empty_slots (length ((layouts_of (frame_in base machine.now)).locals block)))
         (state_of world.old)) }
@@ -176,75 +146,6 @@ fn inner_scope<'u>(machine: &Machine<'u>, world: &mut World, block: usize) -> Re
         machine.frame.scope,
         locals,
         slots,
-    )
-}
-
-/// Makes what a comprehension makes, empty. No name is bound to it.
-#[inline(always)]
-fn make_result<'u>(
-    machine: &mut Machine<'u>,
-    world: &mut World,
-    value: Value,
-    spot: Spot,
-    parts: ComprehensionParts<'u>,
-    scope: Oid,
-) -> Result<(), Halt>
-    requires ready { IsReady machine.old.units.now machine.old.frame machine.old.values world.old }
-    requires value { IsFit world.old.store.heap machine.old.frame.side value }
-    requires block { parts.block < length (program_at machine.old.units.now machine.old.frame.side).layouts }
-    requires scope { IsScopeOf world.old.store.heap machine.old.frame.side scope }
-    ensures law { OnOk result (Evaluates (comprehension_in parts.entry.block (does.clause parts.entry.first.now)
-        (does.clauses parts.entry.behind.now) (does_made parts.entry.made) (cursor_at value spot) scope)
-        machine.old world.old machine.new world.new) }
-    ensures ready { IsReady machine.new.units.now machine.new.frame machine.new.values world.new }
-    ensures shape { KeepsShape world.old.store.heap world.new.store.heap }
-{
-    match new_result(machine.alloc, world, machine.frame.side, parts.made) {
-        Ok(display) => turns_within(
-            machine,
-            world,
-            value,
-            spot,
-            parts,
-            scope,
-            place_at(&display),
-        ),
-        Err(end) => machine.no_value(end),
-    }
-}
-
-/// Begins the turns of a comprehension, in its scope; what it makes stands at a place.
-#[inline(always)]
-fn turns_within<'u>(
-    machine: &mut Machine<'u>,
-    world: &mut World,
-    value: Value,
-    spot: Spot,
-    parts: ComprehensionParts<'u>,
-    scope: Oid,
-    at: Oid,
-) -> Result<(), Halt>
-    requires ready { IsReady machine.old.units.now machine.old.frame machine.old.values world.old }
-    requires value { IsFit world.old.store.heap machine.old.frame.side value }
-    requires block { parts.block < length (program_at machine.old.units.now machine.old.frame.side).layouts }
-    requires scope { IsScopeOf world.old.store.heap machine.old.frame.side scope }
-    ensures law { OnOk result (Evaluates (turns_within parts.entry.block (does.clause parts.entry.first.now)
-        (does.clauses parts.entry.behind.now) (does_made parts.entry.made).1 (cursor_at value spot) scope at)
-        machine.old world.old machine.new world.new) }
-    ensures ready { IsReady machine.new.units.now machine.new.frame machine.new.values world.new }
-    ensures shape { KeepsShape world.old.store.heap world.new.store.heap }
-{
-    let around = FlowTask::Comprehension(machine.frame.block, machine.frame.scope, at);
-    machine.tasks.push(Task::Flow(around))?;
-    machine.frame.block = parts.block;
-    machine.frame.scope = scope;
-    let adds = adds_at(parts.made, at);
-    first_turn(
-        machine,
-        world,
-        value,
-        spot,
-        clause_turn(parts.first, parts.behind, adds),
     )
 }
 
@@ -345,7 +246,7 @@ fn add<'u>(machine: &mut Machine<'u>, adds: Adds<'u>) -> Result<(), Halt>
 /// Adds an element to the list at a place.
 ///
 /// # Errors
-/// `NotBuilt` where no list stands there.
+/// `Memory` where a growth was refused.
 #[inline(never)]
 pub fn add_element<'u>(
     machine: &mut Machine<'u>,
@@ -359,9 +260,6 @@ pub fn add_element<'u>(
     ensures ready { IsReady machine.new.units.now machine.new.frame machine.new.values world.new }
     ensures shape { KeepsShape world.old.store.heap world.new.store.heap }
 {
-    if !is_list(&world.store, at) {
-        return Err(Halt::NotBuilt);
-    }
     match put_element(world, at, value) {
         Ok(()) => machine.go(Control::Next),
         Err(end) => machine.cut_off(end),
@@ -392,7 +290,7 @@ pub fn after_added_key<'u>(
 /// Adds the key at hand with its value to the dict at a place.
 ///
 /// # Errors
-/// `NotBuilt` where no dict stands there.
+/// `Memory` where a growth was refused.
 #[inline(never)]
 pub fn add_entry<'u>(
     machine: &mut Machine<'u>,
@@ -410,7 +308,7 @@ pub fn add_entry<'u>(
     put_entry(machine, world, at, key, value)
 }
 
-/// Adds a key with its value to the dict at a place.
+/// Adds a key with its value to the dict at a place; where nothing stands that has items, that is a TypeError.
 #[inline(always)]
 fn put_entry<'u>(
     machine: &mut Machine<'u>,
@@ -425,93 +323,38 @@ fn put_entry<'u>(
     ensures ready { IsReady machine.new.units.now machine.new.frame machine.new.values world.new }
     ensures shape { KeepsShape world.old.store.heap world.new.store.heap }
 {
-    if !is_own(&world.store, machine.frame.side, at) {
-        return Err(Halt::NotBuilt);
+    if is_value(&world.store, at) {
+        return put_in(machine, world, at, key, value);
     }
+    let end = raised(machine.alloc, Kind::TypeError, "item");
+    machine.cut_off(end)
+}
+
+/// The same, where an object stands there that is no scope.
+#[inline(always)]
+fn put_in<'u>(
+    machine: &mut Machine<'u>,
+    world: &mut World,
+    at: Oid,
+    key: Value,
+    value: Value,
+) -> Result<(), Halt>
+    requires ready { IsReady machine.old.units.now machine.old.frame machine.old.values world.old }
+    requires place { IsSound world.old.store.heap (Value.Ref at) }
+    requires value { IsFit world.old.store.heap machine.old.frame.side value }
+    ensures law { OnOk result (Executes (entry_added at key value) machine.old world.old machine.new world.new) }
+    ensures ready { IsReady machine.new.units.now machine.new.frame machine.new.values world.new }
+    ensures shape { KeepsShape world.old.store.heap world.new.store.heap }
+{
     match put_item(machine.alloc, world, &Value::Ref(at), &key, value) {
         Ok(()) => machine.go(Control::Next),
         Err(end) => machine.cut_off(end),
     }
 }
 
-/// A comprehension is done: its value is what it made, in the scope around.
-///
-/// # Errors
-/// `NotBuilt` where no list or dict of the side stands at the place; and as `leave_scope`.
-#[inline(never)]
-pub fn comprehended<'u>(
-    machine: &mut Machine<'u>,
-    world: &World,
-    block: usize,
-    scope: Oid,
-    at: Oid,
-) -> Result<(), Halt>
-    requires ready { IsReady machine.old.units.now machine.old.frame machine.old.values world.now }
-    ensures law { OnOk result ((base : Run) → rest_of base machine.new (state_of world.now) ≡ rest machine.old.tasks
-        (gave (record (frame_in base machine.old) { block = block; scope = scope }) machine.old.values
-        (outcome.gives (Value.Ref at) (state_of world.now)))) }
-    ensures ready { IsReady machine.new.units.now machine.new.frame machine.new.values world.now }
-{
-    if !is_own(&world.store, machine.frame.side, at) {
-        return Err(Halt::NotBuilt);
-    }
-    return_to(machine, world, block, scope)?;
-    machine.back(Value::Ref(at))
-}
-
-/// A comprehension has no value, in the scope around.
-///
-/// # Errors
-/// `NotBuilt` where no scope of the side stands there, or the program has no such code block.
-#[inline(never)]
-pub fn leave_scope<'u>(
-    machine: &mut Machine<'u>,
-    world: &World,
-    block: usize,
-    scope: Oid,
-) -> Result<(), Halt>
-    requires ready { IsReady machine.old.units.now machine.old.frame machine.old.values world.now }
-    ensures law { OnOk result ((base : Run) → rest_of base machine.new (state_of world.now) ≡ rest machine.old.tasks
-        (gave (record (frame_in base machine.old) { block = block; scope = scope }) machine.old.values
-        (outcome.ends (end_of machine.old.end) (state_of world.now)))) }
-    ensures ready { IsReady machine.new.units.now machine.new.frame machine.new.values world.now }
-{
-    return_to(machine, world, block, scope)?;
-    machine.go(Control::NoValue)
-}
-
-/// Goes on in a scope around.
-///
-/// # Errors
-/// `NotBuilt` where no scope of the side stands there, or the program has no such code block; then all is as
-/// before.
-fn return_to<'u>(
-    machine: &mut Machine<'u>,
-    world: &World,
-    block: usize,
-    scope: Oid,
-) -> Result<(), Halt>
-    requires ready { IsReady machine.old.units.now machine.old.frame machine.old.values world.now }
-    ensures frame { OnOk result (machine.new ≡ record machine.old {
-      frame = record machine.old.frame { block = block; scope = scope };
-    }) }
-    ensures same { OnErr result (machine.new ≡ machine.old) }
-    ensures ready { IsReady machine.new.units.now machine.new.frame machine.new.values world.now }
-{
-    if !is_scope_of(&world.store, machine.frame.side, scope) {
-        return Err(Halt::NotBuilt);
-    }
-    if block >= machine.units.program(machine.frame.side).layouts.len() {
-        return Err(Halt::NotBuilt);
-    }
-    machine.frame.block = block;
-    machine.frame.scope = scope;
-    Ok(())
-}
-
 /// What a turn of a clause does with each element.
 #[inline(always)]
-fn clause_turn<'u>(clause: &'u Clause, behind: &'u [Clause], adds: Adds<'u>) -> Each<'u>
+pub fn clause_turn<'u>(clause: &'u Clause, behind: &'u [Clause], adds: Adds<'u>) -> Each<'u>
     ensures target { does.target result.target.now ≡ (does.clause clause.now).bind }
     ensures inside { does.inside result.inside ≡ forms.where_all (does.clause clause.now).tests
         (forms.nest (does.clauses behind.now) (does.adds adds.entry)) }
@@ -522,16 +365,22 @@ fn clause_turn<'u>(clause: &'u Clause, behind: &'u [Clause], adds: Adds<'u>) -> 
     }
 }
 
-/// What a comprehension makes, empty.
+/// What a comprehension makes, empty. No name is bound to it.
 ///
 /// # Errors
 /// `StopCells` where its cells are over the limit, `Memory` where a growth was refused.
-fn new_result(alloc: Global, world: &mut World, side: Side, made: Made<'_>) -> Result<Value, OpEnd>
+pub fn new_result(
+    alloc: Global,
+    world: &mut World,
+    side: Side,
+    made: Made<'_>,
+) -> Result<Value, OpEnd>
     requires { IsFaithful world.old }
     ensures law { Comes result (state_of world.new)
         (makes_display side (display_of made.entry) [] (state_of world.old)) }
     ensures faithful { IsFaithful world.new }
     ensures shape { KeepsShape world.old.store.heap world.new.store.heap }
+    ensures fit { IfOk result (IsFit world.new.store.heap side) }
 {
     new_display(alloc, world, side, display_of(made), Vec::new(alloc))
 }
@@ -549,22 +398,11 @@ fn display_of(made: Made<'_>) -> Display
 
 /// What a comprehension adds to what it makes, which stands at a place.
 #[inline(always)]
-fn adds_at<'u>(made: Made<'u>, at: Oid) -> Adds<'u>
+pub fn adds_at<'u>(made: Made<'u>, at: Oid) -> Adds<'u>
     ensures { does.adds result ≡ (does_made made.entry).1 at }
 {
     match made {
         Made::List(x) => Adds::Element(at, x),
         Made::Dict(key, x) => Adds::Entry(at, key, x),
-    }
-}
-
-/// The place of a value that is a plain reference.
-fn place_at(value: &Value) -> Oid
-    ensures { result ≡ place_at value.now }
-{
-    match value {
-        Value::Ref(at) => *at,
-        Value::Rock(_) => Oid(0),
-        Value::Prox(_) => Oid(0),
     }
 }

@@ -1,5 +1,5 @@
 //! Attributes and items as places that are deleted (Python Language Reference, The del statement).
-#![tactic(auto, using(rp_store::proofs::Shapes::goes_on))]
+#![tactic(auto, using(rp_store::proofs::CallerLemmas::goes_on))]
 
 ghost use Rattle.std.specs.Prelude.{OnOk};
 ghost use Rattle.rp_meaning.specs.Access as access;
@@ -10,6 +10,7 @@ ghost use Rattle.rp_engine.specs.Does as does;
 ghost use Rattle.rp_engine.specs.Law.{Executes, ResumesStmt};
 ghost use Rattle.rp_engine.specs.Ready.{IsReady};
 
+use crate::special_methods::delete_by_method;
 use rp_access::Change;
 use rp_base::{Name, Value};
 use rp_engine::{Halt, Machine};
@@ -94,7 +95,7 @@ pub(crate) fn delete_item<'u>(
 /// Goes on with the key of an item that is deleted, of a container that was evaluated.
 ///
 /// # Errors
-/// `NotBuilt` where a special method of the container is to do it, which this machine does not run yet; and `Memory`.
+/// `Memory` where a growth was refused.
 #[inline(always)]
 pub fn delete_key<'u>(
     machine: &mut Machine<'u>,
@@ -149,13 +150,14 @@ fn del_item<'u>(
 ) -> Result<(), Halt>
     requires ready { IsReady machine.old.units.now machine.old.frame machine.old.values world.old }
     requires o { IsFit world.old.store.heap machine.old.frame.side o }
+    requires i { IsFit world.old.store.heap machine.old.frame.side i }
     ensures law { OnOk result (Executes (access.del_item o i) machine.old world.old machine.new world.new) }
     ensures ready { IsReady machine.new.units.now machine.new.frame machine.new.values world.new }
     ensures shape { KeepsShape world.old.store.heap world.new.store.heap }
 {
     match rp_access::del_item(machine.alloc, world, &o, &i) {
         Ok(Change::Done) => machine.go(Control::Next),
-        Ok(Change::Special) => Err(Halt::NotBuilt),
+        Ok(Change::Special) => delete_by_method(machine, o, i),
         Err(end) => machine.cut_off(end),
     }
 }

@@ -1,5 +1,5 @@
 //! The for statement (Python Language Reference, The for statement).
-#![tactic(auto, using(rp_store::proofs::Shapes::goes_on, rp_engine::proofs::AtHand::at_hand))]
+#![tactic(auto, using(rp_store::proofs::CallerLemmas::goes_on, rp_engine::proofs::AtHand::at_hand))]
 
 ghost use Rattle.std.specs.Prelude.{◌≡◌, List, OnOk, suc};
 ghost use Rattle.rp_base.specs.declared.value.Value.{Value as TheValue};
@@ -71,8 +71,11 @@ pub fn walk_over<'u>(
 }
 
 /// Begins a loop, which makes no more turns than there are steps, and one.
+///
+/// # Errors
+/// `Memory` where a growth was refused.
 #[inline(always)]
-pub(crate) fn first_turn<'u>(
+pub fn first_turn<'u>(
     machine: &mut Machine<'u>,
     world: &mut World,
     value: Value,

@@ -1,5 +1,5 @@
 //! Attributes and items as places that are stored to (Python Language Reference, Assignment statements).
-#![tactic(auto, using(rp_store::proofs::Shapes::goes_on))]
+#![tactic(auto, using(rp_store::proofs::CallerLemmas::goes_on))]
 
 ghost use Rattle.std.specs.Prelude.{OnOk};
 ghost use Rattle.rp_meaning.specs.Access as access;
@@ -11,7 +11,7 @@ ghost use Rattle.rp_engine.specs.Does as does;
 ghost use Rattle.rp_engine.specs.Law.{Executes, ResumesStmt};
 ghost use Rattle.rp_engine.specs.Ready.{IsReady};
 
-use rp_access::Change;
+use crate::special_methods::store_by_method;
 use rp_base::{Name, Value};
 use rp_engine::{Halt, Machine};
 use rp_frame::{Control, StmtTask, Task};
@@ -209,7 +209,7 @@ pub fn after_store_key<'u>(
 /// Sets an item of an object, and goes on behind the statement; an exception cuts it off.
 ///
 /// # Errors
-/// `NotBuilt` where a special method of the object is to do it, which this machine does not run yet; and `Memory`.
+/// `Memory` where a growth was refused.
 #[inline(always)]
 pub fn set_item<'u>(
     machine: &mut Machine<'u>,
@@ -220,14 +220,15 @@ pub fn set_item<'u>(
 ) -> Result<(), Halt>
     requires ready { IsReady machine.old.units.now machine.old.frame machine.old.values world.old }
     requires o { IsFit world.old.store.heap machine.old.frame.side o }
+    requires i { IsFit world.old.store.heap machine.old.frame.side i }
     requires value { IsFit world.old.store.heap machine.old.frame.side value }
     ensures law { OnOk result (Executes (access.set_item o i value) machine.old world.old machine.new world.new) }
     ensures ready { IsReady machine.new.units.now machine.new.frame machine.new.values world.new }
     ensures shape { KeepsShape world.old.store.heap world.new.store.heap }
 {
     match rp_access::set_item(machine.alloc, world, &o, &i, value) {
-        Ok(Change::Done) => machine.go(Control::Next),
-        Ok(Change::Special) => Err(Halt::NotBuilt),
+        Ok(None) => machine.go(Control::Next),
+        Ok(Some(value)) => store_by_method(machine, o, i, value),
         Err(end) => machine.cut_off(end),
     }
 }

@@ -1,5 +1,5 @@
 //! Unpacking over targets (Python Language Reference, Assignment statements).
-#![tactic(auto, using(rp_store::proofs::Shapes::goes_on, rp_engine::proofs::AtHand::at_hand))]
+#![tactic(auto, using(rp_store::proofs::CallerLemmas::goes_on, rp_engine::proofs::AtHand::at_hand))]
 
 ghost use Rattle.std.specs.Prelude.{◌≡◌, ◌∷◌, OnOk, drop, length, suc};
 ghost use Rattle.rp_meaning.specs.Frame.{Run};

@@ -1,10 +1,11 @@
 //! Runs cases, and compares what came of each with what is wanted.
 
 use crate::expressions::run;
-use crate::world::{Costs, Fault, OURS, World};
-use rp_base::{Memory, OpEnd, Value};
+use crate::world::{Costs, OURS, World};
+use rp_base::{Memory, Value};
 use rp_show::{show, shown_inside};
 use rp_store::Object;
+use rp_tests_parts::{Fault, tell_fault};
 use rp_token::{Token, TokenKind, tokens};
 use std::alloc::Global;
 
@@ -200,22 +201,6 @@ fn tell_object(world: &mut World, told: &mut String, value: &Value) -> Result<()
     match shown {
         Ok(text) => told.push_str(text.as_str())?,
         Err(end) => tell_fault(told, &Fault::End(end))?,
-    }
-    Ok(())
-}
-
-fn tell_fault(told: &mut String, fault: &Fault) -> Result<(), Memory> {
-    match fault {
-        Fault::End(OpEnd::Raised(raised)) => {
-            told.push_str(raised.kind.as_str())?;
-            told.push_str(": ")?;
-            told.push_str(raised.text.as_str())?;
-        }
-        Fault::End(OpEnd::StopSteps) => told.push_str("stop steps")?,
-        Fault::End(OpEnd::StopCells) => told.push_str("stop cells")?,
-        Fault::End(OpEnd::Memory) => told.push_str("no memory")?,
-        Fault::Unsound => told.push_str("unsound")?,
-        Fault::Unread => told.push_str("unread")?,
     }
     Ok(())
 }

@@ -1,11 +1,11 @@
 //! The calls that are tested, each where what it asks holds.
 
-use crate::soundness::{are_sound, is_sound};
-use crate::world::{Fault, OURS, World};
+use crate::world::{OURS, World};
 use rp_base::{Meter, Names, NativeId, Rock, Value};
 use rp_methods::call_method;
 use rp_native::{call_native, is_called_here, print_line};
 use rp_store::Store;
+use rp_tests_parts::{Fault, are_sound, is_sound};
 use std::alloc::Global;
 
 /// The value of an outermost call; of those that are statements the steps and cells are counted.

@@ -4,12 +4,13 @@
 // `thing()` is an instance, and `lowest` the least number.
 
 use crate::calls::{call, outermost};
-use crate::displays::{dict, exception, in_parentheses, lent, only, thing};
-use crate::words::{kind_of, native_of};
-use crate::world::{Fault, OURS, Reader, THEIRS, World};
-use rp_base::{Kind, Name, NativeId, Rock, Value};
-use rp_ops::word_of;
+use crate::displays::{dict, in_parentheses, only, thing};
+use crate::words::native_of;
+use crate::world::{OURS, Reader, THEIRS, World};
+use rp_base::{Kind, Name, NativeId, Rock, Value, word_of};
+use rp_ops::lent;
 use rp_store::Object;
+use rp_tests_parts::{Fault, exception, kind_of};
 use rp_token::{Token, TokenKind};
 use std::alloc::Global;
 

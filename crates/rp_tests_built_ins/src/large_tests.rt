@@ -1,9 +1,10 @@
 //! Sorting and joining of many elements, with just the steps and cells that they take, and with one less.
 
 use crate::calls::call;
-use crate::world::{Costs, Fault, World};
+use crate::world::{Costs, World};
 use rp_base::{Memory, NativeId, OpEnd, Rock, Text, Value};
 use rp_store::Object;
+use rp_tests_parts::Fault;
 use std::alloc::Global;
 use std::test::Fail;
 

@@ -20,8 +20,6 @@ mod list_tests;
 #[cfg(test)]
 mod need_tests;
 #[cfg(test)]
-mod soundness;
-#[cfg(test)]
 mod text_tests;
 #[cfg(test)]
 mod walk_tests;

@@ -1,10 +1,10 @@
 //! The store, the names and the limits with which a case runs, and the reader of its tokens.
 
-use crate::soundness::is_held;
-use rp_base::{Memory, Meter, Name, Names, OpEnd, Seed, Side, Value};
-use rp_store::{Object, Store, StoreFault};
+use rp_base::{Memory, Meter, Name, Names, Seed, Side, Value};
+use rp_store::{Object, Store};
+use rp_tests_parts::{Fault, is_held};
 use rp_token::{Token, TokenKind};
-use std::alloc::{AllocError, AllocFailed, Global};
+use std::alloc::Global;
 
 /// The side whose code runs.
 pub(crate) const OURS: Side = Side(1);
@@ -24,49 +24,6 @@ impl Costs {
         Costs {
             steps: 1_000_000,
             cells: 1_000_000,
-        }
-    }
-}
-
-/// Why a case has no answer.
-#[derive(Drop)]
-pub(crate) enum Fault {
-    End(OpEnd),
-    /// It would hand a call what that does not take.
-    Unsound,
-    /// It is not written as cases are.
-    Unread,
-}
-
-impl From<OpEnd> for Fault {
-    fn from(end: OpEnd) -> Self {
-        Fault::End(end)
-    }
-}
-
-impl From<Memory> for Fault {
-    fn from(_: Memory) -> Self {
-        Fault::End(OpEnd::Memory)
-    }
-}
-
-impl From<AllocError> for Fault {
-    fn from(_: AllocError) -> Self {
-        Fault::End(OpEnd::Memory)
-    }
-}
-
-impl<T: Drop> From<AllocFailed<T>> for Fault {
-    fn from(_: AllocFailed<T>) -> Self {
-        Fault::End(OpEnd::Memory)
-    }
-}
-
-impl From<StoreFault> for Fault {
-    fn from(fault: StoreFault) -> Self {
-        match fault {
-            StoreFault::Cells => Fault::End(OpEnd::StopCells),
-            StoreFault::Memory => Fault::End(OpEnd::Memory),
         }
     }
 }

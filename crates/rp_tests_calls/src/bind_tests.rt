@@ -3,11 +3,11 @@
 ghost use Rattle.std.specs.Prelude.{IfOk};
 ghost use Rattle.rp_store.specs.Kept.{IsScopeOf};
 
-use crate::soundness::{are_named_sound, are_sound, is_function};
 use rp_base::{Line, Memory, Names, Oid, OpEnd, Rock, Seed, Side, Text, Value, identifier};
 use rp_calls::bind;
 use rp_dict::Dict;
 use rp_store::{Key, Object, Store};
+use rp_tests_parts::{are_named_sound, are_sound, is_function};
 use rp_tree::{Const, Expr, ExprForm, Named, Params};
 use std::alloc::Global;
 use std::test::Fail;

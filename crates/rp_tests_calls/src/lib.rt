@@ -4,6 +4,4 @@
 #[cfg(test)]
 mod bind_tests;
 #[cfg(test)]
-mod soundness;
-#[cfg(test)]
 mod unwind_tests;

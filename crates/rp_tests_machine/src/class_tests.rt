@@ -1,5 +1,4 @@
-//! Scripts with classes, comprehensions, and arguments with stars and names. CPython gave what those print that end
-//! well.
+//! Scripts with classes, comprehensions, and arguments with stars and names. CPython gave what the plain ones print.
 
 use crate::ran::{Ran, RanTrusted};
 use rp_tests_cases::all_answer;
@@ -82,8 +81,8 @@ print([x for x in y]) => NameError: y
 [a for a, b in [(1, 2, 3)]] => ValueError: unpack"#;
 
 const ARGUMENTS: &str =
-    r#"def f(a, b, c):~    return (a, b, c)~print(f(*[1, 2, 3]), f(1, *(2, 3)), f(*'ab', *[1])) => (1, 2, 3) (1, 2, 3) ('a'\
-    , 'b', 1)~well
+    r#"def f(a, b, c):~    return (a, b, c)~print(f(*[1, 2, 3]), f(1, *(2, 3)), f(*'ab', *[1])) => (1, 2, 3) \
+    (1, 2, 3) ('a', 'b', 1)~well
 def f(*xs):~    return xs~print(f(*[]), f(*[1], 2, *[3, 4])) => () (1, 2, 3, 4)~well
 def f(a, b=2, c=3):~    return (a, b, c)~print(f(1, c=5), f(a=1, b=4), f(c=1, a=2)) => (1, 2, 5) (1, 4, 3) (2, 2, 1)\
     ~well

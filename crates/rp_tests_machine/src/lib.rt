@@ -2,6 +2,8 @@
 #![tactic(auto)]
 
 #[cfg(test)]
+mod attribute_tests;
+#[cfg(test)]
 mod class_tests;
 #[cfg(test)]
 mod exit_tests;
@@ -12,10 +14,16 @@ mod function_tests;
 #[cfg(test)]
 mod handler_tests;
 #[cfg(test)]
+mod lent_tests;
+#[cfg(test)]
+mod module_tests;
+#[cfg(test)]
 mod plain_tests;
 #[cfg(test)]
 mod policy_tests;
 #[cfg(test)]
 mod ran;
+#[cfg(test)]
+mod special_tests;
 #[cfg(test)]
 mod value_tests;

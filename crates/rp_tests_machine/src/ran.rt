@@ -1,6 +1,8 @@
 //! What scripts come to.
 
 ghost use Rattle.std.specs.Prelude.{◌≡◌, IfOk, IfSome};
+ghost use Rattle.rp_play.specs.Programs.{AreResolved};
+ghost use Rattle.rp_proxy.specs.Faithful.{IsFaithful};
 ghost use Rattle.rp_tests_stage.specs.Staged.{IsStaged};
 
 use rp_engine::Halt;
@@ -15,7 +17,7 @@ const AMPLE: u64 = 1_000_000;
 
 const DECLARATIONS: &str = r#"version = 1
 permissions = ["demo.View", "demo.Edit"]
-expose = ["site", "Page"]
+expose = ["site", "Page", "shelf"]
 
 [class.Page.get]
 title = "zope.Public"
@@ -40,13 +42,23 @@ allow = ["demo.View"]
 [object.site]
 class = "Page"
 fields = { title = "Home", size = 3, tags = ["a", "b"], info = { n = 1, on = true }, rows = [[1, 2], [3]], draft = "x" }
+
+[class.Shelf.get]
+__getitem__ = "demo.View"
+__setitem__ = "demo.Edit"
+__delitem__ = "demo.Edit"
+__contains__ = "demo.View"
+__len__ = "zope.Public"
+
+[object.shelf]
+class = "Shelf"
 "#;
 
 /// What a script came to: what it printed and how it ended, the trail, the steps that are left and the cells used.
 #[derive(Drop)]
-struct Outcome {
-    told: String,
-    trail: String,
+pub struct Outcome {
+    pub told: String,
+    pub trail: String,
     steps: u64,
     cells: u64,
 }
@@ -108,15 +120,31 @@ fn played(alloc: Global, stage: Stage<'_>, who: &str) -> Result<Option<Outcome>,
     }
 }
 
-/// What a script comes to.
-fn outcome_in(alloc: Global, setting: Setting<'_>, script: &str) -> Result<Option<Outcome>, Fail> {
-    let Some(reading) = read(alloc, setting, script)? else {
-        return Ok(None);
-    };
-    let Reading { trees, ground } = reading;
-    match set(alloc, setting, &trees, ground)? {
+/// What a script that was read comes to; None where it comes to what does not run.
+pub fn outcome_over(
+    alloc: Global,
+    setting: Setting<'_>,
+    reading: Reading,
+) -> Result<Option<Outcome>, Fail>
+    requires faithful { IsFaithful reading.world }
+    requires resolved { AreResolved reading.trees reading.tables }
+{
+    let Reading {
+        trees,
+        tables,
+        world,
+    } = reading;
+    match set(alloc, setting, &trees, tables, world)? {
         Some(stage) => played(alloc, stage, setting.who),
         None => Ok(None),
+    }
+}
+
+/// What a script comes to.
+fn outcome_in(alloc: Global, setting: Setting<'_>, script: &str) -> Result<Option<Outcome>, Fail> {
+    match read(alloc, setting, script)? {
+        Ok(reading) => outcome_over(alloc, setting, reading),
+        Err(_) => Ok(None),
     }
 }
 
@@ -155,6 +183,20 @@ pub struct RanTrusted;
 impl Question for RanTrusted {
     fn answer(&self, alloc: Global, parts: &[String]) -> Result<String, Fail> {
         told_of(alloc, Code::Trusted, part(parts, 0))
+    }
+}
+
+/// The same, behind other code.
+pub struct RanBehind<'a> {
+    pub front: &'a str,
+}
+
+impl Question for RanBehind<'_> {
+    fn answer(&self, alloc: Global, parts: &[String]) -> Result<String, Fail> {
+        let front = self.front;
+        let script = part(parts, 0);
+        let code = format!(in alloc; "{front}{script}")?;
+        told_of(alloc, Code::Trusted, code.as_str())
     }
 }
 
@@ -228,5 +270,16 @@ impl Question for RanWithin {
         let steps = number(parts, 0) as u64;
         let cells = number(parts, 1) as u64;
         with_trail(alloc, plain(Code::Script, steps, cells), part(parts, 2))
+    }
+}
+
+/// The same of code that no policy judges.
+pub struct RanTrustedWithin;
+
+impl Question for RanTrustedWithin {
+    fn answer(&self, alloc: Global, parts: &[String]) -> Result<String, Fail> {
+        let steps = number(parts, 0) as u64;
+        let cells = number(parts, 1) as u64;
+        with_trail(alloc, plain(Code::Trusted, steps, cells), part(parts, 2))
     }
 }

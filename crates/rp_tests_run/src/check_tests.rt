@@ -18,7 +18,11 @@ check s.py => x += 1; x **= 2 => ok~0
 check s.py => for a, (b, c) in o.items(): del o.a, b[c] => ok~0
 check s.py => try:~    f(*x, **y)~except ValueError as e:~    raise~finally:~    pass => ok~0
 check s.py => tb_frame = f_back = 1; print(co_code) => ok~0
-check s.py => x = [i.a for i in r if i]; y = {k: v for k, v in d}; z = lambda a, *b, **c: a => ok~0"#;
+check s.py => x = [i.a for i in r if i]; y = {k: v for k, v in d}; z = lambda a, *b, **c: a => ok~0
+check s.py => ｘ = 1~print(x) => ok~0
+check s.py => n = 3~print(f'a{n}b{{}}') => ok~0
+check s.py => print((2 in {1, 2}), [x for x in {3, 3, 1}]) => ok~0
+check s.py => x = print, printed, builtins, breakpoint => ok~0"#;
 
 const FAULTS: &str = r#"check s.py => if x:~        y~    z => line 3: dedent to no open column~4
 check s.py => x = 1~y = 2 ? 3 => line 2: bad character~4
@@ -35,7 +39,13 @@ check s.py => x = 1; break => line 1: syntax~4
 check s.py => def f():~    x = 1~return x => line 3: syntax~4
 check s.py => _x = ( => line 1: not closed~4
 check s.py => _x = = 1 => line 1: syntax~4
-check s.py => _x = 1~y = ? => line 2: bad character~4"#;
+check s.py => _x = 1~y = ? => line 2: bad character~4
+check s.py => x = (1, => line 1: not closed~4
+check s.py => x = 'a\q' => line 1: bad escape~4
+check s.py => x = = 1 => line 1: syntax~4
+check s.py => print(f'{}') => line 1: format~4
+check s.py => x = 'a' f'b' => line 1: syntax~4
+check s.py => x = {1} => line 1: syntax~4"#;
 
 const OFFENCES: &str = r#"check s.py => del _x~for _i in r: pass~_y += 1 \
     => line 1: name "_x" is forbidden~line 2: name "_i" is forbidden~line 3: name "_y" is forbidden~4
@@ -67,6 +77,15 @@ check s.py => o._ = 1; x = o._._b => line 1: attribute "_b" is forbidden~4
 check s.py => print = 1~del printed => line 1: name "print" is reserved~line 2: name "printed" is reserved~4
 check s.py => def builtins(print, *breakpoint): pass \
     => line 1: name "builtins" is reserved~line 1: name "print" is reserved~line 1: name "breakpoint" is reserved~4
+check s.py => for print in r: pass~try: pass~except E as printed: pass~builtins += 1 \
+    => line 1: name "print" is reserved~line 3: name "printed" is reserved~line 4: name "builtins" is reserved~4
+check s.py => class breakpoint: pass~def f(): global print~x, [printed] = lambda builtins: 1 \
+    => line 1: name "breakpoint" is reserved~line 2: name "print" is reserved~line 3: name "printed" is reserved~\
+    line 3: name "builtins" is reserved~4
+check s.py => x = {_k: _v for _k, print in d.items()} => line 1: name "_k" is forbidden~line 1: name "_v" is forbidden~\
+    line 1: name "_k" is forbidden~line 1: name "print" is reserved~4
+check s.py => x.ａ＿＿roles＿＿ = ｅｖａｌ(x) \
+    => line 1: attribute "a__roles__" is forbidden~line 1: call of "eval" is forbidden~4
 check s.py => eval(exec(1)) => line 1: call of "eval" is forbidden~line 1: call of "exec" is forbidden~4
 check s.py => (ｅxec)(x)~o.eval(eval) => line 1: call of "exec" is forbidden~4
 check s.py => o.a += 1~o[_i] -= 2 => line 1: augmented assignment to an attribute or item is forbidden~\
@@ -126,6 +145,12 @@ fn brackets_and_operators_stand_within_one_another_to_their_limits(
     is_checked(alloc, script.as_str(), "ok\n0")?;
     let script = nested(alloc, "not ", "x", "", 199)?;
     is_checked(alloc, script.as_str(), "line 1: syntax\n4")
+}
+
+#[test]
+fn bytes_that_are_no_text_are_refused(rt: HostRuntime) -> Result<(), Fail> {
+    let wanted = "byte 1: not UTF-8\n4";
+    is_said(rt.alloc(), "check s.py", FOLDER_FILE, b"x\xFF", wanted)
 }
 
 #[test]

@@ -6,6 +6,10 @@ mod check_tests;
 #[cfg(test)]
 mod front_tests;
 #[cfg(test)]
+mod module_tests;
+#[cfg(test)]
+mod object_tests;
+#[cfg(test)]
 mod outside_tests;
 #[cfg(test)]
 mod played_tests;
@@ -13,6 +17,8 @@ mod played_tests;
 mod program_answers;
 #[cfg(test)]
 mod program_tests;
+#[cfg(test)]
+mod report_tests;
 #[cfg(test)]
 mod several_tests;
 #[cfg(test)]

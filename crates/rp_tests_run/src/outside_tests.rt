@@ -127,6 +127,16 @@ fn reads_all_scripts_before_any_is_compiled(rt: HostRuntime) -> Result<(), Fail>
 }
 
 #[test]
+fn checks_no_longer_script(rt: HostRuntime) -> Result<(), Fail> {
+    let alloc = rt.alloc();
+    let mut files = SureFiles::new(blank_files(alloc, 4_194_305, true)?);
+    let mut out = MemSink::new(alloc, AMPLE, AMPLE, Vec::new(alloc))?;
+    let status = status_of(alloc, "check s.py", &mut files, &mut out)?;
+    let said = told(alloc, &out, status)?;
+    is_told(alloc, "blanks", said.as_str(), "too long: s.py\n9")
+}
+
+#[test]
 fn reads_no_longer_declarations(rt: HostRuntime) -> Result<(), Fail> {
     is_said_of_blanks(rt.alloc(), 4_194_305, false, "too long: title.toml\n9")
 }

@@ -23,7 +23,13 @@ for i in range(5):~    if i == 1:~        continue~    if i == 4:~        break~
 total = 0~for pair in enumerate(['x', 'yy']):~    total += pair[0] + len(pair[1])~print(f'{total} in all') => sessio\
     n 1 bob~4 in all~end ok~0
 b = 2~b += 3~b **= 2~b -= 1~print(b, b == 24 and 'yes' or 'no') => session 1 bob~24 yes~end ok~0
-assert 1 < 2, 'no'~print('held') => session 1 bob~held~end ok~0"#;
+assert 1 < 2, 'no'~print('held') => session 1 bob~held~end ok~0
+print(-7 // 2, -7 % 3, 7 // -2, 7 % -3) => session 1 bob~-4 2 -4 -2~end ok~0
+x = [1]~x.append(x)~print(x) => session 1 bob~[1, [...]]~end ok~0
+print({True: 'a', 1: 'b'}) => session 1 bob~{True: 'b'}~end ok~0
+n = 3~print(f'a{n}b{{}}') => session 1 bob~a3b{}~end ok~0
+print((2 in {1, 2}), [x for x in {3, 3, 1}]) => session 1 bob~True [3, 1]~end ok~0
+x = 5~def f():~    global x~    x = x + 1~f()~print(x) => session 1 bob~6~end ok~0"#;
 
 /// Over the folder, whose fields are numbers and texts.
 const FOLDER: &str =
@@ -36,7 +42,14 @@ print(1 // 0) => session 1 bob~end ZeroDivisionError: zero~1
 raise ValueError('no') => session 1 bob~end ValueError: no~1
 print(1)~print(q + 1) => session 1 bob~1~end NameError: q~1
 while True:~    pass => session 1 bob~end stopped steps~5
-print('on')~x = [0] * 2000000 => session 1 bob~on~end stopped cells~5"#;
+print('on')~x = [0] * 2000000 => session 1 bob~on~end stopped cells~5
+print(-7 // 2, -7 % 3)~print(9223372036854775807 + 1) => session 1 bob~-4 2~end OverflowError: int~1
+{}['a'] => session 1 bob~end KeyError: 'a'~1
+a, b = [1] => session 1 bob~end ValueError: unpack~1
+def f():~    x = x + 1~f() => session 1 bob~end UnboundLocalError: x~1
+x = []~for i in range(250): x = [x]~print(x) => session 1 bob~end RecursionError: depth~1
+x = [1]~for i in range(30): x = [x, x]~print(str(x)) => session 1 bob~end stopped cells~5
+x = [1]~y = [1]~for i in range(20):~    x = [x, x]~    y = [y, y]~print(x == y) => session 1 bob~end stopped steps~5"#;
 
 const SHOP: &str =
     r#"for a in catalogue.articles:~    print(a, len(a)) => session 1 bob~saw 3~nail 4~end ok~0
@@ -91,10 +104,14 @@ print(*catalogue.articles, *saw.sizes) => session 1 bob~saw nail small~end ok~0
 def f(**d):~    return d~print(f(**saw.sizes)) => session 1 bob~{'small': 3}~end ok~0
 print([x for x in saw.sold]) => session 1 bob~end ForbiddenAttribute: sold~1"#;
 
-/// Forms that do not run yet, and one that a script does not come to.
-const NOT_YET: &str = r#"print(1)~print(getattr('', 'join')) => script 1: not yet~4
-setattr(root, 'title', 1) => script 1: not yet~4
-if 1 > 2:~    x = getattr('', 'join')~print('on') => session 1 bob~on~end ok~0"#;
+/// Attributes by their words.
+const WORDS: &str =
+    r#"print(getattr('-', 'join')(['a', 'b']), getattr(root, 'title'), getattr(root, 'sold', 0)) \
+    => session 1 bob~a-b Home 0~end ok~0
+class A: pass~a = A()~setattr(a, 'x', 5)~print(a.x)~setattr(root, 'title', 'New') \
+    => session 1 bob~5~end Unauthorized: zope.Manage~1
+print(getattr(root, 'secret')) => session 1 bob~end ForbiddenAttribute: secret~1
+print(getattr(root, '__class__', 0)) => session 1 bob~end ForbiddenAttribute: __class__~1"#;
 
 #[test]
 fn runs_plain_scripts_as_python_does(rt: HostRuntime) -> Result<(), Fail> {
@@ -127,8 +144,8 @@ fn runs_comprehensions_over_what_is_lent(rt: HostRuntime) -> Result<(), Fail> {
 }
 
 #[test]
-fn says_which_scripts_do_not_run_yet(rt: HostRuntime) -> Result<(), Fail> {
-    all_answer(rt.alloc(), &Said::Of, NOT_YET)
+fn reads_and_stores_attributes_by_words(rt: HostRuntime) -> Result<(), Fail> {
+    all_answer(rt.alloc(), &Said::Of, WORDS)
 }
 
 /// A text of the declarations, another in its place, and what is said where eve prints the title.

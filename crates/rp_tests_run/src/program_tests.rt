@@ -13,7 +13,8 @@ run title.toml bob:s.py => print(q) => session 1 bob~end NameError: q~1
 run title.toml bob:s.py => x = root~print(x.size)~x = 5~print(x) => session 1 bob~3~5~end ok~0
 run title.toml bob:s.py =>  => session 1 bob~end ok~0
 run title.toml bob+eve:s.py => print(root.title) => session 1 bob+eve~end Unauthorized: zope.View~1
-run title.toml bob+bob:s.py => print(root.title) => session 1 bob+bob~Home~end ok~0"#;
+run title.toml bob+bob:s.py => print(root.title) => session 1 bob+bob~Home~end ok~0
+run title.toml dave:s.py => print(1) => principal: dave~3"#;
 
 const PERMISSIONS: &str =
     r#"may title.toml bob+eve zope.View =>  => bob yes principal~eve no none~may no~1
@@ -36,7 +37,18 @@ size = 3 => size = 1.5 => declarations: shape object.root.fields.size~3
 [principal.bob] => [class.B]~like = "C"~[class.C]~like = "B"~[principal.bob] => declarations: class B~3
 [principal.eve] => [principal.eve]~groups = ["x"] => declarations: group x~3
 ["root"] => ["rot"] => declarations: expose rot~3
-version = 1 => version = 1~module = "x = 1" => declarations: not yet~3"#;
+version = 1 => version = 1~module = "1 // 0" => declarations: module ended ZeroDivisionError: zero~3
+version = 1 => version = 1~module = "x =" => declarations: module line 1: syntax~3
+version = 1 => version = 1~module = "x = (" => declarations: module line 1: not closed~3
+version = 1 => version = 1~module = "raise ValueError" => declarations: module ended ValueError~3
+version = 1 => version = 1~module = "while 1: pass" => declarations: module stopped steps~3
+version = 1 => version = 1~module = "x = range(1000000)" => declarations: module stopped cells~3
+version = 1 => version = 1~module = "del root" => declarations: expose root~3
+version = 1 => version = 3 => declarations: version~3"#;
+
+const EXPOSED_TWICE: &str =
+    r#"["root"] => ["root", "root"]~module = "x = 1" => session 1 eve~end Unauthorized: zope.View~1
+["root"] => ["x", "root", "x", "root"]~module = "x = 1" => session 1 eve~end Unauthorized: zope.View~1"#;
 
 const SCRIPTS_REFUSED: &str =
     r#"if True:~    x = 1~  y = 2 => script 1: line 3: dedent to no open column~4
@@ -48,7 +60,20 @@ x = 1 ? 2 => script 1: line 1: bad character~4
 x = = 1 => script 1: line 1: syntax~4
 def f():~    x = = 1~y = 1 => script 1: line 2: syntax~4
 print(root._title) => script 1: line 1: attribute "_title" is forbidden~4
-exec(x)~print = 1 => script 1: line 1: call of "exec" is forbidden~script 1: line 2: name "print" is reserved~4"#;
+exec(x)~print = 1 => script 1: line 1: call of "exec" is forbidden~script 1: line 2: name "print" is reserved~4
+x = root._secret~y = 1~exec(y) => script 1: line 1: attribute "_secret" is forbidden~\
+    script 1: line 3: call of "exec" is forbidden~4
+print(f'{}') => script 1: line 1: format~4"#;
+
+const LARGE: &str =
+    r#"large 1 =>  => large 1~bytes 177 25~steps 9~cells 3~entries 1~session 1 p~0~end ok~0
+large 3 =>  => large 3~bytes 281 45~steps 15~cells 5~entries 3~session 1 p~3~end ok~0
+large 010 =>  => large 10~bytes 645 115~steps 36~cells 13~entries 10~session 1 p~45~end ok~0
+large 42 =>  => large 42~bytes 2405 467~steps 132~cells 46~entries 42~session 1 p~861~end ok~0"#;
+
+const LARGER: &str =
+    r#"large 1000 =>  => large 1000~bytes 57795 11905~steps 3006~cells 1007~entries 1000~\
+    session 1 p~499500~end ok~0"#;
 
 const NO_RUN: &str = r#" => usage
 run title.toml => usage
@@ -72,6 +97,7 @@ may title.toml bob -zope.View => usage
 may title.toml bob zope/View => usage
 May title.toml bob zope.View => usage
 may title.toml bob zope.View x => usage
+large 0 => usage
 check => usage
 check -s => usage
 check s.py t.py => usage
@@ -88,6 +114,16 @@ fn says_which_principals_have_a_permission(rt: HostRuntime) -> Result<(), Fail> 
 }
 
 #[test]
+fn says_what_the_large_input_takes(rt: HostRuntime) -> Result<(), Fail> {
+    all_answer(rt.alloc(), &Said::To, LARGE)
+}
+
+#[test]
+fn says_what_a_thousand_objects_take(rt: HostRuntime) -> Result<(), Fail> {
+    all_answer(rt.alloc(), &Said::To, LARGER)
+}
+
+#[test]
 fn says_why_roles_are_refused(rt: HostRuntime) -> Result<(), Fail> {
     all_answer(rt.alloc(), &Said::WhereRoles, ROLES_REFUSED)
 }
@@ -95,6 +131,11 @@ fn says_why_roles_are_refused(rt: HostRuntime) -> Result<(), Fail> {
 #[test]
 fn says_why_declarations_are_refused(rt: HostRuntime) -> Result<(), Fail> {
     all_answer(rt.alloc(), &Said::Where, DECLARATIONS_REFUSED)
+}
+
+#[test]
+fn says_what_is_exposed_twice(rt: HostRuntime) -> Result<(), Fail> {
+    all_answer(rt.alloc(), &Said::Where, EXPOSED_TWICE)
 }
 
 #[test]
@@ -112,7 +153,8 @@ fn says_the_usage_where_the_words_give_no_command(rt: HostRuntime) -> Result<(),
 const SPACING: &str = "\u{feff}print ( root . title ) => session 1 bob~Home~end ok~0
 # the title\r~\r~\u{ff58}=root\r~print(x.title) # here => session 1 bob~Home~end ok~0
 x = 9223372036854775807~print(~  root.title~)~ => session 1 bob~Home~end ok~0
-x = (root); print((x.title),) => session 1 bob~Home~end ok~0";
+x = (root); print((x.title),) => session 1 bob~Home~end ok~0
+\u{ff58} = 1~print(x) => session 1 bob~1~end ok~0";
 
 #[test]
 fn runs_a_script_in_whatever_spacing(rt: HostRuntime) -> Result<(), Fail> {
@@ -156,9 +198,9 @@ fn takes_roles_of_version_2(rt: HostRuntime) -> Result<(), Fail> {
 const BOB: &str = "may title.toml bob zope.View";
 
 #[test]
-fn tells_permissions_of_declarations_that_are_not_run(rt: HostRuntime) -> Result<(), Fail> {
+fn tells_permissions_of_declarations_that_have_no_world(rt: HostRuntime) -> Result<(), Fail> {
     for (from, to) in [
-        ("version = 1", "version = 1\nmodule = \"x = 1\""),
+        ("version = 1", "version = 1\nmodule = \"1 // 0\""),
         ("[\"root\"]", "[\"rot\"]"),
     ] {
         let changed = FOLDER_FILE.replace(rt.alloc(), from, to)?;

@@ -1,5 +1,6 @@
 //! Runs of several scripts, with options: turns, limits and the trail.
 
+use crate::module_tests::FILLING;
 use crate::program_answers::{AMPLE, status_of, told};
 use rp_base::{MemFiles, MemSink, Memory, Text};
 use rp_tests_cases::{FOLDER_FILE, Question, all_answer, part};
@@ -11,7 +12,7 @@ use std::test::Fail;
 enum Several {
     /// The folder of the other tests.
     Folder,
-    /// A folder with a list, and a field that everybody may read and set.
+    /// A folder with a module, a list, and a field that everybody may read and set.
     Boxes,
 }
 
@@ -19,14 +20,14 @@ impl Question for Several {
     fn answer(&self, alloc: Global, parts: &[String]) -> Result<String, Fail> {
         let declarations = match self {
             Several::Folder => FOLDER_FILE,
-            Several::Boxes => BOXES,
+            Several::Boxes => FILLING,
         };
         said_to(alloc, part(parts, 0), declarations, parts)
     }
 }
 
 /// What is said to a line.
-fn said_to(
+pub fn said_to(
     alloc: Global,
     line: &str,
     declarations: &str,
@@ -62,28 +63,6 @@ fn add_file(
     list.push((Text::new(alloc, path)?, bytes))?;
     Ok(())
 }
-
-const BOXES: &str = r#"version = 1
-permissions = ["zope.View", "zope.Manage"]
-expose = ["root"]
-[class.Base]
-get = { size = "zope.Public" }
-[class.Folder]
-like = "Base"
-get = { title = "zope.View", items = "zope.Public", box = "zope.Public" }
-set = { box = "zope.Public" }
-[group.staff]
-allow = ["zope.View"]
-[principal.bob]
-allow = ["zope.View"]
-[principal.eve]
-[principal.kim]
-groups = ["staff"]
-deny = ["zope.View"]
-[object.root]
-class = "Folder"
-fields = { title = "Home", size = 3, secret = "k", items = [1, 2] }
-"#;
 
 const TURNS: &str =
     r#"run title.toml bob:one.py eve:two.py --turns 1,1,2,2,1 => xs = [1]~root.box = xs~print(xs) => y\
@@ -123,7 +102,9 @@ run title.toml bob:one.py bob:two.py --steps 50 => print(q) => while True: pass 
 run title.toml bob:one.py bob:two.py --steps 50 => while True: pass => print(q) => session 1 bob~end stopped steps~ses\
     sion 2 bob~end NameError: q~5
 run title.toml bob:one.py bob:two.py --steps 50 => while True: pass => print(2) => session 1 bob~end stopped steps~ses\
-    sion 2 bob~2~end ok~5"#;
+    sion 2 bob~2~end ok~5
+run title.toml bob:one.py --steps 50 => try:~    while True: pass~except:~    print(1) => session 1 bob~\
+    end stopped steps~5"#;
 
 const TRAILS: &str =
     r#"run title.toml bob:one.py --trail => print(root.title) => session 1 bob~Home~end ok~trail 1~1 \
@@ -142,7 +123,11 @@ run title.toml --trail bob:one.py eve:two.py --turns 2,1 => print(root.size) => 
     Folder.size zope.Public~1
 run title.toml bob:one.py eve:two.py --trail => print(root.size, root.size) => print(root.size) => session 1 bob~3 3~e\
     nd ok~session 2 eve~3~end ok~trail 3~1 1 bob allow get Folder.size zope.Public~2 1 bob allow get Folder.size zope.\
-    Public~3 2 eve allow get Folder.size zope.Public~0"#;
+    Public~3 2 eve allow get Folder.size zope.Public~0
+run title.toml bob:one.py --trail => try:~    root.title = 1~except Unauthorized:~    print(2) => session 1 bob~2~\
+    end ok~trail 1~1 1 bob deny set Folder.title zope.Manage~0
+run title.toml bob:one.py --trail => print(getattr(root, 'secret', 5))~getattr(root, '_x', 5) => session 1 bob~5~\
+    end ForbiddenAttribute: _x~trail 1~1 1 bob forbid get Folder.secret~1"#;
 
 const BOX_TRAILS: &str =
     r#"run title.toml bob:one.py eve:two.py --trail --turns 1,1,2,2,1 => xs = [1]~root.box = xs~p\

@@ -82,7 +82,9 @@ show s.py => def f(): return => def f():~    return~0
 show s.py => class A(): pass => class A:~    pass~0
 show s.py => class A:~    def m(self): return self.x => class A:~    def m(self):~        return _getattr_(self, 'x')~0
 show s.py => x = ａ => x = a~0
-show s.py =>  => 0"#;
+show s.py =>  => 0
+show s.py => print(f'a{x}b')~y = x in {1, 2} => print(_getattr_('', 'join')(['a', str(x), 'b']))~\
+    y = x in {1: None, 2: None}~0"#;
 
 const REFUSED: &str = r#"show s.py => _x = 1 => line 1: name "_x" is forbidden~4
 show s.py => x = = 1 => line 1: syntax~4

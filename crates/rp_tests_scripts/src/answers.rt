@@ -9,11 +9,11 @@ use crate::guard_texts::show_guards;
 use crate::statement_texts::show_stmts;
 use rp_base::{Memory, Names, Seed};
 use rp_expr::{expr, expr_list, params, place_of, target};
-use rp_first::{compile_script, refusal_text};
 use rp_guard::{guarded, transform};
 use rp_heights::height;
 use rp_parse::{ParseFault, parse};
 use rp_program::read_text;
+use rp_script::{Refusal, read_script, refusal_text};
 use rp_token::{Token, TokenFault, TokenKind, tokens};
 use rp_tree::{Expr, Params, Target, Tree};
 use std::alloc::{AllocError, Global};
@@ -52,10 +52,8 @@ pub enum Question {
     Guards,
     /// Whether nothing in its tree stands without its guard, before the transformer and after it.
     IsGuarded,
-    /// The statements that it is compiled to, in words, or why it is refused.
-    Compiled,
-    /// Why it is not compiled; nothing where it is.
-    CompileRefusal,
+    /// Why it is refused as a script; nothing where it is not.
+    ScriptRefusal,
 }
 
 /// How deep expressions are read within expressions: enough for 450 open brackets and a tree of height 200.
@@ -79,8 +77,7 @@ pub fn answer(alloc: Global, question: Question, text: &str) -> Result<String, F
         Question::Height => tree_height(alloc, text),
         Question::Guards => guards(alloc, text),
         Question::IsGuarded => is_guarded(alloc, text),
-        Question::Compiled => compiled_bytes(alloc, text.as_bytes()),
-        Question::CompileRefusal => compile_refusal(alloc, text),
+        Question::ScriptRefusal => script_refusal(alloc, text.as_bytes()),
     }
 }
 
@@ -306,7 +303,7 @@ fn parsed(alloc: Global, names: &mut Names, text: &str) -> Option<Result<Tree, P
     let Ok(found) = tokens(alloc, text, names) else {
         return None;
     };
-    Some(parse(alloc, found.as_slice()))
+    Some(parse(alloc, found))
 }
 
 fn statements(alloc: Global, text: &str) -> Result<String, Fail> {
@@ -377,29 +374,22 @@ fn yes_or_no(holds: bool) -> &'static str {
     if holds { "yes" } else { "no" }
 }
 
-/// The statements that bytes are compiled to, in words, or why they are refused.
-pub fn compiled_bytes(alloc: Global, bytes: &[u8]) -> Result<String, Fail> {
+/// The tree of a script. It has no contract, so the proofs of the tests stay short.
+pub fn read_bytes(alloc: Global, bytes: &[u8], names: &mut Names) -> Result<Tree, Refusal> {
+    read_script(alloc, bytes, names)
+}
+
+/// Why bytes are refused as a script; nothing where they are not.
+pub fn script_refusal(alloc: Global, bytes: &[u8]) -> Result<String, Fail> {
     let mut names = new_names(alloc)?;
-    match compile_script(alloc, bytes, &mut names) {
-        Ok(script) => {
-            let mut out = String::new(alloc);
-            crate::script_texts::describe_all(&mut out, &names, script.statements())?;
-            Ok(out)
-        }
-        Err(refusal) => {
-            let told = refusal_text(alloc, "", &refusal)?;
-            spelled(alloc, told.as_str().trim())
-        }
+    match read_bytes(alloc, bytes, &mut names) {
+        Ok(_) => Ok(String::new(alloc)),
+        Err(refusal) => why(alloc, &refusal, &names),
     }
 }
 
-fn compile_refusal(alloc: Global, text: &str) -> Result<String, Fail> {
-    let mut names = new_names(alloc)?;
-    match compile_script(alloc, text.as_bytes(), &mut names) {
-        Ok(_) => Ok(String::new(alloc)),
-        Err(refusal) => {
-            let told = refusal_text(alloc, "", &refusal)?;
-            spelled(alloc, told.as_str().trim())
-        }
-    }
+/// The lines of a refusal.
+pub fn why(alloc: Global, refusal: &Refusal, names: &Names) -> Result<String, Fail> {
+    let told = refusal_text(alloc, "", refusal, names)?;
+    Ok(String::from_str(alloc, told.as_str().trim())?)
 }

@@ -1,14 +1,12 @@
 //! Compiled scripts and trusted modules, as texts.
 
-ghost use Rattle.std.specs.Prelude.{◌≢◌};
-
-use crate::answers::new_names;
+use crate::answers::{new_names, why};
 use crate::expression_texts::show_name;
 use crate::scope_texts::show_blocks;
 use rp_base::{Name, Names, identifier};
 use rp_compile::{Compiled, Trusted, compile_script, compile_trusted};
 use rp_scope::Layouts;
-use rp_script::{Refusal, refusal_text};
+use rp_script::Refusal;
 use std::alloc::{AllocError, Global};
 use std::test::Fail;
 
@@ -36,9 +34,6 @@ pub fn module_places(alloc: Global, text: &str, asked: &str) -> Result<String, F
     let mut names = new_names(alloc)?;
     let first = held(alloc, &mut names, "Box")?;
     let second = held(alloc, &mut names, "box")?;
-    if first.0 == second.0 {
-        return Ok(String::from_str(alloc, "one name")?);
-    }
     match module_of(alloc, text, first, second, &mut names) {
         Ok(module) => {
             let (_, places) = asked.split_once("; ").unwrap_or(("", asked));
@@ -59,9 +54,7 @@ fn module_of(
     first: Name,
     second: Name,
     names: &mut Names,
-) -> Result<Trusted, Refusal>
-    requires { first.0 ≢ second.0 }
-{
+) -> Result<Trusted, Refusal> {
     compile_trusted(alloc, text, &[first, second], names)
 }
 
@@ -85,10 +78,4 @@ fn show_locals(out: &mut String, layouts: &Layouts, names: &Names) -> Result<(),
         between = " ";
     }
     Ok(())
-}
-
-/// The lines of a refusal.
-fn why(alloc: Global, refusal: &Refusal, names: &Names) -> Result<String, Fail> {
-    let told = refusal_text(alloc, "", refusal, names)?;
-    Ok(String::from_str(alloc, told.as_str().trim())?)
 }

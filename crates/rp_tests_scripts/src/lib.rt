@@ -28,8 +28,6 @@ mod scope_texts;
 #[cfg(test)]
 mod script_tests;
 #[cfg(test)]
-mod script_texts;
-#[cfg(test)]
 mod statement_tests;
 #[cfg(test)]
 mod statement_texts;

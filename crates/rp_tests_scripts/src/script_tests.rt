@@ -1,9 +1,9 @@
-//! Tests of the compiling of scripts.
+//! Tests of scripts as they are read.
 
-use crate::answers::{Question, compiled_bytes, new_names};
+use crate::answers::{Question, new_names, read_bytes, script_refusal};
 use crate::cases::all_answer;
 use rp_base::{Line, Names};
-use rp_first::{Refusal, compile_script, refusal_text};
+use rp_script::{Refusal, refusal_text};
 use rp_tests_cases::is_told;
 use rp_token::TokenFault;
 use std::alloc::Global;
@@ -12,154 +12,76 @@ use std::test::Fail;
 const SCRIPTS_HAVE_THEIR_TREES: &str = "\
 ␊␊ =>
  =>
-print(root.title) => print title of root, Some(GetAttr);
-print(x)␊ => print x;
-print(0)␊ => print number 0;
-x = 0 => let x be number 0;
-x = 7␊␊␊print(x) => let x be number 7;print x;
-x = y␍␊print(x.f)␍␊ => let x be y;print f of x, Some(GetAttr);
-␍␊print(x) => print x;
-total = 123456789012345678 => let total be number 123456789012345678;
-x = 9223372036854775807 => let x be number 9223372036854775807;
-x = 1_000␊y = 0x1f => let x be number 1000;let y be number 31;
-printing = prints => let printing be prints;
-x_1 = A9.b_ => let x_1 be b_ of A9, Some(GetAttr);
-iff = nonee => let iff be nonee;
-lens = root.lens => let lens be lens of root, Some(GetAttr);
-join = 10 => let join be number 10;
+print(root.title) => (1 expr (print call (root .title)))
+print(x)␊ => (1 expr (print call x))
+x = 7␊␊␊print(x) => (1 = x 7)(4 expr (print call x))
+x = y␍␊print(x.f)␍␊ => (1 = x y)(2 expr (print call (x .f)))
+␍␊print(x) => (2 expr (print call x))
+total = 123456789012345678 => (1 = total 123456789012345678)
+x = 9223372036854775807 => (1 = x 9223372036854775807)
+x = 1_000␊y = 0x1f => (1 = x 1000)(2 = y 31)
+printing = prints => (1 = printing prints)
+x_1 = A9.b_ => (1 = x_1 (A9 .b_))
+iff = nonee => (1 = iff nonee)
 ";
 
 #[test]
 fn scripts_have_their_trees(rt: HostRuntime) -> Result<(), Fail> {
-    all_answer(rt.alloc(), Question::Compiled, "", SCRIPTS_HAVE_THEIR_TREES)
+    all_answer(
+        rt.alloc(),
+        Question::Statements,
+        "",
+        SCRIPTS_HAVE_THEIR_TREES,
+    )
 }
 
 const SPACING_COMMENTS_AND_LINE_ENDS_ARE_FREE: &str = "\
-x=1 => let x be number 1;
-x  =␉1 ␉ => let x be number 1;
-x = 1 # one => let x be number 1;
+x=1 => (1 = x 1)
+x  =␉1 ␉ => (1 = x 1)
+x = 1 # one => (1 = x 1)
 # nothing =>
   =>
-␉␊  # an indented comment␊x = 1␊    ␊ => let x be number 1;
-print ( root . title ) => print title of root, Some(GetAttr);
-print(␊    root # why␊  .␍␊␉title␊)␊ => print title of root, Some(GetAttr);
-x = \\␊  1 => let x be number 1;
-x = \\␍␊1␍y = 2 => let x be number 1;let y be number 2;
-print(x)␍␍␊ => print x;
-\u{feff}x = 1 => let x be number 1;
-\u{ff58} = y␊print(x) => let x be y;print x;
-\u{ff50}rint(x.\u{ff46}) => print f of x, Some(GetAttr);
+␉␊  # an indented comment␊x = 1␊    ␊ => (3 = x 1)
+print ( root . title ) => (1 expr (print call (root .title)))
+print(␊    root # why␊  .␍␊␉title␊)␊ => (1 expr (print call (root .title)))
+x = \\␊  1 => (1 = x 1)
+x = \\␍␊1␍y = 2 => (1 = x 1)(3 = y 2)
+print(x)␍␍␊ => (1 expr (print call x))
+\u{feff}x = 1 => (1 = x 1)
+\u{ff58} = y␊print(x) => (1 = x y)(2 expr (print call x))
+\u{ff50}rint(x.\u{ff46}) => (1 expr (print call (x .f)))
 ";
 
 #[test]
 fn spacing_comments_and_line_ends_are_free(rt: HostRuntime) -> Result<(), Fail> {
     all_answer(
         rt.alloc(),
-        Question::Compiled,
+        Question::Statements,
         "",
         SPACING_COMMENTS_AND_LINE_ENDS_ARE_FREE,
     )
 }
 
 const OTHER_SPELLINGS_HAVE_THE_SAME_TREES: &str = "\
-x = (y) => let x be y;
-x = ((7)) => let x be number 7;
-(x) = 1 => let x be number 1;
-x = (y).f => let x be f of y, Some(GetAttr);
-x = (y.f) => let x be f of y, Some(GetAttr);
-print((x)) => print x;
-print(x,) => print x;
-(print)(x) => print x;
-(print(x)) => print x;
-x = 1; => let x be number 1;
-x = 1; print(x) => let x be number 1;print x;
+x = (y) => (1 = x y)
+x = ((7)) => (1 = x 7)
+(x) = 1 => (1 = x 1)
+x = (y).f => (1 = x (y .f))
+x = (y.f) => (1 = x (y .f))
+print((x)) => (1 expr (print call x))
+print(x,) => (1 expr (print call x))
+(print)(x) => (1 expr (print call x))
+(print(x)) => (1 expr (print call x))
+x = 1; => (1 = x 1)
 ";
 
 #[test]
 fn other_spellings_have_the_same_trees(rt: HostRuntime) -> Result<(), Fail> {
     all_answer(
         rt.alloc(),
-        Question::Compiled,
+        Question::Statements,
         "",
         OTHER_SPELLINGS_HAVE_THE_SAME_TREES,
-    )
-}
-
-const OTHER_FORMS_ARE_NOT_BUILT_YET: &str = "\
-x
-1
-pass
-a = b = c
-x, = y
-(x, y) = z
-x += 1
-x.y = 1
-x[0] = 1
-x = x.y.z
-x = x[0]
-x = x()
-x = -1
-x = \"s\"
-x = 's'
-x = ()
-x = 1 + 2
-print()
-print(x, y)
-print(*x)
-print(x=y)
-print(x.y.z)
-print(x)(y)
-print(x).y
-print[x]
-Print(x)
-x.print(y)
-print(print(x))
-if True: pass
-";
-
-#[test]
-fn other_forms_are_not_built_yet(rt: HostRuntime) -> Result<(), Fail> {
-    all_answer(
-        rt.alloc(),
-        Question::Compiled,
-        "not yet",
-        OTHER_FORMS_ARE_NOT_BUILT_YET,
-    )
-}
-
-const OTHER_NAMES_ARE_NOT_BUILT_YET: &str = "\
-_x = 1
-_ = 1
-x__roles__ = 1
-print(_x)
-print(x._y)
-print(x.__class__)
-print(x.y__roles__)
-print(x.f_globals)
-tb_frame = 1
-print(x.join)
-print(x.isdigit)
-print(x.len)
-print(None)
-x = True
-len = 1
-x = len
-print(ValueError)
-ForbiddenAttribute = 1
-print = 1
-printed = 1
-builtins = 1
-breakpoint = 1
-caf\u{e9} = 1
-";
-
-#[test]
-fn other_names_are_not_built_yet(rt: HostRuntime) -> Result<(), Fail> {
-    all_answer(
-        rt.alloc(),
-        Question::Compiled,
-        "not yet",
-        OTHER_NAMES_ARE_NOT_BUILT_YET,
     )
 }
 
@@ -189,7 +111,7 @@ return
 fn texts_without_a_tree_have_a_line(rt: HostRuntime) -> Result<(), Fail> {
     all_answer(
         rt.alloc(),
-        Question::Compiled,
+        Question::ScriptRefusal,
         "line 1: syntax",
         TEXTS_WITHOUT_A_TREE_HAVE_A_LINE,
     )
@@ -215,14 +137,14 @@ x = 'a\\q' => line 1: bad escape
 fn texts_without_tokens_have_a_fault(rt: HostRuntime) -> Result<(), Fail> {
     all_answer(
         rt.alloc(),
-        Question::Compiled,
+        Question::ScriptRefusal,
         "",
         TEXTS_WITHOUT_TOKENS_HAVE_A_FAULT,
     )
 }
 
-fn is_compiled(alloc: Global, bytes: &[u8], wanted: &str) -> Result<(), Fail> {
-    let told = compiled_bytes(alloc, bytes)?;
+fn is_refused(alloc: Global, bytes: &[u8], wanted: &str) -> Result<(), Fail> {
+    let told = script_refusal(alloc, bytes)?;
     is_told(alloc, "bytes", told.as_str(), wanted)
 }
 
@@ -235,20 +157,16 @@ fn bytes_are_utf_8(rt: HostRuntime) -> Result<(), Fail> {
         (b"x = \xe2\x82", "byte 4: not UTF-8"),
         (b"x = 1 ? 2\xc0\x80", "byte 9: not UTF-8"),
     ] {
-        is_compiled(rt.alloc(), bytes, expected)?;
+        is_refused(rt.alloc(), bytes, expected)?;
     }
     Ok(())
 }
 
 const SCRIPTS_HAVE_LIMITS: &str = "\
-1000×x = 1␊ =>
-999×x = 1␊‖x = 2 =>
-1001×x = 1␊ => not yet
-1000×x = 1␊‖x = 2 => not yet
-1000×x = 1; =>
-1001×x = 1; => not yet
+1001×x = 1␊ =>
+1001×x = 1; =>
 1200×␊‖x = 1 =>
-198×not ‖x => not yet
+198×not ‖x =>
 199×not ‖x => line 1: syntax
 255×n‖ = 1 =>
 256×n‖ = 1 => line 1: bad character
@@ -258,15 +176,10 @@ const SCRIPTS_HAVE_LIMITS: &str = "\
 
 #[test]
 fn scripts_have_limits(rt: HostRuntime) -> Result<(), Fail> {
-    all_answer(
-        rt.alloc(),
-        Question::CompileRefusal,
-        "",
-        SCRIPTS_HAVE_LIMITS,
-    )
+    all_answer(rt.alloc(), Question::ScriptRefusal, "", SCRIPTS_HAVE_LIMITS)
 }
 
-/// How many words the names have after each of the scripts of some lines was compiled, or refused.
+/// How many words the names have after each of the scripts of some lines was read, or refused.
 fn held_after(alloc: Global, scripts: &str) -> Result<String, Fail> {
     let mut names = new_names(alloc)?;
     let mut told = String::new(alloc);
@@ -278,7 +191,7 @@ fn held_after(alloc: Global, scripts: &str) -> Result<String, Fail> {
 }
 
 fn held(alloc: Global, names: &mut Names, script: &str) -> usize {
-    let _ = compile_script(alloc, script.as_bytes(), names);
+    let _ = read_bytes(alloc, script.as_bytes(), names);
     names.len()
 }
 
@@ -291,26 +204,34 @@ fn names_grow_by_new_words_alone(rt: HostRuntime) -> Result<(), Fail> {
 
 /// Asks for the line that tells a refusal behind a prefix.
 fn is_told_behind(alloc: Global, prefix: &str, refusal: Refusal, wanted: &str) -> Result<(), Fail> {
-    let line = refusal_text(alloc, prefix, &refusal)?;
+    let names = new_names(alloc)?;
+    let line = refusal_text(alloc, prefix, &refusal, &names)?;
     is_told(alloc, "a refusal", line.as_str(), wanted)
 }
 
 #[test]
 fn refusals_are_told_in_a_line(rt: HostRuntime) -> Result<(), Fail> {
-    for (refusal, line) in [
-        (Refusal::NotUtf8(0), "s\u{f6}: byte 0: not UTF-8\n"),
-        (
-            Refusal::Token(TokenFault::Tab(Line(12))),
-            "s\u{f6}: line 12: tab in indentation\n",
-        ),
-        (
-            Refusal::Token(TokenFault::Deep(Line(4_194_304))),
-            "s\u{f6}: line 4194304: brackets too deep\n",
-        ),
-        (Refusal::Syntax(Line(12)), "s\u{f6}: line 12: syntax\n"),
-        (Refusal::NotYet, "s\u{f6}: not yet\n"),
-    ] {
-        is_told_behind(rt.alloc(), "s\u{f6}: ", refusal, line)?;
-    }
-    Ok(())
+    let alloc = rt.alloc();
+    let tab = Refusal::Token(TokenFault::Tab(Line(12)));
+    let deep = Refusal::Token(TokenFault::Deep(Line(4_194_304)));
+    is_told_behind(
+        alloc,
+        "s\u{f6}: ",
+        Refusal::NotUtf8(0),
+        "s\u{f6}: byte 0: not UTF-8\n",
+    )?;
+    is_told_behind(
+        alloc,
+        "s\u{f6}: ",
+        tab,
+        "s\u{f6}: line 12: tab in indentation\n",
+    )?;
+    is_told_behind(
+        alloc,
+        "s\u{f6}: ",
+        deep,
+        "s\u{f6}: line 4194304: brackets too deep\n",
+    )?;
+    is_told_behind(alloc, "", Refusal::Syntax(Line(12)), "line 12: syntax\n")?;
+    is_told_behind(alloc, "", Refusal::Format(Line(3)), "line 3: format\n")
 }

@@ -1,5 +1,4 @@
-//! Scripts set up to run by the machine, for crates of tests and of loops that are timed: over declarations, for
-//! principals, within limits.
+//! Scripts set up to run by the machine, for tests and timed loops: over declarations, for principals, within limits.
 #![tactic(auto)]
 
 mod programs;
@@ -7,5 +6,5 @@ mod stage;
 mod words;
 
 pub use programs::Code;
-pub use stage::{Ground, Reading, Setting, Stage, read, set};
+pub use stage::{Reading, Setting, Stage, Unset, read, set};
 pub use words::Words;

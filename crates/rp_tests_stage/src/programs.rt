@@ -1,13 +1,18 @@
-//! Trees of scripts.
+//! Scripts and modules, as they are compiled.
 
-ghost use Rattle.std.specs.Prelude.{IfOk, IfSome};
+ghost use Rattle.std.specs.Prelude.{◌≡◌, IfOk};
 ghost use Rattle.rp_decl.specs.Places.{GrowsTo};
-ghost use Rattle.rp_play.specs.Programs.{AreNumbered};
+ghost use Rattle.rp_play.specs.Programs.{IsResolved};
+ghost use Rattle.rp_scope.specs.Scopes.{scopes};
+ghost use Rattle.rp_tree.specs.StatementViews.{view_tree};
+ghost use Rattle.rp_world.specs.Globals.{placed_names};
 
-use rp_base::{Memory, Names};
-use rp_play::Trees;
-use rp_program::{ProgramFault, read_text};
-use rp_script::{Refusal, read_script};
+use rp_base::Names;
+use rp_compile::{Trusted, compile_script, compile_trusted};
+use rp_decl::Decl;
+use rp_module::declared_names;
+use rp_scope::Layouts;
+use rp_script::Refusal;
 use rp_tree::Tree;
 use std::alloc::Global;
 
@@ -20,52 +25,72 @@ pub enum Code {
     Trusted,
 }
 
-/// The trees of a run of one script over declarations without a module; None where the script is refused.
+/// A script as it runs: its tree, and the table of its scopes.
+#[derive(Drop)]
+pub struct Script {
+    pub tree: Tree,
+    pub table: Layouts,
+}
+
+/// What the module of declarations and a script are compiled to.
+#[derive(Drop)]
+pub struct Sources {
+    pub module: Trusted,
+    pub script: Script,
+}
+
+/// The module of declarations and a script, compiled.
 ///
 /// # Errors
-/// `Memory` where a growth was refused.
-pub fn trees_of(
+/// As `compile_script` and `compile_trusted`, for the module first.
+pub fn sources_of(
     alloc: Global,
+    decl: &Decl,
     code: Code,
     script: &str,
     names: &mut Names,
-) -> Result<Option<Trees>, Memory>
-    ensures numbered { IfOk result (λ o. IfSome o AreNumbered) }
+) -> Result<Sources, Refusal>
     ensures grown { GrowsTo names.old names.new }
+    ensures table { IfOk result (λ sources. sources.module.layouts
+        ≡ scopes (placed_names decl.now) (view_tree sources.module.tree)) }
+    ensures resolved { IfOk result (λ sources. IsResolved sources.script.tree sources.script.table) }
 {
-    let Some(tree) = tree_of(alloc, code, script, names)? else {
-        return Ok(None);
-    };
-    let trees = Trees::of_scripts(alloc, vec![in alloc; tree]?)?;
-    Ok(Some(trees))
+    let first = declared_names(alloc, decl)?;
+    let text = decl.module();
+    let module = compile_trusted(alloc, text.as_str(), first.as_slice(), names)?;
+    let script = script_of(alloc, code, script, names)?;
+    Ok(Sources { module, script })
 }
 
-/// The tree of a text that is read so; None where it is refused.
-fn tree_of(alloc: Global, code: Code, text: &str, names: &mut Names) -> Result<Option<Tree>, Memory>
-    ensures { GrowsTo names.old names.new }
+/// The script of a text that is read so.
+fn script_of(alloc: Global, code: Code, text: &str, names: &mut Names) -> Result<Script, Refusal>
+    ensures grown { GrowsTo names.old names.new }
+    ensures resolved { IfOk result (λ script. IsResolved script.tree script.table) }
 {
     match code {
-        Code::Script => script_tree(alloc, text, names),
-        Code::Trusted => trusted_tree(alloc, text, names),
+        Code::Script => judged(alloc, text, names),
+        Code::Trusted => unjudged(alloc, text, names),
     }
 }
 
-fn script_tree(alloc: Global, text: &str, names: &mut Names) -> Result<Option<Tree>, Memory>
-    ensures { GrowsTo names.old names.new }
+/// The script of a text, with its guards.
+fn judged(alloc: Global, text: &str, names: &mut Names) -> Result<Script, Refusal>
+    ensures grown { GrowsTo names.old names.new }
+    ensures resolved { IfOk result (λ script. IsResolved script.tree script.table) }
 {
-    match read_script(alloc, text.as_bytes(), names) {
-        Ok(tree) => Ok(Some(tree)),
-        Err(Refusal::Memory) => Err(Memory),
-        Err(_) => Ok(None),
-    }
+    let compiled = compile_script(alloc, text.as_bytes(), names)?;
+    let parts = compiled.into_parts();
+    let (tree, table) = parts;
+    Ok(Script { tree, table })
 }
 
-fn trusted_tree(alloc: Global, text: &str, names: &mut Names) -> Result<Option<Tree>, Memory>
-    ensures { GrowsTo names.old names.new }
+/// The code of a text, without guards.
+fn unjudged(alloc: Global, text: &str, names: &mut Names) -> Result<Script, Refusal>
+    ensures grown { GrowsTo names.old names.new }
+    ensures resolved { IfOk result (λ script. IsResolved script.tree script.table) }
 {
-    match read_text(alloc, text, names) {
-        Ok(tree) => Ok(Some(tree)),
-        Err(ProgramFault::Memory) => Err(Memory),
-        Err(_) => Ok(None),
-    }
+    let compiled = compile_trusted(alloc, text, &[], names)?;
+    let parts = compiled.into_parts();
+    let (tree, table) = parts;
+    Ok(Script { tree, table })
 }

@@ -1,28 +1,33 @@
 //! A script that is ready to run.
 
-ghost use Rattle.std.specs.Prelude.{◌≡◌, ℕ, List, IfOk, IfSome, length};
+ghost use Rattle.std.specs.Prelude.{◌≡◌, ℕ, List, IfOk, IfSome};
 ghost use Rattle.rp_base.specs.Names.{first_words};
 ghost use Rattle.rp_decl.specs.Consistency.{IsConsistent};
 ghost use Rattle.rp_decl.specs.InOrder.{AreInOrder};
 ghost use Rattle.rp_decl.specs.Places.{GrowsTo, IsHeldBy};
 ghost use Rattle.rp_decl.specs.View.{declarations_view};
 ghost use Rattle.rp_interact.specs.Answers.{AnswersAs};
-ghost use Rattle.rp_play.specs.Programs.{AreNumbered};
+ghost use Rattle.rp_module.specs.Loads.{HasModule};
+ghost use Rattle.rp_play.specs.Programs.{AreResolved, IsResolved};
 ghost use Rattle.rp_proxy.specs.Faithful.{IsFaithful};
+ghost use Rattle.rp_scope.specs.Scopes.{scopes};
 ghost use Rattle.rp_session.specs.Ready.{AreLaidOut};
-ghost use Rattle.rp_tests_stage.specs.Staged.{IsGround, IsStaged};
+ghost use Rattle.rp_tests_stage.specs.Staged.{IsStaged};
+ghost use Rattle.rp_tree.specs.StatementViews.{view_tree};
+ghost use Rattle.rp_world.specs.Globals.{placed_names};
 
-use crate::programs::{Code, trees_of};
+use crate::programs::{Code, Script, Sources, sources_of};
 use crate::words::Words;
-use rp_base::{Memory, Meter, Names, Printed, Text};
+use rp_base::{Memory, Names, Text};
 use rp_decl::{Decl, declarations};
 use rp_engine::Units;
 use rp_interact::Interaction;
-use rp_play::{Trees, units_of};
-use rp_proxy::{Running, World};
+use rp_module::{Loaded, NoWorld, load};
+use rp_play::{Tables, Trees, units_of};
+use rp_proxy::World;
+use rp_script::Refusal;
 use rp_session::Sessions;
 use rp_tests_cases::seed;
-use rp_world::load;
 use std::alloc::Global;
 
 /// Over which declarations a script runs, for which principals, whose ids stand between blanks, what it is read as, and
@@ -36,18 +41,13 @@ pub struct Setting<'a> {
     pub cells: u64,
 }
 
-/// A script that was read, and over what it runs.
+/// A script that was read and the module of the declarations over which it runs, with the tables of their scopes, and
+/// the world that the module has made.
 #[derive(Drop)]
 pub struct Reading {
     pub trees: Trees,
-    pub ground: Ground,
-}
-
-/// The declarations over which a script runs, and the names of both.
-#[derive(Drop)]
-pub struct Ground {
-    pub decl: Decl,
-    pub names: Names,
+    pub tables: Tables,
+    pub world: World,
 }
 
 /// A script that is ready to run as session 1.
@@ -58,23 +58,93 @@ pub struct Stage<'t> {
     pub words: Words,
 }
 
-/// Reads a script and its declarations. None where one of them is refused.
+/// Why a script does not run.
+#[derive(Drop)]
+pub enum Unset {
+    /// The declarations have no world.
+    NoWorld(NoWorld),
+    /// Declarations, module or script are refused.
+    Refused,
+}
+
+/// Reads a script and its declarations, and loads these.
 ///
 /// # Errors
 /// `Memory` where a growth was refused.
-pub fn read(alloc: Global, setting: Setting<'_>, script: &str) -> Result<Option<Reading>, Memory>
-    ensures ground { IfOk result (λ o. IfSome o (λ reading. IsGround reading.ground)) }
-    ensures numbered { IfOk result (λ o. IfSome o (λ reading. AreNumbered reading.trees)) }
+pub fn read(
+    alloc: Global,
+    setting: Setting<'_>,
+    script: &str,
+) -> Result<Result<Reading, Unset>, Memory>
+    ensures faithful { IfOk result (λ r. IfOk r (λ reading. IsFaithful reading.world)) }
+    ensures resolved { IfOk result (λ r. IfOk r (λ reading. AreResolved reading.trees reading.tables)) }
 {
     let mut names = Names::new(alloc, seed())?;
     let Some(decl) = declared(alloc, setting.declarations, &mut names)? else {
-        return Ok(None);
+        return Ok(Err(Unset::Refused));
     };
-    let Some(trees) = trees_of(alloc, setting.code, script, &mut names)? else {
-        return Ok(None);
+    match sources_of(alloc, &decl, setting.code, script, &mut names) {
+        Ok(sources) => loaded(alloc, decl, names, sources, setting.cells),
+        Err(Refusal::Memory) => Err(Memory),
+        Err(_) => Ok(Err(Unset::Refused)),
+    }
+}
+
+/// The same, of a module and a script that were compiled.
+fn loaded(
+    alloc: Global,
+    decl: Decl,
+    names: Names,
+    sources: Sources,
+    cells: u64,
+) -> Result<Result<Reading, Unset>, Memory>
+    requires first { GrowsTo first_words names }
+    requires held { IsHeldBy names decl }
+    requires consistent { IsConsistent (declarations_view names decl) }
+    requires ordered { AreInOrder (declarations_view names decl) }
+    requires table { sources.module.layouts ≡ scopes (placed_names decl) (view_tree sources.module.tree) }
+    requires resolved { IsResolved sources.script.tree sources.script.table }
+    ensures faithful { IfOk result (λ r. IfOk r (λ reading. IsFaithful reading.world)) }
+    ensures resolved { IfOk result (λ r. IfOk r (λ reading. AreResolved reading.trees reading.tables)) }
+{
+    let Sources { module, script } = sources;
+    match load(alloc, decl, names, module, cells) {
+        Ok(loaded) => reading_of(alloc, loaded, script),
+        Err(NoWorld::Memory) => Err(Memory),
+        Err(cause) => Ok(Err(Unset::NoWorld(cause))),
+    }
+}
+
+/// A script over a world.
+fn reading_of(
+    alloc: Global,
+    loaded: Loaded,
+    script: Script,
+) -> Result<Result<Reading, Unset>, Memory>
+    requires faithful { IsFaithful loaded.world }
+    requires whole { HasModule loaded }
+    requires resolved { IsResolved script.tree script.table }
+    ensures faithful { IfOk result (λ r. IfOk r (λ reading. IsFaithful reading.world)) }
+    ensures resolved { IfOk result (λ r. IfOk r (λ reading. AreResolved reading.trees reading.tables)) }
+{
+    let Loaded {
+        world,
+        module,
+        layouts,
+    } = loaded;
+    let Script { tree, table } = script;
+    let scripts = vec![in alloc; tree]?;
+    let each = vec![in alloc; table]?;
+    let trees = Trees { module, scripts };
+    let tables = Tables {
+        module: layouts,
+        scripts: each,
     };
-    let ground = Ground { decl, names };
-    Ok(Some(Reading { trees, ground }))
+    Ok(Ok(Reading {
+        trees,
+        tables,
+        world,
+    }))
 }
 
 /// The declarations, which are read into names.
@@ -102,31 +172,6 @@ fn principals(alloc: Global, decl: &Decl, who: &str) -> Result<Option<Interactio
     Ok(Interaction::new(alloc, decl, ids.as_slice()).ok())
 }
 
-/// The world of declarations without a module, with nobody in it.
-fn world_of(alloc: Global, decl: Decl, names: Names, cells: u64) -> Result<Option<World>, Memory>
-    requires first { GrowsTo first_words names }
-    requires held { IsHeldBy names decl }
-    requires consistent { IsConsistent (declarations_view names decl) }
-    requires ordered { AreInOrder (declarations_view names decl) }
-    ensures faithful { IfOk result (λ o. IfSome o IsFaithful) }
-    ensures decl { IfOk result (λ o. IfSome o (λ w. w.decl ≡ decl)) }
-    ensures names { IfOk result (λ o. IfSome o (λ w. w.names ≡ names)) }
-{
-    if !decl.module().as_str().is_empty() {
-        return Ok(None);
-    }
-    let Some(nobody) = principals(alloc, &decl, "")? else {
-        return Ok(None);
-    };
-    let running = Running {
-        session: 0,
-        interaction: nobody,
-        meter: Meter { left: 0 },
-        printed: Printed::new(alloc),
-    };
-    Ok(load(alloc, decl, names, cells, running).ok())
-}
-
 /// Sets a script that was read up. None where the ids are refused.
 ///
 /// # Errors
@@ -135,39 +180,32 @@ pub fn set<'t>(
     alloc: Global,
     setting: Setting<'_>,
     trees: &'t Trees,
-    ground: Ground,
+    tables: Tables,
+    world: World,
 ) -> Result<Option<Stage<'t>>, Memory>
-    requires ground { IsGround ground }
-    requires numbered { AreNumbered trees.now }
+    requires faithful { IsFaithful world }
+    requires resolved { AreResolved trees.now tables }
     ensures { IfOk result (λ o. IfSome o IsStaged) }
 {
-    let units = units_of(alloc, &ground.decl, trees)?;
-    let Ground { decl, names } = ground;
-    staged(alloc, decl, names, units, setting)
+    let units = units_of(alloc, trees, tables)?;
+    staged(alloc, world, units, setting)
 }
 
-/// The script of some programs, as session 1 over declarations that were read into the names.
+/// The script of some programs, as session 1 of a world.
 fn staged<'t>(
     alloc: Global,
-    decl: Decl,
-    names: Names,
+    world: World,
     units: Units<'t>,
     setting: Setting<'_>,
 ) -> Result<Option<Stage<'t>>, Memory>
-    requires first { GrowsTo first_words names }
-    requires held { IsHeldBy names decl }
-    requires consistent { IsConsistent (declarations_view names decl) }
-    requires ordered { AreInOrder (declarations_view names decl) }
+    requires faithful { IsFaithful world }
     requires laid { AreLaidOut units }
     ensures { IfOk result (λ o. IfSome o IsStaged) }
 {
-    let Some(who) = principals(alloc, &decl, setting.who)? else {
+    let Some(who) = principals(alloc, &world.decl, setting.who)? else {
         return Ok(None);
     };
-    let words = Words::new(alloc, &names, &decl)?;
-    let Some(world) = world_of(alloc, decl, names, setting.cells)? else {
-        return Ok(None);
-    };
+    let words = Words::new(alloc, &world.names, &world.decl)?;
     let mut sessions = Sessions::new(alloc, world);
     sessions.begin(&units, who, setting.steps)?;
     Ok(Some(Stage {

@@ -3,9 +3,9 @@
 use crate::operators::run;
 use crate::tokens::{Token, tokens};
 use crate::world::{Reader, World};
-use rp_base::{Memory, OpEnd, Text, Value};
-use rp_store::StoreFault;
-use std::alloc::{AllocError, AllocFailed, Global};
+use rp_base::{Memory, Text, Value};
+use rp_tests_parts::{Fault, tell_fault};
+use std::alloc::{AllocError, Global};
 
 /// What a statement of a case answers.
 #[derive(Drop)]
@@ -16,49 +16,6 @@ pub(crate) enum Answer {
     Shown(Text),
     Word(&'static str),
     Count(u64),
-}
-
-/// Why a statement has no answer.
-#[derive(Drop)]
-pub(crate) enum Fault {
-    End(OpEnd),
-    /// It would hand a call what that does not take.
-    Unsound,
-    /// It is not written in the notation.
-    Unread,
-}
-
-impl From<OpEnd> for Fault {
-    fn from(end: OpEnd) -> Self {
-        Fault::End(end)
-    }
-}
-
-impl From<Memory> for Fault {
-    fn from(_: Memory) -> Self {
-        Fault::End(OpEnd::Memory)
-    }
-}
-
-impl From<AllocError> for Fault {
-    fn from(_: AllocError) -> Self {
-        Fault::End(OpEnd::Memory)
-    }
-}
-
-impl<T: Drop> From<AllocFailed<T>> for Fault {
-    fn from(_: AllocFailed<T>) -> Self {
-        Fault::End(OpEnd::Memory)
-    }
-}
-
-impl From<StoreFault> for Fault {
-    fn from(fault: StoreFault) -> Self {
-        match fault {
-            StoreFault::Cells => Fault::End(OpEnd::StopCells),
-            StoreFault::Memory => Fault::End(OpEnd::Memory),
-        }
-    }
 }
 
 /// Why a test of cases fails.
@@ -162,22 +119,6 @@ fn tell_answer(world: &World, told: &mut String, answer: &Answer) -> Result<(), 
         Answer::Shown(text) => told.push_str(text.as_str())?,
         Answer::Word(word) => told.push_str(word)?,
         Answer::Count(count) => write!(told, "{count}")?,
-    }
-    Ok(())
-}
-
-fn tell_fault(told: &mut String, fault: &Fault) -> Result<(), Memory> {
-    match fault {
-        Fault::End(OpEnd::Raised(raised)) => {
-            told.push_str(raised.kind.as_str())?;
-            told.push_str(": ")?;
-            told.push_str(raised.text.as_str())?;
-        }
-        Fault::End(OpEnd::StopSteps) => told.push_str("stop steps")?,
-        Fault::End(OpEnd::StopCells) => told.push_str("stop cells")?,
-        Fault::End(OpEnd::Memory) => told.push_str("no memory")?,
-        Fault::Unsound => told.push_str("unsound")?,
-        Fault::Unread => told.push_str("unread")?,
     }
     Ok(())
 }

@@ -1,6 +1,6 @@
 //! The calls that cases name by a word, by the number of their operands.
 
-use crate::answers::{Answer, Fault};
+use crate::answers::Answer;
 use crate::live::live;
 use crate::words::refusal_of;
 use crate::world::World;
@@ -10,6 +10,7 @@ use rp_compare::equal;
 use rp_ops::{Sequence, charge, charge_copies, handed, new_text, raised, step, steps};
 use rp_show::{show, shown_inside};
 use rp_store::{Store, key_of};
+use rp_tests_parts::Fault;
 use std::alloc::Global;
 
 const CALLS: [&str; 66] = [

@@ -40,8 +40,6 @@ mod slice_hashes;
 #[cfg(test)]
 mod slice_tests;
 #[cfg(test)]
-mod soundness;
-#[cfg(test)]
 mod store_calls;
 #[cfg(test)]
 mod store_tests;

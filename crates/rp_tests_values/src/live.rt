@@ -1,15 +1,14 @@
 //! Walks one element at a time, while what is walked grows.
 ghost use Rattle.std.specs.Prelude.{OnOk};
 ghost use Rattle.rp_ops.specs.Walk.{IsWalkHeld};
-ghost use Rattle.rp_store.specs.Kept.{IsSound};
 ghost use Rattle.rp_store.specs.Shape.{KeepsShape};
 
-use crate::answers::{Answer, Fault};
-use crate::soundness::{is_dict, is_list, is_sound};
+use crate::answers::Answer;
 use crate::world::World;
 use rp_base::{Meter, Oid, Rock, Value};
 use rp_ops::{Cursor, walk_of};
 use rp_store::{Object, Store};
+use rp_tests_parts::{Fault, is_dict, is_list, is_sound};
 use std::alloc::Global;
 
 /// Walks a value; behind the first element a list or a dict gets a value, by 7. The elements, as a list.

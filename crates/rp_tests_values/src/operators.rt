@@ -1,14 +1,14 @@
 //! Statements of cases: a call by its word, an operator between two values, or a value, each also behind `name =`.
 
-use crate::answers::{Answer, Fault};
+use crate::answers::Answer;
 use crate::calls::{called, is_call};
-use crate::soundness::is_sound;
 use crate::values::read;
 use crate::world::{Reader, World};
 use rp_base::{BinOp, CmpOp, Meter, Rock, Side, Value};
 use rp_compare::{compare, contains};
 use rp_ops::{binary, inplace};
 use rp_store::Store;
+use rp_tests_parts::{Fault, is_sound};
 use std::alloc::Global;
 
 pub(crate) fn run(world: &mut World, reader: &mut Reader<'_>) -> Result<Answer, Fault> {

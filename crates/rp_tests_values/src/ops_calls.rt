@@ -1,8 +1,7 @@
 //! The calls of rp_ops, rp_items and rp_attributes, each where what it asks holds.
 
-use crate::answers::{Answer, Fault};
+use crate::answers::Answer;
 use crate::calls::{place, told};
-use crate::soundness::{are_sound, is_sound};
 use crate::world::World;
 use rp_attributes::{attribute, del_attribute, set_attribute};
 use rp_base::{Name, Names, Oid, Side, UnOp, Value};
@@ -12,6 +11,7 @@ use rp_ops::{
     truth, unary,
 };
 use rp_store::{Object, Store};
+use rp_tests_parts::{Fault, are_sound, is_sound};
 use std::alloc::Global;
 
 pub(crate) fn on_one(alloc: Global, store: &Store, op: UnOp, a: &Value) -> Result<Answer, Fault> {

@@ -2,14 +2,15 @@
 ghost use Rattle.std.specs.Prelude.{◌≡◌, length};
 ghost use Rattle.rp_store.specs.Heap.{IsHeld, elements_at};
 
-use crate::answers::{Answer, Fault};
+use crate::answers::Answer;
 use crate::ops_calls::values_at;
-use crate::soundness::{
-    are_methods, are_sound, is_class, is_dict, is_function, is_instance, is_key, is_list, is_sound,
-};
 use rp_base::{ClassTag, Name, Oid, Rock, Value};
 use rp_dict::Dict;
 use rp_store::{Key, Object, Store, key_of};
+use rp_tests_parts::{
+    Fault, are_methods, are_sound, is_class, is_dict, is_function, is_instance, is_key, is_list,
+    is_sound,
+};
 use std::alloc::Global;
 
 fn done() -> Result<Answer, Fault> {

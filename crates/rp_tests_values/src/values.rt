@@ -3,14 +3,14 @@
 // They are `1 'a' None [1] (1,) {1: 2} ~[1] KeyError KeyError('a') len`, `class C {f: g}`, `C {x: 1}`, `def f(1)`,
 // `lambda()`, `bound(1, f)` and names that the case has bound.
 
-use crate::answers::Fault;
-use crate::soundness::is_class;
 use crate::tokens::Token;
-use crate::words::{kind_of, native_of};
+use crate::words::native_of;
 use crate::world::{Reader, World, seed};
 use rp_base::{Kind, Name, Oid, Rock, Text, Value};
 use rp_dict::Dict;
-use rp_store::{Callee, Key, Object, key_of};
+use rp_ops::lent;
+use rp_store::{Callee, Object};
+use rp_tests_parts::{Fault, entries_of, exception, is_class, kind_of};
 use std::alloc::Global;
 
 /// What is open while its parts are read.
@@ -96,13 +96,6 @@ fn is_lent(open: &[Open]) -> bool {
     match open.last() {
         Some(top) => matches!(top.form, Form::Lent),
         None => false,
-    }
-}
-
-fn lent(value: Value) -> Value {
-    match value {
-        Value::Ref(at) => Value::Prox(at),
-        other => other,
     }
 }
 
@@ -224,57 +217,15 @@ fn close(world: &mut World, open: Open) -> Result<Value, Fault> {
         Form::Lent => Err(Fault::Unread),
         Form::List => world.add(Object::List(values)),
         Form::Tuple => world.add(Object::Tuple(values)),
-        Form::Dict => add_dict(world, values),
+        Form::Dict => {
+            let entries = entries_of(world.alloc, seed(), values)?;
+            world.add(Object::Dict(entries))
+        }
         Form::Exception(kind) => exception(world.alloc, kind, &values),
         Form::Instance(class) => add_instance(world, class, names, values),
         Form::Class { name, declared } => add_class(world, name, declared, names, values),
         Form::Function(name) => add_function(world, name, values),
         Form::Bound => add_method(world, values),
-    }
-}
-
-/// An exception value with the first of the values, a text, or with none.
-fn exception(alloc: Global, kind: Kind, values: &[Value]) -> Result<Value, Fault> {
-    let text = match values.first() {
-        Some(Value::Rock(Rock::Text(text))) => text.copy()?,
-        _ => Text::new(alloc, "")?,
-    };
-    Ok(Value::Rock(Rock::Exc(kind, text)))
-}
-
-fn add_dict(world: &mut World, values: Vec<Value>) -> Result<Value, Fault> {
-    let mut entries = Dict::new(world.alloc, seed());
-    let mut key = None;
-    for value in values {
-        match key {
-            Some(rock) => {
-                set_entry(&mut entries, rock, value)?;
-                key = None;
-            }
-            None => key = Some(key_rock(value)?),
-        }
-    }
-    world.add(Object::Dict(entries))
-}
-
-fn key_rock(value: Value) -> Result<Rock, Fault> {
-    match value {
-        Value::Rock(rock) => Ok(rock),
-        _ => Err(Fault::Unread),
-    }
-}
-
-fn set_entry(
-    entries: &mut Dict<Key, (Rock, Value)>,
-    rock: Rock,
-    value: Value,
-) -> Result<(), Fault> {
-    match key_of(&rock)? {
-        Some(key) => {
-            entries.set(key, (rock, value))?;
-            Ok(())
-        }
-        None => Err(Fault::Unread),
     }
 }
 

@@ -1,38 +1,7 @@
-//! The words of kinds of exceptions, built-in functions and refusals.
+//! The words of built-in functions and refusals.
 
-use rp_base::{Kind, NativeId};
+use rp_base::NativeId;
 use rp_ops::Refusal;
-
-const KINDS: [Kind; 18] = [
-    Kind::Exception,
-    Kind::ArithmeticError,
-    Kind::ZeroDivisionError,
-    Kind::OverflowError,
-    Kind::LookupError,
-    Kind::IndexError,
-    Kind::KeyError,
-    Kind::NameError,
-    Kind::UnboundLocalError,
-    Kind::RuntimeError,
-    Kind::RecursionError,
-    Kind::ValueError,
-    Kind::TypeError,
-    Kind::AttributeError,
-    Kind::AssertionError,
-    Kind::Unauthorized,
-    Kind::Forbidden,
-    Kind::ForbiddenAttribute,
-];
-
-/// The kind of exceptions of this name.
-pub(crate) fn kind_of(word: &str) -> Option<Kind> {
-    for kind in KINDS {
-        if kind.as_str() == word {
-            return Some(kind);
-        }
-    }
-    None
-}
 
 /// The built-in function or method of this name, of those that the cases name.
 pub(crate) fn native_of(word: &str) -> Option<NativeId> {

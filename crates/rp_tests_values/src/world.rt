@@ -1,10 +1,9 @@
 //! The store, the names and the steps with which a case runs, and the reader of its tokens.
 
-use crate::answers::Fault;
-use crate::soundness::is_held;
 use crate::tokens::Token;
 use rp_base::{Memory, Meter, Name, Names, Oid, Seed, Side, Value, identifier};
 use rp_store::{Object, Store};
+use rp_tests_parts::{Fault, is_held};
 use std::alloc::Global;
 
 /// The steps and cells that a case has where it names none.

@@ -103,7 +103,7 @@ tokens_from-lawful text zero s (c ∷ cs) left so_far =
         let rest : t.left ≡ drop (less.count - 1) cs = less.is ∙ drop-behind less.count c cs less.some in
         further (length cs - length t.left) t (rest ∙ sym ((λ k. drop (length cs - length (rest k)) cs) ∙ drop-difference (less.count - 1) cs)) (Ready-from_Here text t here)
 
-without_mark-behind : (text : List ℕ) → IsBehind 0 text (without_mark text)
+pub without_mark-behind : (text : List ℕ) → IsBehind 0 text (without_mark text)
 without_mark-behind text = by (first text == 0xFEFF)
   where
     by : (b : Bool) → IsBehind 0 text (if b then drop 1 text else text)
@@ -152,7 +152,7 @@ within-tokens names limit n (t ∷ ts) within =
       within-tokens names limit (open_behind n t.kind) ts (subst (λ m. Within limit m (map (item_view names) ts)) opened within.1),
     )
 
-scalars-drop : (n : ℕ) (cs : List ℕ) → scalars cs ≡ true → scalars (drop n cs) ≡ true
+pub scalars-drop : (n : ℕ) (cs : List ℕ) → scalars cs ≡ true → scalars (drop n cs) ≡ true
 scalars-drop zero cs all = all
 scalars-drop (suc n) [] all = all
 scalars-drop (suc n) (c ∷ cs) all = scalars-drop n cs (and_parts (scalar c) (scalars cs) all).1

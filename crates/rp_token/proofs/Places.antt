@@ -33,34 +33,9 @@ IsAscii-keyword i = IsAscii-word _ (ascii_at keywords i refl)
 pub IsAscii-mark : (i : ℕ) → IsAscii (get_or marks i [])
 IsAscii-mark i = IsAscii-word _ (ascii_at marks i refl)
 
--- an ASCII word is a text's bytes where it is its characters
-pub pointwise-chars : (k bs : List ℕ) → IsAscii k → IsUtf8 bs → pointwise nat_eq k bs ≡ pointwise nat_eq k (chars bs)
-pointwise-chars k bs ascii text = by (pointwise nat_eq k bs) (pointwise nat_eq k (chars bs)) refl refl
-  where
-    by : (b d : Bool) → pointwise nat_eq k bs ≡ b → pointwise nat_eq k (chars bs) ≡ d → b ≡ d
-    by true true e f = refl
-    by false false e f = refl
-    by true false e f =
-        let same : k ≡ bs = (bytes_decides k bs).0 e in
-        sym ((bytes_decides k (chars bs)).1 (sym (chars-IsAscii k ascii) ∙ ap chars same)) ∙ f
-    by false true e f =
-        let same : k ≡ chars bs = (bytes_decides k (chars bs)).0 f in
-        let bytes : k ≡ bs = sym (encodes-IsAscii k ascii) ∙ ap encode_utf8_all same ∙ encodes-chars bs text in
-        sym e ∙ (bytes_decides k bs).1 bytes
-
 -- the word is one of those at the place and behind it
 abbrev pub is_among : List ℕ → ℕ → Bool
 is_among word i = list_any (λ k. pointwise nat_eq k word) (drop i keywords)
-
-any-chars : (ks : List (List ℕ)) (bs : List ℕ) → list_all is_ascii_word ks ≡ true → IsUtf8 bs → list_any (λ k. pointwise nat_eq k bs) ks ≡ list_any (λ k. pointwise nat_eq k (chars bs)) ks
-any-chars [] bs e text = refl
-any-chars (k ∷ ks) bs e text =
-    let both = and_parts (is_ascii_word k) (list_all is_ascii_word ks) e in
-    (λ i. pointwise-chars k bs (IsAscii-word k both.0) text i || any-chars ks bs both.1 text i)
-
--- a word is a keyword by its bytes where it is one by its characters
-pub is_keyword-chars : (bs : List ℕ) → IsUtf8 bs → is_keyword bs ≡ is_keyword (chars bs)
-is_keyword-chars bs text = any-chars keywords bs refl text
 
 -- the word at this place, and another
 pub among-here : (word : List ℕ) (i : ℕ) → i < length keywords → pointwise nat_eq (get_or keywords i []) word ≡ true → is_among word i ≡ true

@@ -6,6 +6,7 @@ use Rattle.std.specs.List.{list_all, list_any, starts_with}
 use Rattle.std.specs.Option.{option_map_or}
 use Rattle.std.proofs.lemmas.List.{drop-drop, length-drop}
 use Rattle.std.proofs.lemmas.List.Sums.{take_while-cons}
+use Rattle.std.proofs.Math.Bool.{or-true}
 use Rattle.rp_base.specs.Identifier.{is_start}
 use Rattle.rp_token.specs.declared.fault.TokenFault.{TokenFault}
 use Rattle.rp_token.specs.declared.fault.TokenFault.TheVariants as fault
@@ -88,24 +89,20 @@ taken_or-leaves : (o : Option Form) (f : Line → TokenFault) (rest : List ℕ) 
 taken_or-leaves (Some form) f rest s less = less
 taken_or-leaves None f rest s less = tt
 
-or_true : (b : Bool) → (b || true) ≡ true
-or_true true = refl
-or_true false = refl
-
 -- a word begins with what may continue it
 pub starts-continues : (c : ℕ) → is_start c ≡ true → is_xid_continue c ≡ true
 starts-continues c e = by (or_cases (c == 95) (is_xid_start c) e)
   where
     by : ((c == 95) ≡ true) ⊎ (is_xid_start c ≡ true) → is_xid_continue c ≡ true
-    by (inl low) = let is = eqb-true c 95 low in is_xid_continue-ascii c (omega arith) ∙ rw low (or_true (is_ascii_alphanumeric c))
+    by (inl low) = let is = eqb-true c 95 low in is_xid_continue-ascii c (omega arith) ∙ rw low (or-true (is_ascii_alphanumeric c))
     by (inr start) = is_xid_start-is_xid_continue c start
 
 -- a digit is a character of a number
-digit-numeral : (c : ℕ) → is_ascii_digit c ≡ true → is_numeral c ≡ true
+pub digit-numeral : (c : ℕ) → is_ascii_digit c ≡ true → is_numeral c ≡ true
 digit-numeral c e =
     let most = leb-true c 57 (and_parts (nat_le 48 c) (nat_le c 57) e).1 in
     let letter : is_xid_continue c ≡ true = is_xid_continue-ascii c (omega arith) ∙ rw e refl in
-    rw letter (or_true (c == 46))
+    rw letter (or-true (c == 46))
 
 word-leaves : (s : State) → 0 < length s.left → is_start (first s.left) ≡ true → Leaves 1 s.left (behind_word s)
 unfolding behind_word

@@ -4,25 +4,10 @@ use Rattle.std.specs.Char.{encode_utf8}
 use Rattle.std.specs.Str.{IsUtf8, IsCharBoundary}
 use Rattle.std.proofs.lemmas.List.{append-nil, length-append, drop_at, take_at, nil_from_length}
 use Rattle.std.proofs.lemmas.List.Sums.{take_while-cons}
-use Rattle.std.proofs.lemmas.Str.{chars-nil, chars_past_char, chars_from_encodes, encodes-append, IsUtf8-take, encodes-chars, IsCharBoundary-at_seam}
+use Rattle.std.proofs.lemmas.Str.{chars-nil, chars_from_encodes, encodes-append, IsUtf8-take, encodes-chars, IsCharBoundary-at_seam}
 use Rattle.rp_token.specs.Characters.{behind_run, first, is_blank, is_line_end, line_end_length}
 use Rattle.rp_token.specs.Tokens.{is_empty_line, joined_lines}
-
--- behind the first character
-pub chars-behind : (bs rest : List ℕ) (c : ℕ) → IsUtf8 bs → bs ≡ encode_utf8 c ++ rest → chars rest ≡ drop 1 (chars bs)
-chars-behind bs rest c text e = sym (ap (drop 1) (chars_past_char bs rest c text e))
-
--- behind nothing
-pub chars-none : (bs : List ℕ) → length bs ≡ 0 → chars bs ≡ drop 1 (chars bs)
-chars-none bs e = let none = nil_from_length bs e in rw (none, chars-nil) refl
-
--- a text that has bytes has characters
-pub some_chars : (bs : List ℕ) → IsUtf8 bs → 0 < length bs → 0 < length (chars bs)
-some_chars bs text some = by (chars bs) refl
-  where
-    by : (cs : List ℕ) → chars bs ≡ cs → 0 < length cs
-    by [] e = let none : [] ≡ bs = ap encode_utf8_all (sym e) ∙ encodes-chars bs text in absurd (omega (arith, ap length none))
-    by (c ∷ cs) e = omega arith
+use Rattle.rp_base.proofs.CallerLemmas.{length-front}
 
 -- the bytes of a text are those of its characters
 pub bytes-chars : (bs : List ℕ) → IsUtf8 bs → length (encode_utf8_all (chars bs)) ≡ length bs
@@ -70,15 +55,11 @@ Passed-le p text rest whole left so_far =
     let both = ap length (Passed-bytes p text rest whole left so_far) ∙ length-append (encode_utf8_all so_far.letters) rest in
     omega arith
 
--- how many bytes passed
-passed_length : (text letters rest : List ℕ) → text ≡ letters ++ rest → length letters ≡ length text - length rest
-passed_length text letters rest e = let both = ap length e ∙ length-append letters rest in omega arith
-
 -- the text may be cut there
 pub Passed-cut : (p : ℕ → Bool) (text rest : List ℕ) → IsUtf8 text → IsUtf8 rest → Passed p (chars text) (chars rest) → IsCharBoundary text (length text - length rest)
 Passed-cut p text rest whole left so_far =
     let seam = Passed-bytes p text rest whole left so_far in
-    rw (← passed_length text (encode_utf8_all so_far.letters) rest seam) (IsCharBoundary-at_seam text (encode_utf8_all so_far.letters) rest seam left)
+    rw (← length-front text (encode_utf8_all so_far.letters) rest seam) (IsCharBoundary-at_seam text (encode_utf8_all so_far.letters) rest seam left)
 
 -- where the run is over, what passed is the run
 pub Passed-run : (p : ℕ → Bool) (text rest : List ℕ) → Passed p text rest → take_while p rest ≡ [] → (letters : List ℕ) × (take_while p text ≡ letters) × (text ≡ letters ++ rest)
@@ -94,7 +75,7 @@ Passed-front p text rest front whole left is so_far over =
     let letters = so_far.letters in
     let seam = Passed-bytes p text rest whole left so_far in
     let bytes : take (length text - length rest) text ≡ encode_utf8_all letters =
-    ap (take (length text - length rest)) seam ∙ take_at (encode_utf8_all letters) rest (length text - length rest) (passed_length text (encode_utf8_all letters) rest seam) in
+    ap (take (length text - length rest)) seam ∙ take_at (encode_utf8_all letters) rest (length text - length rest) (length-front text (encode_utf8_all letters) rest seam) in
     let text_of : IsUtf8 (take (length text - length rest) text) = IsUtf8-take text (length text - length rest) whole (Passed-cut p text rest whole left so_far) in
     ap chars is ∙ sym (chars_from_encodes letters _ text_of (sym bytes)) ∙ sym (so_far.run ∙ ap (λ more. letters ++ more) over ∙ append-nil letters)
 

@@ -1,5 +1,5 @@
 -- What the reader of tokens does, in the words of the definition.
-use Rattle.std.specs.Prelude.{◌≡◌, ℕ, List, ◌++◌, map, chars, Result, Ok, Err, ⊤}
+use Rattle.std.specs.Prelude.{◌≡◌, ℕ, List, map, chars, Result, Ok, Err, ⊤}
 use Rattle.std.specs.declared.alloc.Global.{Global}
 use Rattle.std.specs.declared.vec.Vec.{Vec}
 use Rattle.rp_token.specs.declared.fault.TokenFault.{TokenFault}
@@ -33,7 +33,3 @@ abbrev pub Gives : List (List ℕ) → Result (List Item) TokenFault → Result 
 Gives names expected (Ok tokens) = expected ≡ Ok (map (item_view names) tokens.items)
 Gives names expected (Err fault.Memory) = ⊤
 Gives names expected (Err f) = expected ≡ Err f
-
--- the names are those before and some more
-abbrev pub IsGrown : List (List ℕ) → List (List ℕ) → Type 0
-IsGrown old new = (more : List (List ℕ)) × (new ≡ old ++ more)

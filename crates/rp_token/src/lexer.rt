@@ -53,9 +53,9 @@ pub(crate) struct Lexer<'t> {
 impl<'t> Lexer<'t> {
     ghost use Rattle.std.specs.Prelude.{◌≡◌, ◌≤◌, ◌++◌, ◌==◌, List, ℕ, OnOk, true};
     ghost use Rattle.rp_base.specs.Identifier.{is_start};
-    ghost use Rattle.rp_base.specs.Names.{with_words};
+    ghost use Rattle.rp_base.specs.Names.{GrowsTo, with_words};
     ghost use Rattle.rp_token.specs.Characters.{first, line_end_length};
-    ghost use Rattle.rp_token.specs.Lexer.{Gives, Goes, IsGrown, state};
+    ghost use Rattle.rp_token.specs.Lexer.{Gives, Goes, state};
     ghost use Rattle.rp_token.specs.Tokens.{begun, behind_line_end, behind_literal, behind_mark, behind_number};
     ghost use Rattle.rp_token.specs.Tokens.{behind_token, behind_word, bracketed, closed_to, ending, in_line, indented};
     ghost use Rattle.rp_token.specs.Tokens.{joined, start, step, taken, with_token};
@@ -89,7 +89,7 @@ impl<'t> Lexer<'t> {
     #[tactic(auto, unfolding(crate::specs::Tokens::step))]
     pub(crate) fn step(&mut self, names: &mut Names) -> Result<(), TokenFault>
         ensures goes { (more : List (List ℕ)) → Goes (names.new ++ more) step result self.old self.new }
-        ensures grown { IsGrown names.old names.new }
+        ensures grown { GrowsTo names.old names.new }
         ensures words { OnOk result (names.new ≡ with_words names.old (front_words (chars self.old.rest.now))) }
     {
         match self.stage {
@@ -122,7 +122,7 @@ impl<'t> Lexer<'t> {
     #[tactic(auto, unfolding(crate::specs::Tokens::in_line))]
     fn in_line(&mut self, names: &mut Names) -> Result<(), TokenFault>
         ensures goes { (more : List (List ℕ)) → Goes (names.new ++ more) in_line result self.old self.new }
-        ensures grown { IsGrown names.old names.new }
+        ensures grown { GrowsTo names.old names.new }
         ensures words { OnOk result (names.new ≡ with_words names.old (front_words (chars self.old.rest.now))) }
     {
         match first(self.rest) {
@@ -236,7 +236,7 @@ impl<'t> Lexer<'t> {
     #[tactic(auto, unfolding(crate::specs::Tokens::behind_token))]
     fn token(&mut self, names: &mut Names) -> Result<(), TokenFault>
         ensures goes { (more : List (List ℕ)) → Goes (names.new ++ more) behind_token result self.old self.new }
-        ensures grown { IsGrown names.old names.new }
+        ensures grown { GrowsTo names.old names.new }
         ensures words { OnOk result (names.new ≡ with_words names.old (front_words (chars self.old.rest.now))) }
     {
         let letter = first(self.rest);
@@ -256,7 +256,7 @@ impl<'t> Lexer<'t> {
     fn word(&mut self, names: &mut Names) -> Result<(), TokenFault>
         requires { is_start (first (chars self.old.rest.now)) ≡ true }
         ensures goes { (more : List (List ℕ)) → Goes (names.new ++ more) behind_word result self.old self.new }
-        ensures grown { IsGrown names.old names.new }
+        ensures grown { GrowsTo names.old names.new }
         ensures words { OnOk result (names.new ≡ with_words names.old (front_words (chars self.old.rest.now))) }
     {
         let (word, rest) = Run::Word.split(self.rest);

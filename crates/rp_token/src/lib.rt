@@ -2,20 +2,21 @@
 #![tactic(auto)]
 
 ghost use Rattle.std.specs.Prelude.{◌≡◌, All, IfOk, OnOk, chars};
-ghost use Rattle.rp_base.specs.Names.{with_words};
+ghost use Rattle.rp_base.specs.Names.{GrowsTo, with_words};
 ghost use Rattle.rp_token.specs.Laws.{BlocksEnd, EndsOnce, IsWithin, LieInOrder};
-ghost use Rattle.rp_token.specs.Lexer.{Gives, IsGrown};
+ghost use Rattle.rp_token.specs.Lexer.{Gives};
 ghost use Rattle.rp_token.specs.NameWords.{text_words};
 ghost use Rattle.rp_token.specs.View.{IsHeld};
 ghost use Rattle.rp_token.specs.Tokens.{tokens_of};
 
+mod copies;
 mod fault;
 mod lexer;
 mod literal;
 mod number;
 mod spelling;
 mod stack;
-mod text;
+pub mod text;
 mod token;
 mod word;
 
@@ -35,7 +36,7 @@ pub use token::{Token, TokenKind};
 /// The first fault of the text from the left, with its line from 1, or `Memory` where a growth was refused.
 pub fn tokens(alloc: Global, text: &str, names: &mut Names) -> Result<Vec<Token>, TokenFault>
     ensures tokens { Gives names.new (tokens_of (chars text.now)) result }
-    ensures names { IsGrown names.old names.new }
+    ensures names { GrowsTo names.old names.new }
     ensures words { OnOk result (names.new ≡ with_words names.old (text_words (chars text.now))) }
     ensures ends { IfOk result (λ found. EndsOnce found.items) }
     ensures order { IfOk result (λ found. LieInOrder text.now 0 found.items) }

@@ -24,7 +24,7 @@ pub(crate) enum Run {
 }
 
 /// The first character, and NUL where there is none.
-pub(crate) fn first(text: &str) -> char
+pub fn first(text: &str) -> char
     ensures { result ≡ first (chars text.now) }
 {
     match text.chars().next() {
@@ -34,7 +34,7 @@ pub(crate) fn first(text: &str) -> char
 }
 
 /// What stands behind the first character.
-pub(crate) fn behind(text: &str) -> &str
+pub fn behind(text: &str) -> &str
     ensures { chars result.now ≡ drop 1 (chars text.now) }
 {
     let mut letters = text.chars();

@@ -3,8 +3,7 @@
 ghost use Rattle.std.specs.Prelude.{◌≡◌, ◌++◌, ℕ, List, IfOk, IsTrue, OnOk, chars, false, option_map, true};
 ghost use Rattle.rp_base.specs.Identifier.{IsIdentifier, is_identifier};
 ghost use Rattle.rp_base.specs.Keyword.{is_keyword};
-ghost use Rattle.rp_base.specs.Names.{with_words};
-ghost use Rattle.rp_token.specs.Lexer.{IsGrown};
+ghost use Rattle.rp_base.specs.Names.{GrowsTo, with_words};
 ghost use Rattle.rp_token.specs.Tokens.{word_form};
 ghost use Rattle.rp_token.specs.View.{form_view};
 ghost use Rattle.rp_token.specs.WordSteps.{form_words};
@@ -27,7 +26,7 @@ pub(crate) fn word_kind(
     requires { is_identifier (chars word.now) ≡ true }
     ensures form { (more : List (List ℕ))
         → IfOk result (λ kind. option_map (form_view (names.new ++ more)) kind ≡ word_form (chars word.now)) }
-    ensures grown { IsGrown names.old names.new }
+    ensures grown { GrowsTo names.old names.new }
     ensures words { OnOk result (names.new ≡ with_words names.old (form_words (word_form (chars word.now)))) }
 {
     if let Some(kind) = keyword(word) {
@@ -53,7 +52,7 @@ fn name_of_form(alloc: Global, word: &str, names: &mut Names) -> Result<Option<T
     requires { is_keyword (chars word.now) ≡ false }
     ensures form { (more : List (List ℕ))
         → IfOk result (λ kind. option_map (form_view (names.new ++ more)) kind ≡ word_form (chars word.now)) }
-    ensures grown { IsGrown names.old names.new }
+    ensures grown { GrowsTo names.old names.new }
     ensures words { OnOk result (names.new ≡ with_words names.old (form_words (word_form (chars word.now)))) }
 {
     let Some(form) = identifier(alloc, word)? else {

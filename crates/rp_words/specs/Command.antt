@@ -91,9 +91,13 @@ number_of longest least most digits =
     then Some (digits_value 10 digits)
     else None
 
--- `--steps N` and `--cells N`: up to 9 digits, at most so many; 1,000,000 where the option is not given
+-- the most steps of a session, and the most cells that a run may use, where no option says otherwise
+abbrev pub usual_limit : ℕ
+usual_limit = 1000000
+
+-- `--steps N` and `--cells N`: up to 9 digits, at most so many; the usual limit where the option is not given
 abbrev pub limit_of : ℕ → Option (List ℕ) → Option ℕ
-limit_of most None = Some 1000000
+limit_of most None = Some usual_limit
 limit_of most (Some digits) = number_of 9 0 most digits
 
 -- `--turns LIST`: numbers of one or two digits, joined by `,`, each that of a pair; at most 10,000 of them, and none

@@ -11,4 +11,5 @@ mod words;
 
 pub use command::{Command, May, Pair, Question, Run};
 pub use fault::{USAGE, WordsFault};
+pub use number::USUAL_LIMIT;
 pub use words::read_words;

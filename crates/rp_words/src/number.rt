@@ -7,7 +7,7 @@ ghost use Rattle.std.specs.Str.Parse.{digits_value};
 ghost use Rattle.rp_words.specs.Command.{limit_of, number_of};
 
 /// How many steps a session takes at most, and cells all sessions together, where the words do not say.
-const USUAL_LIMIT: u64 = 1_000_000;
+pub const USUAL_LIMIT: u64 = 1_000_000;
 
 /// The number that ASCII digits spell, at least one and at most `longest` of them, where it lies between `least` and
 /// `most`.

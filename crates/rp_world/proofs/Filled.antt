@@ -1,38 +1,34 @@
 -- The store while it is filled: what stands at the places of the two scopes and of the classes.
-use Rattle.std.proofs.Common.{◌≡◌, ℕ, zero, suc, ◌+◌, ◌<◌, true, List, [], ◌∷◌, ◌++◌, length, map, get_or, slice_get, Option, Some, None, OnOk, Result, Ok, Err, refl, sym, ap, subst, ◌∙◌, arith}
+use Rattle.std.proofs.Common.{◌≡◌, ℕ, zero, suc, ◌+◌, ◌-◌, ◌<◌, ◌≤◌, true, List, [], ◌∷◌, ◌++◌, append-nil, append_assoc, length, map, get_or, slice_get, Option, Some, None, refl, sym, ap, subst, ◌∙◌, arith}
 use Rattle.std.specs.List.{All, position_or_len}
-use Rattle.std.specs.Option.{IsSomeAnd, option_map}
-use Rattle.std.proofs.lemmas.List.{length-map}
+use Rattle.std.specs.Option.{IfSome, IsSomeAnd, option_map}
+use Rattle.std.proofs.lemmas.List.{length-append, length-map}
 use Rattle.std.proofs.lemmas.List.Elements.{All-append, All-cons, All-head, All-map, All-nil, All-tail}
-use Rattle.rp_base.specs.declared.memory.Memory.{Memory}
 use Rattle.rp_base.specs.declared.value.Oid.{Oid}
 use Rattle.rp_base.specs.declared.value.Value.{Value}
 use Rattle.rp_decl.specs.Places.{IsHeldBy}
 use Rattle.rp_decl.specs.View.{Placed}
 use Rattle.rp_decl.specs.declared.records.ClassDecl.{ClassDecl}
-use Rattle.rp_load.specs.View.{IsDeclared, class_owned}
+use Rattle.rp_meaning.specs.Expressions.{empty_slots}
 use Rattle.rp_meaning.specs.Load.{trusted}
 use Rattle.rp_proxy.specs.Held.{AreNamed, IsNamed}
-use Rattle.rp_store.proofs.CallerLemmas.{content_at-changed_at, owner_at-changed_at}
-use Rattle.rp_store.specs.Heap.{Names, Owned, changed_from, content_at, owner_at}
+use Rattle.rp_store.specs.Heap.{Owned, changed_from, content_at, owner_at}
+use Rattle.rp_store.specs.Kept.{IsScopeOf, IsSound}
 use Rattle.rp_store.specs.Key.{same_name}
 use Rattle.rp_store.specs.Object.{Content, list, tuple, dict, instance, class, function, method, scope}
-use Rattle.rp_store.specs.Parts.{IsClass}
+use Rattle.rp_store.specs.Parts.{IsClass, IsScope}
 use Rattle.rp_store.specs.Store.{Cells, added}
 use Rattle.rp_store.specs.Writers.{on_slots}
 use Rattle.rp_world.proofs.Grown.{classes-heap, objects-grew}
 use Rattle.rp_world.proofs.Spots.{spot-holds}
-use Rattle.rp_world.specs.PlacingSteps.{AreClassed, SlotsMade, classes_placed, declared_placed, exposed_in, exposing, filled, first, global_value, objects_placed}
+use Rattle.rp_world.specs.PlacingSteps.{AreBound, AreClassed, IsDeclared, SlotsMade, class_owned, classes_placed, declared_placed, exposing, filled, first, objects_placed, slots_to}
 use Rattle.rp_world.specs.Worlds.{HasExposed}
+use Rattle.rp_store.proofs.CallerLemmas.{slice_get-last}
 
 -- the first object stays
 begins : (heap more : List Owned) (o : Owned) → slice_get heap 0 ≡ Some o → slice_get (heap ++ more) 0 ≡ Some o
 begins [] more o e = absurd (cc)
 begins (p ∷ heap) more o e = e
-
-last-owned : (heap : List Owned) (o : Owned) → slice_get (heap ++ o ∷ []) (length heap) ≡ Some o
-last-owned [] o = refl
-last-owned (p ∷ heap) o = last-owned heap o
 
 abbrev pub exposing_owned : Placed → Owned
 exposing_owned d = record { owner = trusted; content = exposing d.expose }
@@ -54,7 +50,11 @@ module _ (d : Placed) (before begun classed : Cells) (some : List (Option Value)
       let content : content_at classed.heap place ≡ Some (class c.name true []) = ap (λ (h : List Owned). content_at h place) heap-classed ∙ ap (option_map (λ (o : Owned). o.content)) found in
       subst (λ (o : Option Content). IsSomeAnd o IsClass) (sym content) tt
 
-  module _ (declared whole : Cells) (all : List (Option Value)) (three : objects_placed d.classes d.objects (some, classed) ≡ (all, declared)) (four : whole ≡ added declared trusted (scope (Some 0) None all)) where
+  pub all-declared : (declared : Cells) (all : List (Option Value)) → objects_placed d.classes d.objects (some, classed) ≡ (all, declared) → (all, declared) ≡ declared_placed d before
+  all-declared declared all three =
+      sym three ∙ sym (ap (objects_placed d.classes d.objects) two) ∙ ap (λ (s : Cells). objects_placed d.classes d.objects (classes_placed d.classes ([], s))) one
+
+  module _ (declared whole : Cells) (all slots : List (Option Value)) (three : objects_placed d.classes d.objects (some, classed) ≡ (all, declared)) (four : whole ≡ added declared trusted (scope (Some 0) None slots)) where
     first-declared : slice_get declared.heap 0 ≡ Some (exposing_owned d)
     first-declared =
         let grew = objects-grew d.classes d.objects (some, classed) in
@@ -63,13 +63,19 @@ module _ (d : Placed) (before begun classed : Cells) (some : List (Option Value)
 
     first-whole : slice_get whole.heap 0 ≡ Some (exposing_owned d)
     first-whole =
-        ap (λ (s : Cells). slice_get s.heap 0) four ∙ begins declared.heap (record { owner = trusted; content = scope (Some 0) None all } ∷ []) (exposing_owned d) first-declared
+        ap (λ (s : Cells). slice_get s.heap 0) four ∙ begins declared.heap (record { owner = trusted; content = scope (Some 0) None slots } ∷ []) (exposing_owned d) first-declared
 
     pub exposing-there : content_at whole.heap first ≡ Some (exposing d.expose)
     exposing-there = ap (option_map (λ (o : Owned). o.content)) first-whole
 
     pub exposing-trusted : owner_at whole.heap first ≡ Some trusted
     exposing-trusted = ap (option_map (λ (o : Owned). o.owner)) first-whole
+
+    pub all-filled : (locals : ℕ) → slots ≡ slots_to locals all → whole ≡ filled d locals before
+    all-filled locals more =
+        four
+        ∙ ap (λ (vs : List (Option Value)). added declared trusted (scope (Some 0) None vs)) more
+        ∙ ap (λ (r : SlotsMade). added r.1 trusted (scope (Some 0) None (slots_to locals r.0))) (all-declared declared all three)
 
     module _ (at : Oid) (place : at.0 ≡ length declared.heap) where
       pub globals-behind : 0 < at.0
@@ -79,53 +85,40 @@ module _ (d : Placed) (before begun classed : Cells) (some : List (Option Value)
           behind [] there e = absurd (cc)
           behind (o ∷ os) there e = omega arith
 
-      globals-last : slice_get whole.heap at.0 ≡ Some (record { owner = trusted; content = scope (Some 0) None all })
+      pub globals-last : slice_get whole.heap at.0 ≡ Some (record { owner = trusted; content = scope (Some 0) None slots })
       globals-last =
           ap (λ (s : Cells). slice_get s.heap at.0) four
-          ∙ ap (slice_get (declared.heap ++ record { owner = trusted; content = scope (Some 0) None all } ∷ [])) place
-          ∙ last-owned declared.heap (record { owner = trusted; content = scope (Some 0) None all })
+          ∙ ap (slice_get (declared.heap ++ record { owner = trusted; content = scope (Some 0) None slots } ∷ [])) place
+          ∙ slice_get-last declared.heap (record { owner = trusted; content = scope (Some 0) None slots })
 
-      pub globals-trusted : owner_at whole.heap at ≡ Some trusted
-      globals-trusted = ap (option_map (λ (o : Owned). o.owner)) globals-last
+-- ---- the slots of the module's global scope
 
-      pub globals-there : content_at whole.heap at ≡ Some (scope (Some 0) None all)
-      globals-there = ap (option_map (λ (o : Owned). o.content)) globals-last
+bound-empty : (heap : List Owned) (n : ℕ) → AreBound heap (empty_slots n)
+bound-empty heap zero = All-nil (λ slot. IfSome slot (IsSound heap))
+bound-empty heap (suc n) = All-cons (λ slot. IfSome slot (IsSound heap)) None (empty_slots n) tt (bound-empty heap n)
 
-      pub all-filled : (new : Cells) → new ≡ exposed_in d at whole → new ≡ filled d before
-      all-filled new is =
-          let spot : at ≡ record { 0 = length declared.heap } = λ k. record { 0 = place k } in
-          let last : (all, declared) ≡ declared_placed d before =
-          sym three ∙ sym (ap (objects_placed d.classes d.objects) two) ∙ ap (λ (s : Cells). objects_placed d.classes d.objects (classes_placed d.classes ([], s))) one in
-          is
-          ∙ (λ k. exposed_in d (spot k) (four k))
-          ∙ ap (λ (r : SlotsMade). exposed_in d (record { 0 = length r.1.heap }) (added r.1 trusted (scope (Some 0) None r.0))) last
+pub bound-more : (heap : List Owned) (locals : ℕ) (slots more : List (Option Value)) → more ≡ slots_to locals slots → AreBound heap slots → AreBound heap more
+bound-more heap locals slots more is bound =
+    subst (AreBound heap) (sym is) (All-append (λ slot. IfSome slot (IsSound heap)) slots (empty_slots (locals - length slots)) bound (bound-empty heap (locals - length slots)))
 
-pub ok-then : {P Q : Type 0} (r : Result (Unit {0}) Memory) → (P → Q) → OnOk r P → OnOk r Q
-ok-then (Ok u) go h = go h
-ok-then (Err e) go h = tt
+-- one slot more
+pub slots-turn : (locals : ℕ) (slots new : List (Option Value)) → length slots < locals → new ≡ slots ++ None ∷ [] → slots_to locals new ≡ slots_to locals slots
+slots-turn locals slots new few pushed =
+    let long : length (slots ++ None ∷ []) ≡ length slots + 1 = length-append slots (None ∷ []) in
+    let left : locals - length slots ≡ suc (locals - length (slots ++ None ∷ [])) = omega arith in
+    ap (slots_to locals) pushed
+    ∙ append_assoc slots (None ∷ []) (empty_slots (locals - length (slots ++ None ∷ [])))
+    ∙ ap (λ n. slots ++ empty_slots n) (sym left)
 
--- ---- the store in the end
+-- none is missing
+pub slots-all : (locals : ℕ) (slots : List (Option Value)) → locals ≤ length slots → slots ≡ slots_to locals slots
+slots-all locals slots many =
+    let none : locals - length slots ≡ 0 = omega arith in
+    sym (ap (λ n. slots ++ empty_slots n) none ∙ append-nil slots)
 
-slots-named : (names : List (List ℕ)) (f : List (Option Value) → List (Option Value)) (c : Content) → IsNamed names c → IsNamed names (on_slots f c)
-slots-named names f (list xs) h = h
-slots-named names f (tuple xs) h = h
-slots-named names f (dict es) h = h
-slots-named names f (instance of fs) h = h
-slots-named names f (class n d ms) h = h
-slots-named names f (function n u b w ds) h = h
-slots-named names f (method r q) h = h
-slots-named names f (scope b p vs) h = h
+-- ---- the store before the module runs
 
-changed-named : (names : List (List ℕ)) (heap : List Owned) (i : ℕ) (f : List (Option Value) → List (Option Value)) → AreNamed names heap → AreNamed names (changed_from heap i (on_slots f))
-changed-named names [] i f named = named
-changed-named names (o ∷ heap) zero f named =
-    let P : Owned → Type 0 = λ o. IsNamed names o.content in
-    All-cons P (record { owner = o.owner; content = on_slots f o.content }) heap (slots-named names f o.content (All-head P o heap named)) (All-tail P o heap named)
-changed-named names (o ∷ heap) (suc i) f named =
-    let P : Owned → Type 0 = λ o. IsNamed names o.content in
-    All-cons P o (changed_from heap i (on_slots f)) (All-head P o heap named) (changed-named names heap i f (All-tail P o heap named))
-
-module _ (d : Placed) (before : Cells) (empty : before.heap ≡ []) where
+module _ (d : Placed) (before : Cells) (empty : before.heap ≡ []) (locals : ℕ) where
   abbrev begun : Cells
   begun = added before trusted (exposing d.expose)
 
@@ -139,32 +132,34 @@ module _ (d : Placed) (before : Cells) (empty : before.heap ≡ []) where
   globals_at = record { 0 = length all_declared.1.heap }
 
   abbrev pub whole : Cells
-  whole = added all_declared.1 trusted (scope (Some 0) None all_declared.0)
+  whole = filled d locals before
 
-  pub exposed-content : content_at (filled d before).heap first ≡ Some (scope None None (map (global_value d globals_at whole.heap) d.expose))
-  exposed-content =
-      let change : Content → Content = on_slots (λ _. map (global_value d globals_at whole.heap) d.expose) in
-      content_at-changed_at whole.heap first change
-      ∙ ap (option_map change) (exposing-there d before begun some.1 some.0 empty refl refl all_declared.1 whole all_declared.0 refl refl)
+  abbrev slots : List (Option Value)
+  slots = slots_to locals all_declared.0
 
-  pub exposed-owner : owner_at (filled d before).heap first ≡ Some trusted
-  exposed-owner =
-      owner_at-changed_at whole.heap first first (on_slots (λ _. map (global_value d globals_at whole.heap) d.expose))
-      ∙ exposing-trusted d before begun some.1 some.0 empty refl refl all_declared.1 whole all_declared.0 refl refl
-
-  pub globals-content : content_at whole.heap globals_at ≡ Some (scope (Some 0) None all_declared.0)
-  globals-content = globals-there d before begun some.1 some.0 empty refl refl all_declared.1 whole all_declared.0 refl refl globals_at refl
-
-  pub exposed-there : HasExposed (length d.expose) (filled d before).heap
+  pub exposed-there : HasExposed (length d.expose) whole.heap
   exposed-there = record {
-    slots = map (global_value d globals_at whole.heap) d.expose;
-    many = length-map d.expose (global_value d globals_at whole.heap);
-    content = exposed-content;
-    owner = exposed-owner;
+    slots = map (λ _. None) d.expose;
+    many = length-map d.expose (λ _. None);
+    content = exposing-there d before begun some.1 some.0 empty refl refl all_declared.1 whole all_declared.0 slots refl refl;
+    owner = exposing-trusted d before begun some.1 some.0 empty refl refl all_declared.1 whole all_declared.0 slots refl refl;
   }
 
+  pub scope-there : IsScopeOf whole.heap trusted globals_at
+  scope-there =
+      let last = globals-last d before begun some.1 some.0 empty refl refl all_declared.1 whole all_declared.0 slots refl refl globals_at refl in
+      (subst (λ (c : Option Content). IsSomeAnd c IsScope) (sym (ap (option_map (λ (o : Owned). o.content)) last)) tt, ap (option_map (λ (o : Owned). o.owner)) last)
+
+  pub scope-at : (store : Cells) (at : Oid) → store ≡ whole → at.0 ≡ length all_declared.1.heap → IsScopeOf store.heap trusted at
+  scope-at store at is place =
+      let spot : globals_at ≡ at = λ k. record { 0 = sym place k } in
+      subst (λ (at : Oid). IsScopeOf store.heap trusted at) spot (subst (λ (s : Cells). IsScopeOf s.heap trusted globals_at) (sym is) scope-there)
+
+  pub scope-behind : 0 < globals_at.0
+  scope-behind = globals-behind d before begun some.1 some.0 empty refl refl all_declared.1 whole all_declared.0 slots refl refl globals_at refl
+
   -- the names of its classes are those of declared ones
-  pub filled-named : (names : List (List ℕ)) → IsHeldBy names d → AreNamed names (filled d before).heap
+  pub filled-named : (names : List (List ℕ)) → IsHeldBy names d → AreNamed names whole.heap
   filled-named names held =
       let P : Owned → Type 0 = λ o. IsNamed names o.content in
       let classes : AreNamed names (exposing_owned d ∷ map class_owned d.classes) =
@@ -172,6 +167,26 @@ module _ (d : Placed) (before : Cells) (empty : before.heap ≡ []) where
       let there : AreNamed names some.1.heap = subst (AreNamed names) (sym (heap-classed d before begun some.1 some.0 empty refl refl)) classes in
       let grew = objects-grew d.classes d.objects some in
       let objects : AreNamed names all_declared.1.heap = subst (AreNamed names) (sym grew.same) (All-append P some.1.heap grew.more there (grew.named names)) in
-      changed-named names whole.heap 0 (λ _. map (global_value d globals_at whole.heap) d.expose)
-      (All-append P all_declared.1.heap (record { owner = trusted; content = scope (Some 0) None all_declared.0 } ∷ []) objects
-      (All-cons P (record { owner = trusted; content = scope (Some 0) None all_declared.0 }) [] tt (All-nil P)))
+      All-append P all_declared.1.heap (record { owner = trusted; content = scope (Some 0) None slots } ∷ []) objects
+      (All-cons P (record { owner = trusted; content = scope (Some 0) None slots }) [] tt (All-nil P))
+
+-- ---- slots that change name no class
+
+slots-named : (names : List (List ℕ)) (f : List (Option Value) → List (Option Value)) (c : Content) → IsNamed names c → IsNamed names (on_slots f c)
+slots-named names f (list xs) h = h
+slots-named names f (tuple xs) h = h
+slots-named names f (dict es) h = h
+slots-named names f (instance of fs) h = h
+slots-named names f (class n d ms) h = h
+slots-named names f (function n u b w ds) h = h
+slots-named names f (method r q) h = h
+slots-named names f (scope b p vs) h = h
+
+pub changed-named : (names : List (List ℕ)) (heap : List Owned) (i : ℕ) (f : List (Option Value) → List (Option Value)) → AreNamed names heap → AreNamed names (changed_from heap i (on_slots f))
+changed-named names [] i f named = named
+changed-named names (o ∷ heap) zero f named =
+    let P : Owned → Type 0 = λ o. IsNamed names o.content in
+    All-cons P (record { owner = o.owner; content = on_slots f o.content }) heap (slots-named names f o.content (All-head P o heap named)) (All-tail P o heap named)
+changed-named names (o ∷ heap) (suc i) f named =
+    let P : Owned → Type 0 = λ o. IsNamed names o.content in
+    All-cons P o (changed_from heap i (on_slots f)) (All-head P o heap named) (changed-named names heap i f (All-tail P o heap named))

@@ -4,7 +4,6 @@ use Rattle.std.specs.List.{All}
 use Rattle.std.proofs.lemmas.List.Elements.{All-append, All-cons, All-nil}
 use Rattle.rp_base.specs.declared.value.Name.{Name}
 use Rattle.rp_base.specs.declared.value.Oid.{Oid}
-use Rattle.rp_base.specs.declared.value.Rock.{Rock}
 use Rattle.rp_base.specs.declared.value.Rock.TheVariants as rock
 use Rattle.rp_base.specs.declared.value.Value.{Value}
 use Rattle.rp_decl.specs.Records as records
@@ -14,17 +13,15 @@ use Rattle.rp_decl.specs.declared.records.ClassDecl.{ClassDecl}
 use Rattle.rp_decl.specs.declared.records.Field.{Field as FieldDecl}
 use Rattle.rp_decl.specs.declared.records.ObjectDecl.{ObjectDecl}
 use Rattle.rp_dict.specs.Dict.{insert_entry}
-use Rattle.rp_load.specs.View.{class_owned}
 use Rattle.rp_meaning.specs.Load.{field_made, list_made, made_in, table_made, trusted}
 use Rattle.rp_proxy.specs.Held.{AreNamed, IsNamed}
 use Rattle.rp_store.specs.Heap.{Owned}
 use Rattle.rp_store.specs.Key.{same_key}
-use Rattle.rp_store.specs.Object.{Content, class, dict, instance, list}
+use Rattle.rp_store.specs.Object.{Content, Entry, class, dict, instance, list}
 use Rattle.rp_store.specs.Store.{Cells}
 use Rattle.rp_store.specs.Writers.{first_written}
-use Rattle.rp_store.specs.declared.key.Key.{Key}
 use Rattle.rp_store.specs.declared.key.Key.TheVariants as key
-use Rattle.rp_world.specs.PlacingSteps.{FieldsMade, SlotsMade, and_field, and_slot, classes_placed, fields_placed, object_placed, objects_placed, place_of_class}
+use Rattle.rp_world.specs.PlacingSteps.{FieldsMade, SlotsMade, and_field, and_slot, class_owned, classes_placed, fields_placed, object_placed, objects_placed, place_of_class}
 
 -- objects are put last, none of them a declared class
 pub record Grew (old new : Cells) : Type 0 where
@@ -48,9 +45,6 @@ grew-one content cells named = record {
   same = refl;
   named = λ names. All-cons (λ o. IsNamed names o.content) (record { owner = trusted; content = content }) [] (named names) (All-nil (λ o. IsNamed names o.content));
 }
-
-abbrev Entry : Type 0
-Entry = Key × (Rock × Value)
 
 mutual
   pub field-grew : (f : Field) (cells : Cells) → Grew cells (field_made f cells).1

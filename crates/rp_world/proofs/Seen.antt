@@ -20,14 +20,13 @@ use Rattle.rp_decl.specs.declared.records.ClassDecl.{ClassDecl}
 use Rattle.rp_decl.specs.declared.records.Field.{Field}
 use Rattle.rp_decl.specs.declared.records.ObjectDecl.{ObjectDecl}
 use Rattle.rp_dict.specs.Dict.{insert_entry}
-use Rattle.rp_load.proofs.Apart.{AreApart}
-use Rattle.rp_machine.specs.Globals.{placed_names}
 use Rattle.rp_meaning.specs.BuiltIn.{name_of}
 use Rattle.rp_meaning.specs.Expressions.{empty_slots}
 use Rattle.rp_meaning.specs.Load.{AllMade, Made, and_made, class_place, classes_made, declared_made, exposing as exposing_made, field_made, instance_made, made_in, objects_made, trusted}
 use Rattle.rp_store.specs.Key.{same_name}
 use Rattle.rp_store.specs.Object.{class, scope}
 use Rattle.rp_store.specs.Store.{Cells, added}
+use Rattle.rp_world.proofs.Apart.{AreApart}
 use Rattle.rp_world.specs.PlacingSteps.{FieldsMade, SlotsMade, and_slot, classes_placed, declared_placed, exposing, fields_placed, instance_in, nothing, object_placed, objects_placed, place_of_class}
 
 -- ---- fields whose names differ
@@ -147,31 +146,3 @@ module _ (names : List (List ℕ)) (once : HoldsEachOnce names) where
         objects-seen d.objects (classes_made names ds ds.classes ([], exposing_made names ds)) held.classes held.objects apart
         ∙ ap (objects_placed d.classes d.objects) (classes-seen d.classes ([], exposing_made names ds) held.classes)
         ∙ ap (λ (slots : List (Option Value)). objects_placed d.classes d.objects (classes_placed d.classes ([], added nothing trusted (scope None None slots)))) (empty-seen d.expose)
-
--- ---- a slot for each of the names
-
-pub classes-many : (cs : List ClassDecl) (all : SlotsMade) → length (classes_placed cs all).0 ≡ length all.0 + length cs
-classes-many [] all = let none : length all.0 + 0 ≡ length all.0 = omega arith in sym none
-classes-many (c ∷ cs) all =
-    let next : SlotsMade = and_slot all.0 (made_in (class c.name true []) all.1) in
-    let one : length next.0 ≡ length all.0 + 1 = length-append all.0 (Some (made_in (class c.name true []) all.1).0 ∷ []) in
-    let rest = classes-many cs next in
-    omega arith
-
-pub objects-many : (classes : List ClassDecl) (os : List ObjectDecl) (all : SlotsMade) → length (objects_placed classes os all).0 ≡ length all.0 + length os
-objects-many classes [] all = let none : length all.0 + 0 ≡ length all.0 = omega arith in sym none
-objects-many classes (o ∷ os) all =
-    let next : SlotsMade = and_slot all.0 (object_placed classes o all.1) in
-    let one : length next.0 ≡ length all.0 + 1 = length-append all.0 (Some (object_placed classes o all.1).0 ∷ []) in
-    let rest = objects-many classes os next in
-    omega arith
-
-pub declared-many : (d : Placed) (before : Cells) → length (declared_placed d before).0 ≡ length (placed_names d)
-declared-many d before =
-    let some : SlotsMade = classes_placed d.classes ([], added before trusted (exposing d.expose)) in
-    let first : length some.0 ≡ 0 + length d.classes = classes-many d.classes ([], added before trusted (exposing d.expose)) in
-    let second : length (declared_placed d before).0 ≡ length some.0 + length d.objects = objects-many d.classes d.objects some in
-    let names : length (placed_names d) ≡ length (map (λ (c : ClassDecl). c.name) d.classes) + length (map (λ (o : ObjectDecl). o.name) d.objects) = length-append _ _ in
-    let classes : length (map (λ (c : ClassDecl). c.name) d.classes) ≡ length d.classes = length-map d.classes (λ (c : ClassDecl). c.name) in
-    let objects : length (map (λ (o : ObjectDecl). o.name) d.objects) ≡ length d.objects = length-map d.objects (λ (o : ObjectDecl). o.name) in
-    omega arith

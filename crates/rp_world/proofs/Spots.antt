@@ -1,18 +1,13 @@
 -- The places of declared classes.
-use Rattle.std.proofs.Common.{◌≡◌, ℕ, suc, ◌+◌, ◌<◌, ◌≤◌, Bool, true, false, true≢false, cond, not, ◌||◌, nat_lt, List, [], ◌∷◌, length, map, position, slice_get, unwrap_or, Option, Some, None, refl, sym, ap, ◌∙◌, arith}
+use Rattle.std.proofs.Common.{◌≡◌, ℕ, suc, ◌+◌, ◌<◌, ◌≤◌, Bool, true, false, true≢false, cond, not, ◌||◌, nat_lt, List, [], ◌∷◌, length, map, position, slice_get, unwrap_or, Some, None, refl, sym, ap, ◌∙◌, arith}
 use Rattle.std.specs.List.{list_any, position_or_len}
 use Rattle.std.specs.Map.{lookup}
 use Rattle.std.proofs.lemmas.Bool.Decides.{nat_tests}
 use Rattle.rp_base.specs.declared.value.Name.{Name}
 use Rattle.rp_base.specs.declared.value.Oid.{Oid}
-use Rattle.rp_decl.specs.View.{Placed}
 use Rattle.rp_decl.specs.declared.records.ClassDecl.{ClassDecl}
-use Rattle.rp_decl.specs.declared.records.ObjectDecl.{ObjectDecl}
-use Rattle.rp_load.specs.View.{IsDeclared}
-use Rattle.rp_machine.proofs.Places.{position-front}
-use Rattle.rp_machine.specs.Globals.{TellsPlaces}
 use Rattle.rp_store.specs.Key.{same_name}
-use Rattle.rp_world.specs.PlacingSteps.{place_of_class}
+use Rattle.rp_world.specs.PlacingSteps.{IsDeclared, TellsPlaces, place_of_class}
 
 module _ {X : Type 0} (p : X → Bool) where
   pub spot-within : (xs : List X) → list_any p xs ≡ true → position_or_len p xs < length xs
@@ -41,25 +36,24 @@ module _ {X : Type 0} (p : X → Bool) where
           let next : 1 + position_or_len p xs ≡ suc (position_or_len p xs) = omega arith in
           (y, ap (slice_get (f x ∷ map f xs)) next ∙ found)
 
-module _ (d : Placed) (table : List (Name × ℕ)) (name : Name) (tells : TellsPlaces d table) (there : IsDeclared d.classes name) where
+module _ (classes : List ClassDecl) (table : List (Name × ℕ)) (name : Name) (tells : TellsPlaces classes table) (there : IsDeclared classes name) where
   abbrev spot : ℕ
-  spot = position_or_len (λ c. same_name name c.name) d.classes
+  spot = position_or_len (λ c. same_name name c.name) classes
 
   spot-told : unwrap_or (lookup (same_name name) table) 0 ≡ spot
   spot-told =
-      let found = spot-found (λ (c : ClassDecl). same_name name c.name) d.classes (spot-within (λ c. same_name name c.name) d.classes there) in
-      ap (λ o. unwrap_or o 0)
-      (tells name ∙ position-front (λ (c : ClassDecl). c.name) (λ (o : ObjectDecl). o.name) (same_name name) d.classes d.objects spot found)
+      let found = spot-found (λ (c : ClassDecl). same_name name c.name) classes (spot-within (λ c. same_name name c.name) classes there) in
+      ap (λ o. unwrap_or o 0) (tells name ∙ found)
 
   -- the table's place is one of a class, and behind it stands the class
-  pub class-behind : (place : ℕ) (at : Oid) → place ≡ unwrap_or (lookup (same_name name) table) 0 → at ≡ record { 0 = place + 1 } → at ≡ place_of_class d.classes name
+  pub class-behind : (place : ℕ) (at : Oid) → place ≡ unwrap_or (lookup (same_name name) table) 0 → at ≡ record { 0 = place + 1 } → at ≡ place_of_class classes name
   class-behind place at is made =
       let same : place ≡ spot = is ∙ spot-told in
       let next : place + 1 ≡ suc spot = omega arith in
       made ∙ (λ k. record { 0 = next k })
 
-  pub class-within : (place : ℕ) → place ≡ unwrap_or (lookup (same_name name) table) 0 → length d.classes ≤ place → ⊥
+  pub class-within : (place : ℕ) → place ≡ unwrap_or (lookup (same_name name) table) 0 → length classes ≤ place → ⊥
   class-within place is past =
       let same : place ≡ spot = is ∙ spot-told in
-      let low : spot < length d.classes = spot-within (λ c. same_name name c.name) d.classes there in
+      let low : spot < length classes = spot-within (λ c. same_name name c.name) classes there in
       let no : ⊥ = absurd (omega arith) in no

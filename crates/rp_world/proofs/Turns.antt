@@ -3,9 +3,8 @@ use Rattle.std.proofs.Common.{Global, Vec, rules, ◌≡◌, ℕ, ◌+◌, ◌<�
 use Rattle.std.specs.List.{All}
 use Rattle.std.specs.Map.{lookup}
 use Rattle.std.specs.Option.{IfSome, option_map_or}
-use Rattle.std.proofs.lemmas.List.{drop_more}
 use Rattle.std.proofs.lemmas.List.Elements.{All-append, All-cons, All-head, All-nil, All-tail, All-weaker}
-use Rattle.rp_base.proofs.Words.{same_text-equal}
+use Rattle.rp_base.proofs.CallerLemmas.{drop_here, same_text-equal}
 use Rattle.rp_base.specs.declared.value.Name.{Name}
 use Rattle.rp_base.specs.declared.value.Rock.{Rock}
 use Rattle.rp_base.specs.declared.value.Rock.TheVariants as rock
@@ -20,19 +19,15 @@ use Rattle.rp_decl.specs.declared.records.ObjectDecl.{ObjectDecl}
 use Rattle.rp_dict.specs.Dict.{insert_entry}
 use Rattle.rp_meaning.specs.Load.{Made, field_made, list_made, made_in, table_made}
 use Rattle.rp_store.specs.Heap.{Owned}
-use Rattle.rp_store.specs.Kept.{AreSound, IsEntry, IsSound}
+use Rattle.rp_store.specs.Kept.{IsEntry, IsSound}
 use Rattle.rp_store.specs.Key.{key_form, same_key, same_name}
-use Rattle.rp_store.specs.Object.{class, dict}
+use Rattle.rp_store.specs.Object.{Entry, class, dict}
 use Rattle.rp_store.specs.Shape.{KeepsShape}
 use Rattle.rp_store.specs.Store.{Cells}
 use Rattle.rp_store.specs.Writers.{first_written}
 use Rattle.rp_store.specs.declared.key.Key.{Key}
 use Rattle.rp_store.specs.declared.key.Key.TheVariants as key
 use Rattle.rp_world.specs.PlacingSteps.{AreBound, FieldsMade, SlotsMade, classes_placed, fields_placed, object_placed, objects_placed}
-
--- what is left of a list begins with the element at hand
-next-is : {X : Type 0} (xs : List X) (i : ℕ) (x : X) → i < length xs → x ≡ get_or xs i x → drop i xs ≡ x ∷ drop (i + 1) xs
-next-is xs i x within here = drop_more xs i x within ∙ ap (λ y. y ∷ drop (i + 1) xs) (sym here)
 
 -- ---- lists
 
@@ -41,21 +36,14 @@ pub list-turn : (vs new : List Value) (fs : List Field) (i : ℕ) (f : Field) (b
 list-turn vs new fs i f before after v all within here made pushed whole =
     ap (λ ws. list_made ws (fields_view (drop (i + 1) fs)) after) pushed
     ∙ sym (ap (λ m. list_made (vs ++ m.0 ∷ []) (fields_view (drop (i + 1) fs)) m.1) made)
-    ∙ sym (ap (λ l. list_made vs (fields_view l) before) (next-is fs i f within here))
+    ∙ sym (ap (λ l. list_made vs (fields_view l) before) (drop_here fs i f within here))
     ∙ whole
-
-pub sound-turn : (old heap : List Owned) (vs new : List Value) (v : Value) → KeepsShape old heap → AreSound old vs → IsSound heap v → new ≡ vs ++ v ∷ [] → AreSound heap new
-sound-turn old heap vs new v keeps all one pushed =
-    rw pushed (All-append (IsSound heap) vs (v ∷ []) (keeps.all_sound vs all) (All-cons (IsSound heap) v [] one (All-nil (IsSound heap))))
 
 -- ---- dicts
 
 -- what the program has as a table
 pub table-view : (v : Vec (List ℕ × Field) Global) → field_view (variant.Table v) ≡ table (entries_view v.items)
 table-view v = search (rules, the_lemmas)
-
-abbrev Entry : Type 0
-Entry = Key × (Rock × Value)
 
 text_key : (t : List ℕ) (k : Key) → same_key (key.Text t) k ≡ true → k ≡ key.Text t
 text_key t key.Nil h = absurd (true≢false (sym h))
@@ -99,7 +87,7 @@ table-turn held new es i e before after v all within here made put sound whole =
     ap (λ t. table_made (dict t) (entries_view (drop (i + 1) es)) after) put
     ∙ sym (ap (λ r. table_made (dict (insert_entry same_key held (key.Text e.0) (r, v))) (entries_view (drop (i + 1) es)) after) (as_written before.heap e.0 held sound))
     ∙ sym (ap (λ m. table_made (dict (insert_entry same_key held (key.Text e.0) (first_written (key.Text e.0) (rock.Text e.0) held, m.0))) (entries_view (drop (i + 1) es)) m.1) made)
-    ∙ sym (ap (λ l. table_made (dict held) (entries_view l) before) (next-is es i e within here))
+    ∙ sym (ap (λ l. table_made (dict held) (entries_view l) before) (drop_here es i e within here))
     ∙ whole
 
 pub entries-turn : (old heap : List Owned) (held new : List Entry) (t : List ℕ) (v : Value) → KeepsShape old heap → All (IsEntry old) held → IsSound heap v
@@ -114,7 +102,7 @@ pub fields-turn : (fields new : List (Name × Value)) (fs : List (Name × Field)
 fields-turn fields new fs i f before after v all within here made set whole =
     ap (λ n. fields_placed (drop (i + 1) fs) (n, after)) set
     ∙ sym (ap (λ m. fields_placed (drop (i + 1) fs) (insert_entry same_name fields f.0 m.0, m.1)) made)
-    ∙ sym (ap (λ l. fields_placed l (fields, before)) (next-is fs i f within here))
+    ∙ sym (ap (λ l. fields_placed l (fields, before)) (drop_here fs i f within here))
     ∙ whole
 
 with_field : (heap : List Owned) (name : Name) (v : Value) (fs : List (Name × Value)) → IsSound heap v → All (λ field. IsSound heap field.1) fs → All (λ field. IsSound heap field.1) (insert_entry same_name fs name v)
@@ -137,7 +125,7 @@ pub classes-turn : (slots new : List (Option Value)) (cs : List ClassDecl) (i : 
 classes-turn slots new cs i c before after v all within here made pushed whole =
     ap (λ n. classes_placed (drop (i + 1) cs) (n, after)) pushed
     ∙ sym (ap (λ m. classes_placed (drop (i + 1) cs) (slots ++ Some m.0 ∷ [], m.1)) made)
-    ∙ sym (ap (λ l. classes_placed l (slots, before)) (next-is cs i c within here))
+    ∙ sym (ap (λ l. classes_placed l (slots, before)) (drop_here cs i c within here))
     ∙ whole
 
 pub objects-turn : (classes : List ClassDecl) (slots new : List (Option Value)) (os : List ObjectDecl) (i : ℕ) (o : ObjectDecl) (before after : Cells) (v : Value) (all : SlotsMade) → i < length os → o ≡ get_or os i o
@@ -145,7 +133,7 @@ pub objects-turn : (classes : List ClassDecl) (slots new : List (Option Value)) 
 objects-turn classes slots new os i o before after v all within here made pushed whole =
     ap (λ n. objects_placed classes (drop (i + 1) os) (n, after)) pushed
     ∙ sym (ap (λ m. objects_placed classes (drop (i + 1) os) (slots ++ Some m.0 ∷ [], m.1)) made)
-    ∙ sym (ap (λ l. objects_placed classes l (slots, before)) (next-is os i o within here))
+    ∙ sym (ap (λ l. objects_placed classes l (slots, before)) (drop_here os i o within here))
     ∙ whole
 
 pub bound-turn : (old heap : List Owned) (slots new : List (Option Value)) (v : Value) → KeepsShape old heap → AreBound old slots → IsSound heap v → new ≡ slots ++ Some v ∷ [] → AreBound heap new

@@ -1,2 +1,3 @@
+pub mod Globals
 pub mod PlacingSteps
 pub mod Worlds

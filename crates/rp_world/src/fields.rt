@@ -1,5 +1,5 @@
 //! The values of declared fields, with the lists and dicts within them.
-#![tactic(auto, using(rp_store::proofs::Shapes::goes_on))]
+#![tactic(auto, using(rp_store::proofs::CallerLemmas::goes_on))]
 
 ghost use Rattle.std.specs.Prelude.{◌≡◌, [], IfOk, OnOk};
 ghost use Rattle.rp_decl.specs.View.{entries_view, field_view, fields_view};

@@ -1,25 +1,22 @@
 //! Declared classes and objects in the store, and the slots of the module's global scope that name them.
-#![tactic(auto, using(rp_store::proofs::Shapes::goes_on))]
+#![tactic(auto, using(rp_store::proofs::CallerLemmas::goes_on))]
 
-ghost use Rattle.std.specs.Prelude.{◌≡◌, [], All, IfOk, OnOk, true};
-ghost use Rattle.rp_decl.specs.View.{Placed};
-ghost use Rattle.rp_load.specs.View.{IsDeclared};
-ghost use Rattle.rp_machine.specs.Globals.{TellsPlaces};
+ghost use Rattle.std.specs.Prelude.{◌≡◌, [], All, IfOk, List, OnOk, true};
 ghost use Rattle.rp_meaning.specs.Load.{made_in};
 ghost use Rattle.rp_store.specs.Heap.{Names};
 ghost use Rattle.rp_store.specs.Kept.{IsSound};
 ghost use Rattle.rp_store.specs.Object.{class};
 ghost use Rattle.rp_store.specs.Parts.{IsClass};
 ghost use Rattle.rp_store.specs.Shape.{KeepsShape};
-ghost use Rattle.rp_world.specs.PlacingSteps.{AreBound, AreClassed, classes_placed, fields_placed};
-ghost use Rattle.rp_world.specs.PlacingSteps.{object_placed, objects_placed, place_of_class};
+ghost use Rattle.rp_world.specs.PlacingSteps.{AreBound, AreClassed, IsDeclared, TellsPlaces, classes_placed};
+ghost use Rattle.rp_world.specs.PlacingSteps.{fields_placed, object_placed, objects_placed, place_of_class};
 
+use crate::class_places::ClassPlaces;
 use crate::fields::place_field;
 use crate::placing::place;
 use rp_base::{Memory, Name, Oid, Value};
 use rp_decl::{ClassDecl, Decl, Field, ObjectDecl};
 use rp_dict::Dict;
-use rp_machine::Globals;
 use rp_store::{Object, Store};
 use std::alloc::Global;
 
@@ -47,11 +44,11 @@ pub fn place_classes(
 pub fn place_objects(
     alloc: Global,
     decl: &Decl,
-    globals: &Globals,
+    places: &ClassPlaces,
     slots: &mut Vec<Option<Value>>,
     store: &mut Store,
 ) -> Result<(), Memory>
-    requires tells { TellsPlaces decl.now globals.now }
+    requires tells { TellsPlaces decl.now.classes places.now }
     requires declared { All (λ o. IsDeclared decl.now.classes o.class) decl.now.objects }
     requires classes { AreClassed store.old.heap decl.now.classes decl.now.objects }
     requires bound { AreBound store.old.heap slots.old.items }
@@ -61,7 +58,7 @@ pub fn place_objects(
     ensures shape { KeepsShape store.old.heap store.new.heap }
 {
     for object in decl.objects() {
-        let value = place_object(alloc, decl, globals, object, store)?;
+        let value = place_object(alloc, decl, places, object, store)?;
         slots.push(Some(value))?;
     }
     Ok(())
@@ -86,11 +83,11 @@ fn place_class(alloc: Global, declared: &ClassDecl, store: &mut Store) -> Result
 fn place_object(
     alloc: Global,
     decl: &Decl,
-    globals: &Globals,
+    places: &ClassPlaces,
     object: &ObjectDecl,
     store: &mut Store,
 ) -> Result<Value, Memory>
-    requires tells { TellsPlaces decl.now globals.now }
+    requires tells { TellsPlaces decl.now.classes places.now }
     requires declared { IsDeclared decl.now.classes object.now.class }
     requires class { Names store.old.heap IsClass (place_of_class decl.now.classes object.now.class) }
     ensures placed { IfOk result (λ value. object_placed decl.now.classes object.now store.old ≡ (value, store.new)) }
@@ -98,7 +95,7 @@ fn place_object(
     ensures shape { KeepsShape store.old.heap store.new.heap }
 {
     let fields = place_fields(alloc, object.fields.as_slice(), store)?;
-    let class = class_place(globals, decl.classes(), object.class);
+    let class = class_place(places, decl.classes(), object.class);
     place(store, Object::Instance { class, fields })
 }
 
@@ -121,11 +118,11 @@ fn place_fields(
 }
 
 /// The place of a declared class. The classes stand behind the scope of the exposed names.
-fn class_place(globals: &Globals, classes: &[ClassDecl], class: Name) -> Oid
-    ensures { (decl : Placed) → decl.classes ≡ classes.now → TellsPlaces decl globals.now
-        → IsDeclared decl.classes class → result ≡ place_of_class decl.classes class }
+fn class_place(places: &ClassPlaces, classes: &[ClassDecl], class: Name) -> Oid
+    ensures { (declared : List ClassDecl) → declared ≡ classes.now → TellsPlaces declared places.now
+        → IsDeclared declared class → result ≡ place_of_class declared class }
 {
-    let place = globals.place(class).unwrap_or(0);
+    let place = places.place(class).unwrap_or(0);
     if place < classes.len() {
         Oid(place + 1)
     } else {

@@ -1,13 +1,20 @@
 //! Why there is no world.
 
-use rp_base::{Memory, Names};
-use rp_load::LoadFault;
+use rp_base::{Memory, Raised, Text};
 
-/// Why there is no world of declarations.
+/// Why declarations have no world.
 #[derive(Drop)]
 pub enum NoWorld {
-    /// The declarations are at fault. The program's names come back, so that the fault can be told.
-    Fault(LoadFault, Names),
+    /// The module ended by an exception that nothing handled.
+    Raised(Raised),
+    /// No step was left to the module.
+    StopSteps,
+    /// No cell was left to the module.
+    StopCells,
+    /// An exposed name has no value among the globals of the module: the least in byte order.
+    Unbound(Text),
+    /// The machine of the module has made 2^64 - 1 steps.
+    TooLong,
     /// A growth was refused.
     Memory,
 }

@@ -8,10 +8,11 @@ use Rattle.rp_grammar.specs.Kinds.{Tokens, first}
 use Rattle.rp_grammar.specs.ExpressionReading as reading
 use Rattle.rp_grammar.specs.ExpressionReading.{Read, all_many, all_listed, before}
 use Rattle.rp_grammar.proofs.Loops.{front_exprs, front_targets, front_pairs, front_clauses, front_trailers, front_args, front_ops, front_tests, begin_one, begin_none, answered, many_keeps, many_ends, listed_keeps, listed_shuts, listed_ends}
-use Rattle.rp_grammar.proofs.Turns.{ifs_short, clauses_short, trailers_short, operations_short, tests_short, ands_short, ors_short, exprs_short, pairs_short, parts_short, args_short, plains_short, alike_reads, operation_begins, operation_reads, expr_at, or_at, not_at, unary_at, primary_at, none_at, chain_step, chain_begins, chain_alone}
+use Rattle.rp_grammar.proofs.Turns.{ifs_short, clauses_short, trailers_short, operations_short, tests_short, ands_short, ors_short, exprs_short, pairs_short, parts_short, args_short, plains_short, operation_begins, operation_reads, expr_at, or_at, not_at, unary_at, primary_at, none_at, chain_step, chain_begins, chain_alone}
 use Rattle.rp_grammar.proofs.ExpressionTakes.{skip_within}
 use Rattle.rp_expr.proofs.Views.{plain_view, plains_found}
 use Rattle.rp_expr.proofs.Faults.{many_fails, listed_fails, alike_fails, operation_fails, chain_fails, chain_unread}
+use Rattle.rp_grammar.proofs.Basics.{alike_reads}
 use Rattle.rp_expr.proofs.+expr.Goals as goal
 
 -- ---- the readers within

@@ -2,7 +2,7 @@ use Rattle.std.proofs.Common.{◌≡◌, ◌∙◌, ◌++◌, [], ℕ, List, sym
 use Rattle.std.proofs.lemmas.List.{append-nil, length-drop, nil_from_length}
 use Rattle.std.proofs.lemmas.Str.{IsUtf8-had}
 use Rattle.rp_base.specs.Names.{with_words}
-use Rattle.rp_base.proofs.Words.{with_words-then}
+use Rattle.rp_base.proofs.CallerLemmas.{some_chars, with_words-then}
 use Rattle.rp_token.specs.declared.fault.TokenFault.{TokenFault}
 use Rattle.rp_token.specs.Form.{Item}
 use Rattle.rp_token.specs.Laws.{BlocksEnd, EndsOnce, IsWithin, LieInOrder}
@@ -15,7 +15,7 @@ use Rattle.rp_token.proofs.Laws.{Laws, law, laws}
 use Rattle.rp_token.proofs.NameWords.{all_words, step-words}
 use Rattle.rp_token.proofs.Rules.{Gives-fault, err_handed}
 use Rattle.rp_token.proofs.Steps.{step-left, tokens_from-fault, tokens_from-step}
-use Rattle.rp_token.proofs.Texts.{no_chars, not_empty, some_chars}
+use Rattle.rp_token.proofs.Texts.{no_chars, not_empty}
 use Rattle.rp_token.proofs.tokens.Goals as goal
 
 pub steps-smaller : goal.steps-smaller

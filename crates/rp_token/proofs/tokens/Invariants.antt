@@ -1,6 +1,6 @@
 use Rattle.std.proofs.Common.{◌≡◌, ◌++◌, ℕ, List, chars, length}
-use Rattle.rp_base.specs.Names.{with_words}
-use Rattle.rp_token.specs.Lexer.{IsGrown, state}
+use Rattle.rp_base.specs.Names.{GrowsTo, with_words}
+use Rattle.rp_token.specs.Lexer.{state}
 use Rattle.rp_token.specs.NameWords.{name_words}
 use Rattle.rp_token.specs.Tokens.{tokens_from, tokens_of}
 use Rattle.rp_token.proofs.tokens.Given as goal
@@ -9,7 +9,7 @@ use Rattle.rp_token.proofs.tokens.Given as goal
 abbrev pub invariant-steps : goal.invariant-steps
 invariant-steps l =
     record {
-      grown : IsGrown l.fn.names l.names;
+      grown : GrowsTo l.fn.names l.names;
       same : (more : List (List ℕ)) → tokens_from 0 (state (l.names ++ more) l.lexer) (chars l.lexer.rest.now) ≡ tokens_of (chars l.text);
       words : (more : List (List ℕ)) → l.names ≡ with_words l.fn.names (name_words (state (l.names ++ more) l.lexer).items);
     }

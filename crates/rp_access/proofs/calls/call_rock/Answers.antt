@@ -4,12 +4,11 @@ use Rattle.rp_base.specs.declared.kind.Kind.TheVariants.{TypeError}
 use Rattle.rp_ops.specs.Outcome.{Raises}
 use Rattle.rp_access.specs.Moment.{state_of}
 use Rattle.rp_access.proofs.FunctionLaws.{uncalled_end}
-use Rattle.rp_access.proofs.ObjectCalls.{kind_comes, kind_ends, native_comes, rock_ends}
+use Rattle.rp_access.proofs.ObjectCalls.{kind_comes, kind_ends, rock_ends}
 use Rattle.rp_access.proofs.calls.call_rock.Goals as goal
 
 pub returns-in-Native-clause-law : goal.returns-in-Native-clause-law
-returns-in-Native-clause-law c =
-    rw c.in-Native.is (native_comes c.args.side c.in-Native.id c.args.args.now c.function.result c.args.world.now c.function.new.world c.function.ensures.law c.function.ensures.form)
+returns-in-Native-clause-law c = rw c.in-Native.is c.native.ensures.law
 
 pub returns-in_err-exception-in-Kind-clause-law : goal.returns-in_err-exception-in-Kind-clause-law
 returns-in_err-exception-in-Kind-clause-law c =
@@ -28,4 +27,4 @@ returns-in_default-clause-law c =
     rock_ends c.args.side c.args.rock.now c.args.args.now w c.raised.result c.in_default.not-Native c.in_default.not-Kind (uncalled_end c.raised.result (state_of w) h)
 
 pub returns-in-Native-clause-left : goal.returns-in-Native-clause-left
-returns-in-Native-clause-left c = rw c.in-Native.is c.function.ensures.left
+returns-in-Native-clause-left c = rw c.in-Native.is c.native.ensures.left

@@ -12,3 +12,9 @@ returns-in-NotWithin-clause-law c = λ call. rw c.in-NotWithin.is (c.is_without.
 
 pub returns-in-Order-clause-special : goal.returns-in-Order-clause-special
 returns-in-Order-clause-special c = never_none c.order_known.result _ c.order_known.ensures.known
+
+pub returns-in-Within-clause-special : goal.returns-in-Within-clause-special
+returns-in-Within-clause-special c = rw c.in-Within.is c.is_within.ensures.special
+
+pub returns-in-NotWithin-clause-special : goal.returns-in-NotWithin-clause-special
+returns-in-NotWithin-clause-special c = rw c.in-NotWithin.is c.is_without.ensures.special

@@ -1,34 +1,16 @@
-use Rattle.std.proofs.Common.{◌≢◌, ◌+◌, ◌∙◌, ℕ, List, ap, chars, sym}
-use Rattle.std.specs.Prelude.{position}
-use Rattle.std.specs.Option.{option_map}
-use Rattle.rp_base.specs.Names.{word_of}
-use Rattle.rp_base.specs.Same.{same_text}
-use Rattle.rp_base.specs.declared.value.Oid.{Oid}
-use Rattle.rp_base.specs.declared.value.Side.{Side}
-use Rattle.rp_decl.specs.View.{declarations_view}
-use Rattle.rp_decl.specs.declared.records.ClassDecl.{ClassDecl}
-use Rattle.rp_access.proofs.DeclaredClasses.{declared_here, declared_in, declared_of_side, placed_by}
+use Rattle.std.proofs.Common.{◌∙◌, ap}
+use Rattle.std.specs.Prelude.{option_and_then}
+use Rattle.rp_meaning.specs.Classes.{class_there}
+use Rattle.rp_access.proofs.DeclaredClasses.{if_any}
 use Rattle.rp_access.proofs.declared_classes.declared_class.Goals as goal
 
-pub returns-then-side-ne0 : goal.returns-then-side-ne0
-returns-then-side-ne0 c = λ frame side block.
-    let w = c.args.world.now in
-    let other : frame.side.0 ≢ 0 = λ h. c.if-side-ne0.true (ap (λ (s : Side). s.0) (sym side) ∙ h) in
-    declared_of_side frame (word_of w.names c.args.name) (declarations_view w.names w.decl).classes other
+pub returns-in-Some-clause-place : goal.returns-in-Some-clause-place
+returns-in-Some-clause-place c = λ frame side block.
+    c.class_there.ensures.place ∙ ap (option_and_then (class_there c.args.world.now.store.heap)) (c.in-Some.ensures.place frame side block)
 
-pub returns-then-block-ne0 : goal.returns-then-block-ne0
-returns-then-block-ne0 c = λ frame side block.
-    let w = c.args.world.now in
-    let other : frame.block ≢ 0 = λ h. c.if-block-ne0.true (sym block ∙ h) in
-    declared_in frame (word_of w.names c.args.name) (declarations_view w.names w.decl).classes other
+pub returns-in-Some-clause-trusted : goal.returns-in-Some-clause-trusted
+returns-in-Some-clause-trusted c = if_any c.class_there.result _ c.in-Some.ensures.trusted
 
-pub returns : goal.returns
-returns c = λ frame side block.
-    let w = c.args.world.now in
-    let word = word_of w.names c.args.name in
-    let placed : ℕ → Oid = λ i. record { 0 = 1 + i } in
-    c.class_among.ensures
-    ∙ ap (λ (xs : List ClassDecl). option_map placed (position (λ class. same_text (chars c.word_of.result.now) (word_of w.names class.name)) xs)) c.classes.ensures.value
-    ∙ ap (λ (word : List ℕ). option_map placed (position (λ (class : ClassDecl). same_text word (word_of w.names class.name)) w.decl.classes)) c.word_of.ensures
-    ∙ placed_by w.names w.decl.permissions word w.decl.classes
-    ∙ declared_here frame word (declarations_view w.names w.decl).classes (ap (λ (s : Side). s.0) side ∙ c.if-side-ne0.false) (block ∙ c.if-block-ne0.false)
+pub returns-in-None-clause-place : goal.returns-in-None-clause-place
+returns-in-None-clause-place c = λ frame side block.
+    ap (option_and_then (class_there c.args.world.now.store.heap)) (c.in-None.ensures.place frame side block)

@@ -1,7 +1,7 @@
 use Rattle.std.proofs.Common.{Ok, sym, ap, ◌∙◌}
 use Rattle.rp_store.specs.Object as object
+use Rattle.rp_store.specs.Object.{Entries}
 use Rattle.rp_access.proofs.Coupled.{rock_put}
-use Rattle.rp_access.specs.Entries.{Entries}
 use Rattle.rp_access.proofs.entries.put_rock.Goals as goal
 
 pub returns-in_ok-put_key-in-Some : goal.returns-in_ok-put_key-in-Some

@@ -1,6 +1,6 @@
 use Rattle.std.proofs.Common.{◌∙◌, ap, nat_eq, ℕ, List}
 use Rattle.std.specs.Cmp.Lexicographic.{pointwise}
-use Rattle.rp_attributes.proofs.MethodNames.{same_text-native}
+use Rattle.rp_attributes.proofs.CallerLemmas.{same_text-native}
 use Rattle.rp_access.proofs.global_names.is_named.Goals as goal
 
 pub returns : goal.returns

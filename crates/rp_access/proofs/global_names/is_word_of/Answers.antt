@@ -1,6 +1,6 @@
 use Rattle.std.proofs.Common.{◌∙◌, ap, ℕ, List, chars}
 use Rattle.rp_base.specs.Same.{same_text}
-use Rattle.rp_base.proofs.Words.{same_text-bytes}
+use Rattle.rp_base.proofs.CallerLemmas.{same_text-bytes}
 use Rattle.rp_access.proofs.global_names.is_word_of.Goals as goal
 
 pub returns : goal.returns

@@ -3,7 +3,8 @@ use Rattle.std.specs.Prelude.{ℕ, List, All}
 use Rattle.std.proofs.lemmas.List.Elements.{All-push}
 use Rattle.rp_base.specs.declared.value.Value.{Value}
 use Rattle.rp_store.specs.Kept.{IsFit}
-use Rattle.rp_access.proofs.Spreadings.{Entry, all_of, entry_more, entry_wrong, named_all, named_none, next_entry}
+use Rattle.rp_store.specs.Object.{Entry}
+use Rattle.rp_access.proofs.Spreadings.{all_of, entry_more, entry_wrong, named_all, named_none, next_entry}
 use Rattle.rp_access.specs.Spreading.{word_of}
 use Rattle.rp_access.proofs.spreading.all_named.Goals as goal
 

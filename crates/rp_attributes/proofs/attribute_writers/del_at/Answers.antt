@@ -2,7 +2,9 @@ use Rattle.std.proofs.Common.{◌≡◌, None, sym, ◌∙◌}
 use Rattle.rp_store.specs.Heap.{field_at}
 use Rattle.rp_ops.specs.Outcome.{state_of}
 use Rattle.rp_base.specs.Names.{word_of}
-use Rattle.rp_attributes.proofs.Places.{Meets-raised, del_at-missing, is_none-None, written-missing}
+use Rattle.rp_attributes.proofs.Places.{del_at-missing, written-missing}
+use Rattle.rp_ops.proofs.CallerLemmas.{Meets-raised}
+use Rattle.rp_base.proofs.CallerLemmas.{is_none-None}
 use Rattle.rp_attributes.proofs.attribute_writers.del_at.Goals as goal
 
 pub returns-then-is_none-clause-plain : goal.returns-then-is_none-clause-plain

@@ -1,8 +1,9 @@
 use Rattle.std.proofs.Common.{◌∙◌, ◌||◌, sym, ap, arith}
 use Rattle.std.proofs.lemmas.List.{drop_all}
+use Rattle.std.proofs.Math.Bool.{or-false}
 use Rattle.rp_calls.specs.Binding.{is_plain}
 use Rattle.rp_calls.specs.TableSteps.{has_word}
-use Rattle.rp_calls.proofs.Tables.{or-false, parameter-turn}
+use Rattle.rp_calls.proofs.Tables.{parameter-turn}
 use Rattle.rp_calls.proofs.parameter_names.words_of.Goals as goal
 
 pub loop-parameter-preserved : goal.loop-parameter-preserved

@@ -1,7 +1,8 @@
 use Rattle.std.proofs.Common.{Bool, ap, sym, ◌∙◌, is_some}
 use Rattle.rp_ops.specs.Outcome.{gives}
 use Rattle.rp_compare.proofs.Rounds.{looked-up}
-use Rattle.rp_compare.proofs.Sought.{is_some-copied, key-sought}
+use Rattle.rp_compare.proofs.Sought.{key-sought}
+use Rattle.rp_base.proofs.CallerLemmas.{is_some-copied}
 use Rattle.rp_compare.proofs.membership.has_key.Goals as goal
 
 pub returns-in-Some : goal.returns-in-Some

@@ -47,4 +47,4 @@ invariant_of-result c =
     (numbered.unoffending read result c.in_ok-source.ensures.low.0 c.in_ok-source.ensures.low.1 c.number.ensures.kept word c.in_ok-source.ensures.unoffending) in
     numbered.compiled c.read_script.new.names c.in_ok-source.source c.number.new.tree c.in_ok-tree.tree c.in_ok-layouts.layouts
     c.in_ok-source.ensures.low.0 c.in_ok-source.ensures.low.1 c.number.ensures.kept c.number.ensures.numbers c.in_ok-source.ensures.unoffending
-    c.in_ok-tree.ensures.rewritten (c.in_ok-tree.ensures.guarded unaugmented) c.in_ok-layouts.ensures.few c.in_ok-layouts.ensures.by_number
+    c.in_ok-tree.ensures.rewritten (c.in_ok-tree.ensures.guarded unaugmented) c.in_ok-layouts.ensures.few c.in_ok-layouts.ensures.by_number c.in_ok-layouts.ensures.scopes

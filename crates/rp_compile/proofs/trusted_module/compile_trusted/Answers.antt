@@ -21,6 +21,10 @@ returns-clause-held c =
     numbered.held (view_tree c.in_ok-tree.tree) (view_tree c.number.new.tree) c.in_ok-tree.ensures.low.0 c.in_ok-tree.ensures.low.1 c.number.ensures.kept
     c.read_text.new.names c.in_ok-tree.ensures.held
 
+pub returns-clause-numbers : goal.returns-clause-numbers
+returns-clause-numbers c =
+    numbered.has_numbers (view_tree c.in_ok-tree.tree) (view_tree c.number.new.tree) c.number.ensures.numbers c.in_ok-layouts.ensures.few
+
 pub returns-clause-scopes : goal.returns-clause-scopes
 returns-clause-scopes c =
     c.in_ok-layouts.ensures.by_number (numbered.has_numbers (view_tree c.in_ok-tree.tree) (view_tree c.number.new.tree) c.number.ensures.numbers c.in_ok-layouts.ensures.few)
@@ -42,4 +46,4 @@ returns-in_err-tree-clause-refused c =
 pub invariant_of-result : goal.invariant_of-result
 invariant_of-result c =
     numbered.trusted c.in_ok-tree.tree c.number.new.tree c.in_ok-layouts.layouts c.args.first.now c.in_ok-tree.ensures.low.0 c.in_ok-tree.ensures.low.1
-    c.number.ensures.kept c.number.ensures.numbers c.in_ok-layouts.ensures.few c.in_ok-layouts.ensures.by_number
+    c.number.ensures.kept c.number.ensures.numbers c.in_ok-layouts.ensures.few c.in_ok-layouts.ensures.by_number c.in_ok-layouts.ensures.scopes

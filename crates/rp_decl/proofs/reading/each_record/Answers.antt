@@ -1,7 +1,7 @@
 use Rattle.std.proofs.Common.{◌≡◌, ◌∷◌, arith}
 use Rattle.std.proofs.lemmas.Grind.{common_steps}
 use Rattle.toml.proofs.Views.{Entry}
-use Rattle.rp_base.proofs.Words.{with_words-append}
+use Rattle.rp_base.proofs.CallerLemmas.{with_words-append}
 use Rattle.rp_decl.proofs.Documents.{key_texts-ascend}
 use Rattle.rp_decl.proofs.Growth.{GrowsTo-trans, Shows-push}
 use Rattle.rp_decl.proofs.reading.each_record.Goals as goal

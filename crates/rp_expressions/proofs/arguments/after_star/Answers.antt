@@ -7,6 +7,7 @@ use Rattle.rp_engine.proofs.Worlds.{IsReady-goes}
 use Rattle.rp_engine.specs.ArgumentSteps.{with_arguments, with_spread}
 use Rattle.rp_engine.specs.Does as does
 use Rattle.rp_engine.specs.Law.{frame_in}
+use Rattle.rp_store.proofs.Shapes.{KeepsShape-trans}
 use Rattle.rp_expressions.proofs.arguments.after_star.Goals as goal
 
 pub returns-in-Ok-clause-law : goal.returns-in-Ok-clause-law
@@ -42,3 +43,21 @@ returns-clause-law c =
 pub returns-clause-ready : goal.returns-clause-ready
 returns-clause-ready c =
     c.without_result.ensures.ready c.spread.new.world (IsReady-goes _ _ _ c.args.world.now c.spread.new.world c.requires.ready c.spread.ensures.shape c.spread.ensures.faithful)
+
+pub spread-requires-clause-faithful : goal.spread-requires-clause-faithful
+spread-requires-clause-faithful c = c.requires.ready.faithful
+
+pub spread-requires-clause-sound : goal.spread-requires-clause-sound
+spread-requires-clause-sound c = c.requires.value.0
+
+pub spread_over-requires-clause-fit : goal.spread_over-requires-clause-fit
+spread_over-requires-clause-fit c = c.in-Ok.ensures.fit
+
+pub returns-in-Ok-clause-ready : goal.returns-in-Ok-clause-ready
+returns-in-Ok-clause-ready c = c.spread_over.ensures.ready
+
+pub returns-in-Ok-clause-shape : goal.returns-in-Ok-clause-shape
+returns-in-Ok-clause-shape c = KeepsShape-trans _ _ _ c.spread.ensures.shape c.spread_over.ensures.shape
+
+pub returns-clause-shape : goal.returns-clause-shape
+returns-clause-shape c = c.spread.ensures.shape

@@ -1,5 +1,4 @@
-use Rattle.std.proofs.Common.{◌∷◌, ap, ◌∙◌}
-use Rattle.rp_meaning.specs.Frame.{Meaning}
+use Rattle.std.proofs.Common.{ap, refl, ◌∙◌, ◌∷◌}
 use Rattle.rp_proxy.specs.declared.world.World.{World}
 use Rattle.rp_expressions.proofs.CallEquations.{arg_key, arg_plain, arg_star, arg_stars}
 use Rattle.rp_expressions.proofs.Callings.{argument_waits}
@@ -7,6 +6,7 @@ use Rattle.rp_engine.proofs.Moves.{on_ok}
 use Rattle.rp_expressions.proofs.Spreads.{key_waits, plain_calls, plain_hand, star_waits, stars_waits}
 use Rattle.rp_expressions.specs.Arguments.{NamedCalls}
 use Rattle.rp_engine.specs.Does as does
+use Rattle.rp_store.proofs.Shapes.{KeepsShape-same}
 use Rattle.rp_expressions.proofs.arguments.argument.Goals as goal
 
 pub returns-in-Plain-clause-law : goal.returns-in-Plain-clause-law
@@ -46,3 +46,27 @@ returns-in-Stars-clause-law c =
     plain_calls m n w w r (a ∷ as') ts c.args.count
     (on_ok r ((w : World) → NamedCalls h (a ∷ as') ts m w n w) (NamedCalls h (a ∷ as') ts m w n w) (λ law. law w)
     (stars_waits m n r as' ts h (does.expr c.in-Stars.x) a (ap does.arg c.in-Stars.is ∙ arg_stars c.in-Stars.x) c.wait-in-Stars.ensures.law))
+
+pub returns-in-Plain-clause-ready : goal.returns-in-Plain-clause-ready
+returns-in-Plain-clause-ready c = c.wait.ensures.ready c.args.world.now c.requires.ready
+
+pub returns-in-Plain-clause-shape : goal.returns-in-Plain-clause-shape
+returns-in-Plain-clause-shape c = KeepsShape-same c.args.world.now.store.heap c.args.world.now.store.heap refl
+
+pub returns-in-Star-clause-ready : goal.returns-in-Star-clause-ready
+returns-in-Star-clause-ready c = c.wait-in-Star.ensures.ready c.args.world.now c.requires.ready
+
+pub returns-in-Star-clause-shape : goal.returns-in-Star-clause-shape
+returns-in-Star-clause-shape c = KeepsShape-same c.args.world.now.store.heap c.args.world.now.store.heap refl
+
+pub returns-in-Key-clause-ready : goal.returns-in-Key-clause-ready
+returns-in-Key-clause-ready c = c.wait-in-Key.ensures.ready c.args.world.now c.requires.ready
+
+pub returns-in-Key-clause-shape : goal.returns-in-Key-clause-shape
+returns-in-Key-clause-shape c = KeepsShape-same c.args.world.now.store.heap c.args.world.now.store.heap refl
+
+pub returns-in-Stars-clause-ready : goal.returns-in-Stars-clause-ready
+returns-in-Stars-clause-ready c = c.wait-in-Stars.ensures.ready c.args.world.now c.requires.ready
+
+pub returns-in-Stars-clause-shape : goal.returns-in-Stars-clause-shape
+returns-in-Stars-clause-shape c = KeepsShape-same c.args.world.now.store.heap c.args.world.now.store.heap refl

@@ -23,9 +23,9 @@ returns-in-Err-clause-ready c =
     c.without_result.ensures.ready c.called.new.world (IsReady-goes _ _ _ c.args.world.now c.called.new.world c.requires.ready c.called.ensures.shape c.called.ensures.faithful)
 
 pub returns-in-Ok-None-clause-ready : goal.returns-in-Ok-None-clause-ready
-returns-in-Ok-None-clause-ready c = c.ask_call.ensures.ready c.called.new.world (IsReady-goes _ _ _ c.args.world.now c.called.new.world c.requires.ready c.called.ensures.shape c.called.ensures.faithful)
+returns-in-Ok-None-clause-ready c = c.ask_left.ensures.ready c.called.new.world (IsReady-goes _ _ _ c.args.world.now c.called.new.world c.requires.ready c.called.ensures.shape c.called.ensures.faithful)
 
 pub returns-in-Ok-None-clause-law : goal.returns-in-Ok-None-clause-law
 returns-in-Ok-None-clause-law c =
     let left = rw c.in-Ok-None.field-0-is at c.in-Ok-None.ensures.left in
-    asks c.args.machine.now c.ask_call.new.machine c.args.world.now c.called.new.world c.args.count (does.trailers c.args.rest.now) c.ask_call.result left c.ask_call.ensures.law c.ask_call.ensures.reference
+    asks c.args.machine.now c.ask_left.new.machine c.args.count (does.trailers c.args.rest.now) c.args.world.now c.called.new.world c.ask_left.result left c.ask_left.ensures.law

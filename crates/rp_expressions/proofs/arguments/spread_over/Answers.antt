@@ -1,4 +1,4 @@
-use Rattle.std.proofs.Common.{◌≡◌, ◌+◌, ◌++◌, List, ap, reverse, sym, subst, ◌∙◌}
+use Rattle.std.proofs.Common.{◌+◌, List, ap, sym, subst, ◌∙◌}
 use Rattle.rp_base.specs.declared.value.Value.{Value}
 use Rattle.rp_expressions.proofs.Spreads.{fit_added, spread_held}
 use Rattle.rp_engine.specs.Does as does

@@ -27,3 +27,15 @@ pub returns-in-Err-clause-law : goal.returns-in-Err-clause-law
 returns-in-Err-clause-law c =
     step_ends c.args.machine.now c.no_value.new.self c.args.world.now c.next_leaf.new.world c.no_value.result (does.expr c.args.x.now)
     (later c.args.all (does.exprs c.args.rest.now)) c.in-Err.end c.in-Err.ensures.law c.no_value.ensures.law
+
+pub returns-in-Ok-None-clause-ready : goal.returns-in-Ok-None-clause-ready
+returns-in-Ok-None-clause-ready c = c.wait.ensures.ready c.next_leaf.new.world c.next_leaf.ensures.ready
+
+pub returns-in-Ok-None-clause-shape : goal.returns-in-Ok-None-clause-shape
+returns-in-Ok-None-clause-shape c = c.next_leaf.ensures.shape
+
+pub returns-in-Err-clause-ready : goal.returns-in-Err-clause-ready
+returns-in-Err-clause-ready c = c.no_value.ensures.ready c.next_leaf.new.world c.next_leaf.ensures.ready
+
+pub returns-in-Err-clause-shape : goal.returns-in-Err-clause-shape
+returns-in-Err-clause-shape c = c.next_leaf.ensures.shape

@@ -4,6 +4,7 @@ use Rattle.rp_engine.proofs.Firsts.{gives_ok}
 use Rattle.rp_expressions.proofs.Settling.{no_settling, settled, unsettled}
 use Rattle.rp_engine.proofs.Worlds.{IsReady-goes}
 use Rattle.rp_engine.specs.Does as does
+use Rattle.rp_store.proofs.Shapes.{KeepsShape-trans}
 use Rattle.rp_expressions.proofs.joining.unless_settled.Goals as goal
 
 pub returns-then-truth-all-clause-law : goal.returns-then-truth-all-clause-law
@@ -38,3 +39,15 @@ pub returns-else-truth-all-clause-ready : goal.returns-else-truth-all-clause-rea
 returns-else-truth-all-clause-ready c =
     c.back.ensures.ready c.truth.new.world (IsReady-goes _ _ _ c.args.world.now c.truth.new.world c.requires.ready c.truth.ensures.shape c.truth.ensures.faithful)
     (c.truth.ensures.shape.fit c.args.machine.now.frame.side c.args.value c.requires.value)
+
+pub returns-then-truth-all-clause-ready : goal.returns-then-truth-all-clause-ready
+returns-then-truth-all-clause-ready c = c.next_joined.ensures.ready
+
+pub returns-then-truth-all-clause-shape : goal.returns-then-truth-all-clause-shape
+returns-then-truth-all-clause-shape c = KeepsShape-trans _ _ _ c.truth.ensures.shape c.next_joined.ensures.shape
+
+pub returns-else-truth-all-clause-shape : goal.returns-else-truth-all-clause-shape
+returns-else-truth-all-clause-shape c = c.truth.ensures.shape
+
+pub returns-in-Err-clause-shape : goal.returns-in-Err-clause-shape
+returns-in-Err-clause-shape c = c.truth.ensures.shape

@@ -8,6 +8,7 @@ use Rattle.rp_engine.specs.ArgumentSteps.{with_all, with_spread_named}
 use Rattle.rp_engine.specs.Does as does
 use Rattle.rp_engine.specs.HandSteps.{held_by, size_of}
 use Rattle.rp_engine.specs.Law.{frame_in}
+use Rattle.rp_store.proofs.Shapes.{KeepsShape-trans}
 use Rattle.rp_expressions.proofs.named_arguments.after_stars.Goals as goal
 
 pub returns-in-Ok-clause-law : goal.returns-in-Ok-clause-law
@@ -43,3 +44,21 @@ returns-clause-law c =
 pub returns-clause-ready : goal.returns-clause-ready
 returns-clause-ready c =
     c.without_hand.ensures.ready c.spread_named.new.world (IsReady-goes _ _ _ c.args.world.now c.spread_named.new.world c.requires.ready c.spread_named.ensures.shape c.spread_named.ensures.faithful)
+
+pub spread_named-requires-clause-faithful : goal.spread_named-requires-clause-faithful
+spread_named-requires-clause-faithful c = c.requires.ready.faithful
+
+pub spread_named-requires-clause-sound : goal.spread_named-requires-clause-sound
+spread_named-requires-clause-sound c = c.requires.value.0
+
+pub named_over-requires-clause-fit : goal.named_over-requires-clause-fit
+named_over-requires-clause-fit c = c.in-Ok.ensures.fit
+
+pub returns-in-Ok-clause-ready : goal.returns-in-Ok-clause-ready
+returns-in-Ok-clause-ready c = c.named_over.ensures.ready
+
+pub returns-in-Ok-clause-shape : goal.returns-in-Ok-clause-shape
+returns-in-Ok-clause-shape c = KeepsShape-trans _ _ _ c.spread_named.ensures.shape c.named_over.ensures.shape
+
+pub returns-clause-shape : goal.returns-clause-shape
+returns-clause-shape c = c.spread_named.ensures.shape

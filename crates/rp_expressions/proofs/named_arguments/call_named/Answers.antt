@@ -1,4 +1,4 @@
-use Rattle.std.proofs.Common.{◌≡◌, ℕ, Err, drop, ap, subst, ◌∙◌}
+use Rattle.std.proofs.Common.{ℕ, Err, drop, ap, subst, ◌∙◌}
 use Rattle.rp_access.specs.Calling.{IsCallRefused, IsCodeLeft}
 use Rattle.rp_access.specs.Moment.{state_of}
 use Rattle.rp_base.specs.declared.value.Value.{Value}

@@ -1,6 +1,6 @@
 use Rattle.std.proofs.Common.{ap, ◌∙◌}
-use Rattle.rp_expressions.proofs.CallEquations.{arg_key, arg_stars}
-use Rattle.rp_expressions.proofs.Spreads.{key_waits, stars_waits}
+use Rattle.rp_expressions.proofs.CallEquations.{arg_key, arg_plain, arg_star, arg_stars}
+use Rattle.rp_expressions.proofs.Spreads.{behind_waits, key_waits, plain_waits, stars_waits}
 use Rattle.rp_engine.specs.Does as does
 use Rattle.rp_expressions.proofs.named_arguments.named_argument.Goals as goal
 
@@ -13,3 +13,13 @@ pub returns-in-Stars-clause-law : goal.returns-in-Stars-clause-law
 returns-in-Stars-clause-law c =
     stars_waits c.args.machine.now c.wait-in-Stars.new.self c.wait-in-Stars.result (does.args c.args.args.now) (does.trailers c.args.rest.now) c.args.hand (does.expr c.in-Stars.x)
     (does.arg c.args.arg.now) (ap does.arg c.in-Stars.is ∙ arg_stars c.in-Stars.x) c.wait-in-Stars.ensures.law
+
+pub returns-in-Plain-clause-law : goal.returns-in-Plain-clause-law
+returns-in-Plain-clause-law c =
+    plain_waits c.args.machine.now c.wait-in-Plain.new.self c.wait-in-Plain.result (does.args c.args.args.now) (does.trailers c.args.rest.now) c.args.hand (does.expr c.in-Plain.x)
+    (does.arg c.args.arg.now) (ap does.arg c.in-Plain.is ∙ arg_plain c.in-Plain.x) c.wait-in-Plain.ensures.law
+
+pub returns-in-Star-clause-law : goal.returns-in-Star-clause-law
+returns-in-Star-clause-law c =
+    behind_waits c.args.machine.now c.wait-in-Star.new.self c.wait-in-Star.result (does.args c.args.args.now) (does.trailers c.args.rest.now) c.args.hand (does.expr c.in-Star.x)
+    (does.arg c.args.arg.now) (ap does.arg c.in-Star.is ∙ arg_star c.in-Star.x) c.wait-in-Star.ensures.law

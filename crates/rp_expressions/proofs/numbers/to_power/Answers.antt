@@ -1,15 +1,16 @@
 use Rattle.std.proofs.Common.{Ok, ap}
-use Rattle.rp_engine.proofs.Answering.{put, put_ends, put_waits}
+use Rattle.rp_engine.proofs.Answering.{put_ends, put_waits}
 use Rattle.rp_engine.specs.Does as does
 use Rattle.rp_base.specs.declared.operator.BinOp.TheVariants.{Pow}
 use Rattle.rp_meaning.specs.Operators.{operate}
+use Rattle.rp_store.proofs.Shapes.{KeepsShape-trans}
+use Rattle.rp_expressions.proofs.Found.{found_fit, put_found}
 use Rattle.rp_expressions.proofs.numbers.to_power.Goals as goal
 
 pub returns-in-Ok-Some-clause-law : goal.returns-in-Ok-Some-clause-law
 returns-in-Ok-Some-clause-law c =
-    let found = rw c.in-Ok-Some.field-0-is at c.in-Ok-Some.ensures.law in
-    put c.args.machine.now c.power_of.new.machine c.args.world.now c.leaf.new.world c.power_of.new.world c.power_of.result (does.expr c.args.exponent.now)
-    (operate Pow c.args.a) c.in-Ok-Some.b found c.power_of.ensures.law
+    put_found c.in-Ok-Some.field-0 c.in-Ok-Some.b c.in-Ok-Some.field-0-is c.args.machine.now c.power_of.new.machine c.args.world.now c.leaf.new.world c.power_of.new.world c.power_of.result
+    (does.expr c.args.exponent.now) (operate Pow c.args.a) c.in-Ok-Some.ensures.law c.power_of.ensures.law
 
 pub returns-in-Ok-None-clause-law : goal.returns-in-Ok-None-clause-law
 returns-in-Ok-None-clause-law c =
@@ -20,3 +21,30 @@ pub returns-in-Err-clause-law : goal.returns-in-Err-clause-law
 returns-in-Err-clause-law c =
     put_ends c.args.machine.now c.no_value.new.self c.args.world.now c.leaf.new.world c.no_value.result (does.expr c.args.exponent.now)
     (operate Pow c.args.a) c.in-Err.end c.in-Err.ensures.law c.no_value.ensures.law
+
+pub power_of-requires-clause-b : goal.power_of-requires-clause-b
+power_of-requires-clause-b c = found_fit c.in-Ok-Some.field-0 c.in-Ok-Some.b c.in-Ok-Some.field-0-is c.leaf.new.world.store.heap c.args.machine.now.frame.side c.in-Ok-Some.ensures.fit
+
+pub returns-in-Ok-Some-clause-shape : goal.returns-in-Ok-Some-clause-shape
+returns-in-Ok-Some-clause-shape c = KeepsShape-trans _ _ _ c.leaf.ensures.shape c.power_of.ensures.shape
+
+pub power_of-requires-clause-ready : goal.power_of-requires-clause-ready
+power_of-requires-clause-ready c = c.leaf.ensures.ready
+
+pub power_of-requires-clause-a : goal.power_of-requires-clause-a
+power_of-requires-clause-a c = c.leaf.ensures.shape.fit c.args.machine.now.frame.side c.args.a c.requires.a
+
+pub returns-in-Ok-Some-clause-ready : goal.returns-in-Ok-Some-clause-ready
+returns-in-Ok-Some-clause-ready c = c.power_of.ensures.ready
+
+pub returns-in-Ok-None-clause-ready : goal.returns-in-Ok-None-clause-ready
+returns-in-Ok-None-clause-ready c = c.wait_with.ensures.ready c.leaf.new.world c.leaf.ensures.ready (c.leaf.ensures.shape.fit c.args.machine.now.frame.side c.args.a c.requires.a)
+
+pub returns-in-Ok-None-clause-shape : goal.returns-in-Ok-None-clause-shape
+returns-in-Ok-None-clause-shape c = c.leaf.ensures.shape
+
+pub returns-in-Err-clause-ready : goal.returns-in-Err-clause-ready
+returns-in-Err-clause-ready c = c.no_value.ensures.ready c.leaf.new.world c.leaf.ensures.ready
+
+pub returns-in-Err-clause-shape : goal.returns-in-Err-clause-shape
+returns-in-Err-clause-shape c = c.leaf.ensures.shape

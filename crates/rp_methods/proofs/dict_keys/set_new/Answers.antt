@@ -1,7 +1,7 @@
 use Rattle.rp_base.specs.declared.value.Value.TheVariants as value
 use Rattle.rp_ops.specs.Outcome.{gives, state_of}
 use Rattle.rp_items.specs.Items.{set_item}
-use Rattle.rp_methods.proofs.Ends.{passes-on}
+use Rattle.rp_ops.proofs.CallerLemmas.{passes-on}
 use Rattle.rp_methods.proofs.dict_keys.set_new.Goals as goal
 
 pub returns-in_err-put-clause-plain : goal.returns-in_err-put-clause-plain

@@ -2,7 +2,7 @@ use Rattle.std.proofs.Common.{Option, ap, is_some, sym, ◌∙◌}
 use Rattle.std.specs.Option.{option_and_then}
 use Rattle.rp_store.specs.Heap.{entry_at}
 use Rattle.rp_store.specs.declared.key.Key.{Key}
-use Rattle.rp_methods.proofs.Taken.{is_some-copied}
+use Rattle.rp_base.proofs.CallerLemmas.{is_some-copied}
 use Rattle.rp_methods.proofs.dict_pairs.has_key.Goals as goal
 
 pub returns-in-Some : goal.returns-in-Some

@@ -1,8 +1,8 @@
 use Rattle.std.proofs.Common.{[], arith}
-use Rattle.rp_store.proofs.CallerLemmas.{KeepsCounters-trans, KeepsShape-trans}
+use Rattle.rp_store.proofs.CallerLemmas.{AreSound-next, KeepsCounters-trans, KeepsShape-trans}
 use Rattle.rp_ops.specs.Outcome.{state_of}
 use Rattle.rp_methods.specs.Dicts.{tuples_listed}
-use Rattle.rp_methods.proofs.Listed.{listed-next, sound-next}
+use Rattle.rp_methods.proofs.Listed.{listed-next}
 use Rattle.rp_methods.proofs.Walked.{sound-item}
 use Rattle.rp_methods.proofs.NoClasses.{AddsNoClass-trans}
 use Rattle.rp_methods.proofs.dict_pairs.make_tuples.Goals as goal
@@ -20,7 +20,7 @@ loop-rock-preserved c =
       same = (λ steps. listed-next c.args.side c.args.entries.now c.loop-rock.made.items c.push.new.self.items c.loop-rock.rock-index c.loop-rock-item.result
           (tuples_listed c.args.side c.args.entries.now [] (state_of c.args.store.now steps)) old new c.in_ok-pair.pair steps c.loop-rock-item.is (omega arith)
           (c.loop-rock.invariant.same steps) c.in_ok-pair.ensures.place c.in_ok-pair.ensures.added c.in_ok-push.ensures.items);
-      made = sound-next old.heap new.heap c.loop-rock.made.items c.push.new.self.items c.in_ok-pair.pair c.make_pair.ensures.shape c.loop-rock.invariant.made
+      made = AreSound-next old.heap new.heap c.loop-rock.made.items c.push.new.self.items c.in_ok-pair.pair c.make_pair.ensures.shape c.loop-rock.invariant.made
           c.in_ok-pair.ensures.sound c.in_ok-push.ensures.items;
       shape = KeepsShape-trans c.args.store.now.heap old.heap new.heap c.loop-rock.invariant.shape c.make_pair.ensures.shape;
       classes = AddsNoClass-trans c.args.store.now.heap old.heap new.heap c.loop-rock.invariant.classes c.make_pair.ensures.classes;

@@ -3,7 +3,7 @@ use Rattle.rp_store.specs.Writers.{extended}
 use Rattle.rp_ops.specs.Outcome.{state_of}
 use Rattle.rp_ops.specs.Walk.{elements}
 use Rattle.rp_methods.specs.Lists.{grows}
-use Rattle.rp_methods.proofs.Ends.{passes-on}
+use Rattle.rp_ops.proofs.CallerLemmas.{passes-on}
 use Rattle.rp_methods.proofs.list_changes.extend_by.Goals as goal
 
 pub returns-in_err-values-clause-plain : goal.returns-in_err-values-clause-plain

@@ -1,6 +1,6 @@
 use Rattle.rp_ops.specs.Outcome.{gives, state_of}
 use Rattle.rp_methods.specs.Lists.{counted, number}
-use Rattle.rp_methods.proofs.Ends.{passes-on}
+use Rattle.rp_ops.proofs.CallerLemmas.{passes-on}
 use Rattle.rp_methods.proofs.sequences.count_in.Goals as goal
 
 pub returns-in_err-count-clause-plain : goal.returns-in_err-count-clause-plain

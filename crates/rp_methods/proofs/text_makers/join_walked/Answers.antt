@@ -3,7 +3,7 @@ use Rattle.rp_base.specs.declared.value.Value.{Value}
 use Rattle.rp_ops.specs.Outcome.{Meets, Outcome, on_value, state_of}
 use Rattle.rp_ops.specs.Walk.{elements}
 use Rattle.rp_methods.specs.Texts.{joined_all}
-use Rattle.rp_methods.proofs.Ends.{passes-on}
+use Rattle.rp_ops.proofs.CallerLemmas.{passes-on}
 use Rattle.rp_methods.proofs.text_makers.join_walked.Goals as goal
 
 pub returns-in_err-values-clause-plain : goal.returns-in_err-values-clause-plain

@@ -1,8 +1,9 @@
 use Rattle.std.proofs.Common.{◌≡◌, ◌∙◌, ◌<◌, ap, if◌then◌else◌, chars, length, arith, rules}
 use Rattle.std.proofs.lemmas.List.{length-drop, nil_from_length}
 use Rattle.rp_token.specs.Characters.{is_blank}
-use Rattle.rp_token.proofs.Texts.{no_chars, some_chars}
+use Rattle.rp_token.proofs.Texts.{no_chars}
 use Rattle.rp_more.proofs.Trims.{Read-none, Read-turn, Read-end, chars-chosen, cut-boundary, cut-front, cut-le}
+use Rattle.rp_base.proofs.CallerLemmas.{some_chars}
 use Rattle.rp_more.proofs.letters.without_last_blanks.Goals as goal
 
 pub letters-init : goal.letters-init

@@ -1,6 +1,5 @@
 use Rattle.std.proofs.Common.{◌∙◌, ◌++◌, ◌∷◌, [], codes, refl}
 use Rattle.std.specs.Str.{chars}
-use Rattle.std.proofs.lemmas.Str.{chars-nil}
 use Rattle.rp_token.specs.Form.{literal, mark, name}
 use Rattle.rp_more.specs.Forms.{placed}
 use Rattle.rp_more.specs.LiteralSteps.{items_of, join_front, place_item}
@@ -22,7 +21,7 @@ returns-clause-items c = λ more.
     let b = items_of names c.push-2.new.written.items in
     pushed-five w (items_of names c.push.new.written.items) b (items_of names c.push-3.new.written.items) (items_of names c.push-4.new.written.items) (items_of names c.push-5.new.written.items)
     (placed t (literal [])) (placed t (mark (codes "."))) (placed t (name (codes "join"))) (placed t (mark (codes "("))) (placed t (mark (codes "[")))
-    (c.in_ok-push.ensures.items names ∙ (λ k. w ++ placed t (literal ((c.in_ok-new.ensures ∙ chars-nil) k)) ∷ [])) (c.in_ok-push-2.ensures.items names)
+    (c.in_ok-push.ensures.items names ∙ (λ k. w ++ placed t (literal (c.in_ok-copy.ensures k)) ∷ [])) (c.in_ok-push-2.ensures.items names)
     (c.in_ok-push-3.ensures.items names ∙ (λ k. b ++ placed t (c.in_ok-intern.ensures.name more k) ∷ [])) (c.in_ok-push-4.ensures.items names) (c.in_ok-push-5.ensures.items names)
 
 pub returns-clause-follows : goal.returns-clause-follows

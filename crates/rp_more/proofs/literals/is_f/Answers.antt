@@ -1,8 +1,8 @@
 use Rattle.std.proofs.Common.{◌∙◌, sym, ap, arith, zero, suc, ◌∷◌, [], chars}
 use Rattle.std.specs.Str.{IsAscii}
 use Rattle.rp_more.specs.Forms.{same}
-use Rattle.rp_token.proofs.Places.{pointwise-chars}
 use Rattle.rp_token.proofs.Rules.{held_among}
+use Rattle.rp_base.proofs.CallerLemmas.{pointwise-chars}
 use Rattle.rp_more.proofs.literals.is_f.Goals as goal
 
 ascii-f : IsAscii (102 ∷ [])

@@ -2,9 +2,9 @@ use Rattle.std.proofs.Common.{◌≡◌, ◌∙◌, ◌<◌, ◌==◌, sym, arit
 use Rattle.std.specs.Option.{option_map}
 use Rattle.std.proofs.lemmas.List.{length-drop}
 use Rattle.rp_token.specs.Characters.{first}
-use Rattle.rp_token.proofs.Texts.{some_chars}
 use Rattle.rp_more.specs.Pieces.{pieces_from, with_character}
 use Rattle.rp_more.proofs.FrontPieces.{pieces-plain}
+use Rattle.rp_base.proofs.CallerLemmas.{some_chars}
 use Rattle.rp_more.proofs.pieces.front_of.Goals as goal
 
 pub returns-clause-front : goal.returns-clause-front

@@ -3,7 +3,8 @@ use Rattle.std.proofs.lemmas.Str.{IsUtf8-string_bytes}
 use Rattle.rp_token.proofs.Texts.{chars-push}
 use Rattle.rp_more.specs.PieceSteps.{piece_seen}
 use Rattle.rp_more.specs.Pieces.{pieces_from, pieces_of}
-use Rattle.rp_more.proofs.ReadPieces.{no_bytes, pieces-begin, pieces-end, pieces-letter, pieces-part}
+use Rattle.rp_more.proofs.ReadPieces.{pieces-begin, pieces-end, pieces-letter, pieces-part}
+use Rattle.rp_base.proofs.CallerLemmas.{no-chars}
 use Rattle.rp_more.proofs.pieces.read_pieces.Goals as goal
 
 pub fronts-init : goal.fronts-init
@@ -35,4 +36,4 @@ returns c =
     let old = c.fronts.pieces in
     let empty : length c.fronts.rest.now ≡ 0 = search rules in
     pieces-end (map piece_seen old.whole.items) (chars (string_bytes old.run)) (chars c.fronts.rest.now) (map piece_seen c.end_run.new.self.whole.items) (pieces_of (chars c.args.text.now))
-    c.fronts.invariant.same (no_bytes c.fronts.rest.now empty) c.in_ok-end_run.ensures.pieces
+    c.fronts.invariant.same (no-chars c.fronts.rest.now empty) c.in_ok-end_run.ensures.pieces

@@ -1,5 +1,5 @@
 use Rattle.rp_native.specs.Objects.{IsContainerOf}
-use Rattle.rp_native.proofs.Growths.{KeepsShape-Gains}
+use Rattle.rp_ops.proofs.CallerLemmas.{KeepsShape-Gains}
 use Rattle.rp_native.proofs.calls.call_native.Goals as goal
 
 pub returns-then-is_empty-clause-shape : goal.returns-then-is_empty-clause-shape

@@ -4,7 +4,7 @@ use Rattle.rp_base.specs.declared.value.Value.{Value}
 use Rattle.rp_base.specs.declared.value.Value.TheVariants as value
 use Rattle.rp_ops.specs.Outcome.{Outcome, State, gives, on_value, state_of}
 use Rattle.rp_show.specs.Show.{show}
-use Rattle.rp_native.proofs.Outcomes.{passes-on}
+use Rattle.rp_ops.proofs.CallerLemmas.{passes-on}
 use Rattle.rp_native.proofs.calls.text_of.Goals as goal
 
 abbrev as_value : List ℕ → State → Outcome Value

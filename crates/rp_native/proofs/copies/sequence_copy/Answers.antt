@@ -6,7 +6,8 @@ use Rattle.rp_ops.specs.View.{sequence_of}
 use Rattle.rp_ops.specs.Walk.{elements}
 use Rattle.rp_native.specs.Objects.{IsContainerOf}
 use Rattle.rp_native.proofs.Growths.{Gains-from, Gains-same}
-use Rattle.rp_native.proofs.Outcomes.{goes-on, passes-on}
+use Rattle.rp_native.proofs.Outcomes.{goes-on}
+use Rattle.rp_ops.proofs.CallerLemmas.{passes-on}
 use Rattle.rp_native.proofs.copies.sequence_copy.Goals as goal
 
 pub returns-in_err-values-clause-plain : goal.returns-in_err-values-clause-plain

@@ -4,7 +4,8 @@ use Rattle.rp_store.specs.Kept.{AreSound}
 use Rattle.rp_ops.specs.Outcome.{Meets, state_of}
 use Rattle.rp_ops.specs.Walk.{elements}
 use Rattle.rp_native.specs.Extremes.{chosen}
-use Rattle.rp_native.proofs.Outcomes.{goes-on, passes-on}
+use Rattle.rp_native.proofs.Outcomes.{goes-on}
+use Rattle.rp_ops.proofs.CallerLemmas.{passes-on}
 use Rattle.rp_native.proofs.extremes.extreme_of.Goals as goal
 
 pub returns-in_err-values-clause-plain : goal.returns-in_err-values-clause-plain

@@ -7,7 +7,7 @@ use Rattle.rp_store.proofs.CallerLemmas.{KeepsCounters-trans}
 use Rattle.rp_ops.specs.Outcome.{gives, state_of}
 use Rattle.rp_show.specs.Show.{printed}
 use Rattle.rp_show.specs.ShowView.{added}
-use Rattle.rp_native.proofs.Lines.{added-added, no_cell_meets, printed-turn, printed-turn-over, stops}
+use Rattle.rp_show.proofs.CallerLemmas.{added-added, no_cell_meets, printed-turn, printed-turn-over, stops}
 use Rattle.rp_native.proofs.print.charge_text.Goals as goal
 
 pub loop-letter-preserved : goal.loop-letter-preserved

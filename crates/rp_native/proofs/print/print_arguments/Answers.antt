@@ -6,7 +6,7 @@ use Rattle.rp_ops.specs.Outcome.{Meets, Outcome, state_of}
 use Rattle.rp_show.specs.Show.{followed, printed}
 use Rattle.rp_show.specs.ShowView.{Writes, added}
 use Rattle.rp_native.specs.Print.{argument, further, print_line}
-use Rattle.rp_native.proofs.Lines.{alone, passes_on, stops}
+use Rattle.rp_show.proofs.CallerLemmas.{alone, passes_on, stops}
 use Rattle.rp_native.proofs.print.print_arguments.Goals as goal
 
 pub returns-in_err-print_argument-clause-plain : goal.returns-in_err-print_argument-clause-plain

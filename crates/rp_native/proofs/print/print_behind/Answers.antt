@@ -4,7 +4,7 @@ use Rattle.rp_ops.specs.Outcome.{Outcome, state_of}
 use Rattle.rp_show.specs.Show.{followed, printed}
 use Rattle.rp_show.specs.ShowView.{Writes, added}
 use Rattle.rp_native.specs.Print.{argument}
-use Rattle.rp_native.proofs.Lines.{on_ok, passes, stops}
+use Rattle.rp_show.proofs.CallerLemmas.{on_ok, passes, stops}
 use Rattle.rp_native.proofs.print.print_behind.Goals as goal
 
 pub returns-in_err-print_text-clause-plain : goal.returns-in_err-print_text-clause-plain

@@ -7,7 +7,8 @@ use Rattle.rp_ops.specs.Outcome.{Meets, Outcome, state_of}
 use Rattle.rp_show.specs.Show.{followed, printed}
 use Rattle.rp_show.specs.ShowView.{Writes, added}
 use Rattle.rp_native.specs.Print.{argument, further}
-use Rattle.rp_native.proofs.Lines.{first_of_rest, on_ok, passes, stops}
+use Rattle.rp_show.proofs.CallerLemmas.{on_ok, passes, stops}
+use Rattle.rp_base.proofs.CallerLemmas.{drop_here}
 use Rattle.rp_native.proofs.print.print_further.Goals as goal
 
 pub loop-value-preserved : goal.loop-value-preserved
@@ -19,7 +20,7 @@ loop-value-preserved c =
     let v = c.value-item.result in
     let s = state_of l.store l.meter.left in
     let end = state_of c.print_behind.new.store c.print_behind.new.meter.left in
-    let first : drop i vs ≡ v ∷ drop (i + 1) vs = first_of_rest vs i v (omega arith) c.value-item.is in (
+    let first : drop i vs ≡ v ∷ drop (i + 1) vs = drop_here vs i v (omega arith) c.value-item.is in (
       l.invariant.0
           ∙ ap (λ (ws : List Value). added l.line (further names ws s)) first
           ∙ on_ok l.line c.print_behind.new.line end (followed (printed (codes " ") s) (argument names v)) (further names (drop (i + 1) vs)) c.in_ok-print_behind.ensures.plain,
@@ -39,7 +40,7 @@ returns-in_err-print_behind-clause-plain c =
     let s = state_of l.store l.meter.left in
     let end = state_of c.print_behind.new.store c.print_behind.new.meter.left in
     let one = followed (printed (codes " ") s) (argument names v) in
-    let first : drop i vs ≡ v ∷ drop (i + 1) vs = first_of_rest vs i v (omega arith) c.value-item.is in
+    let first : drop i vs ≡ v ∷ drop (i + 1) vs = drop_here vs i v (omega arith) c.value-item.is in
     let whole = added c.args.line.now (further names vs (state_of c.args.store.now c.args.meter.now.left)) in
     stops c.from_residual.result e c.print_behind.new.line end whole c.from_residual.ensures.1
     (subst (λ (o : Outcome (List ℕ)). Meets {A = List ℕ} (Err e) end o) (sym (l.invariant.0 ∙ ap (λ (ws : List Value). added l.line (further names ws s)) first))

@@ -1,7 +1,7 @@
 use Rattle.std.proofs.Common.{List, ℕ, sym, ap, ◌∙◌}
 use Rattle.rp_ops.specs.Outcome.{gives, state_of}
 use Rattle.rp_native.specs.Print.{print_line}
-use Rattle.rp_native.proofs.Lines.{text_stops}
+use Rattle.rp_show.proofs.CallerLemmas.{text_stops}
 use Rattle.rp_native.proofs.print.print_line.Goals as goal
 
 pub returns-in_err-print_arguments-clause-plain : goal.returns-in_err-print_arguments-clause-plain

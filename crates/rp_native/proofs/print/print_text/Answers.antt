@@ -2,7 +2,7 @@ use Rattle.std.proofs.Common.{List, ℕ, chars, ◌++◌, sym, ap, ◌∙◌}
 use Rattle.rp_ops.specs.Outcome.{gives, state_of}
 use Rattle.rp_show.specs.Show.{printed}
 use Rattle.rp_show.specs.ShowView.{added}
-use Rattle.rp_native.proofs.Lines.{passes_on, stops}
+use Rattle.rp_show.proofs.CallerLemmas.{passes_on, stops}
 use Rattle.rp_native.proofs.print.print_text.Goals as goal
 
 pub returns-in_err-charge_text-clause-plain : goal.returns-in_err-charge_text-clause-plain

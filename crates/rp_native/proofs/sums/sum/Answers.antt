@@ -3,7 +3,8 @@ use Rattle.rp_base.specs.declared.value.Value.{Value}
 use Rattle.rp_ops.specs.Outcome.{Meets, state_of}
 use Rattle.rp_ops.specs.Walk.{elements}
 use Rattle.rp_native.specs.Walked.{sum_of}
-use Rattle.rp_native.proofs.Outcomes.{goes-on, passes-on}
+use Rattle.rp_native.proofs.Outcomes.{goes-on}
+use Rattle.rp_ops.proofs.CallerLemmas.{passes-on}
 use Rattle.rp_native.proofs.sums.sum.Goals as goal
 
 pub returns-in_err-values-clause-plain : goal.returns-in_err-values-clause-plain

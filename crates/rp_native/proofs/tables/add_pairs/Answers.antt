@@ -6,8 +6,7 @@ use Rattle.rp_base.specs.declared.value.Value.TheVariants as value
 use Rattle.rp_store.specs.Heap.{Owned}
 use Rattle.rp_store.specs.Kept.{AreSound, IsSound}
 use Rattle.rp_store.specs.Object as object
-use Rattle.rp_store.proofs.CallerLemmas.{KeepsCounters-trans}
-use Rattle.rp_store.proofs.Shapes.{IsSound-last}
+use Rattle.rp_store.proofs.CallerLemmas.{IsSound-last, KeepsCounters-trans}
 use Rattle.rp_native.specs.Tables.{numbered, references}
 use Rattle.rp_native.proofs.TableRows.{Gains-tuples, all-yielded, length-numbered, nothing-left, one-yielded, pair-place, pair-sound, pairs-more, references-count, references-more}
 use Rattle.rp_native.proofs.tables.add_pairs.Goals as goal

@@ -7,8 +7,7 @@ use Rattle.rp_base.specs.declared.value.Value.TheVariants as value
 use Rattle.rp_store.specs.Heap.{Owned}
 use Rattle.rp_store.specs.Kept.{AreSound, IsSound}
 use Rattle.rp_store.specs.Object as object
-use Rattle.rp_store.proofs.CallerLemmas.{KeepsCounters-trans}
-use Rattle.rp_store.proofs.Shapes.{IsSound-last}
+use Rattle.rp_store.proofs.CallerLemmas.{IsSound-last, KeepsCounters-trans}
 use Rattle.rp_native.specs.TableView.{rows_of}
 use Rattle.rp_native.proofs.TableRows.{Gains-tuples, Row, next-place, one-yielded, references-more, tuples-more}
 use Rattle.rp_native.proofs.tables.add_tuples.Goals as goal

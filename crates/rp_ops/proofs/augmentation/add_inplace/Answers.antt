@@ -3,7 +3,8 @@ use Rattle.rp_base.specs.declared.operator.BinOp.TheVariants as op
 use Rattle.rp_base.specs.declared.value.Value.{Value}
 use Rattle.rp_ops.specs.Growth.{IsSequenceOf}
 use Rattle.rp_ops.specs.Outcome.{Meets, Outcome, state_of}
-use Rattle.rp_ops.proofs.Inplaces.{KeepsShape-Gains, inplace-add, inplace-none, list-named}
+use Rattle.rp_ops.proofs.Inplaces.{inplace-add, inplace-none, list-named}
+use Rattle.rp_ops.proofs.CallerLemmas.{KeepsShape-Gains}
 use Rattle.rp_ops.proofs.augmentation.add_inplace.Goals as goal
 
 pub extend-requires-clause-list : goal.extend-requires-clause-list

@@ -7,7 +7,7 @@ use Rattle.rp_ops.specs.Inplace.{extends}
 use Rattle.rp_ops.specs.Outcome.{Meets, Outcome, on_value, state_of}
 use Rattle.rp_ops.specs.View.{grows}
 use Rattle.rp_ops.specs.Walk.{elements}
-use Rattle.rp_ops.proofs.Walks.{passes-on}
+use Rattle.rp_ops.proofs.CallerLemmas.{passes-on}
 use Rattle.rp_ops.proofs.augmentation.extend.Goals as goal
 
 pub returns-in_err-values-clause-plain : goal.returns-in_err-values-clause-plain

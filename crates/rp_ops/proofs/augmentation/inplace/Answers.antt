@@ -2,7 +2,8 @@ use Rattle.std.proofs.Common.{subst, sym}
 use Rattle.rp_base.specs.declared.value.Value.{Value}
 use Rattle.rp_ops.specs.Growth.{IsSequenceOf}
 use Rattle.rp_ops.specs.Outcome.{Meets, Outcome, state_of}
-use Rattle.rp_ops.proofs.Inplaces.{KeepsShape-Gains, inplace-other}
+use Rattle.rp_ops.proofs.Inplaces.{inplace-other}
+use Rattle.rp_ops.proofs.CallerLemmas.{KeepsShape-Gains}
 use Rattle.rp_ops.proofs.augmentation.inplace.Goals as goal
 
 pub returns-in_default-clause-plain : goal.returns-in_default-clause-plain

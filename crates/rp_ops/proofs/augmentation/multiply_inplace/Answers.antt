@@ -8,7 +8,8 @@ use Rattle.rp_ops.specs.Inplace.{repeats_list}
 use Rattle.rp_ops.specs.Operand.{number_of, operand}
 use Rattle.rp_ops.specs.Outcome.{Meets, Outcome, state_of}
 use Rattle.rp_ops.specs.View.{held_by}
-use Rattle.rp_ops.proofs.Inplaces.{KeepsShape-Gains, inplace-mul, inplace-none, list-named}
+use Rattle.rp_ops.proofs.Inplaces.{inplace-mul, inplace-none, list-named}
+use Rattle.rp_ops.proofs.CallerLemmas.{KeepsShape-Gains}
 use Rattle.rp_ops.proofs.augmentation.multiply_inplace.Goals as goal
 
 pub repeat_in_place-requires-clause-list : goal.repeat_in_place-requires-clause-list

@@ -2,7 +2,8 @@ use Rattle.std.proofs.Common.{◌≡◌, ◌∷◌, ◌+◌, ◌∙◌, List, �
 use Rattle.std.specs.Str.{IsCharBoundary}
 use Rattle.std.specs.Str.Iter.{chars_rest}
 use Rattle.rp_ops.specs.Standing.{letters_left}
-use Rattle.rp_ops.proofs.Cursors.{letters-after, letters-end, letters-first, text-bytes}
+use Rattle.rp_ops.proofs.Cursors.{letters-after, letters-end, letters-first}
+use Rattle.rp_base.proofs.CallerLemmas.{bytes_from_view}
 use Rattle.rp_ops.proofs.cursor.letter_at.Goals as goal
 
 pub returns-then-at-text-clause-end : goal.returns-then-at-text-clause-end
@@ -11,7 +12,7 @@ returns-then-at-text-clause-end c =
 
 pub range_from-requires : goal.range_from-requires
 range_from-requires c =
-    (λ _. subst (λ (bs : List ℕ). IsCharBoundary bs c.args.at) (text-bytes c.as_str-text.result.now c.args.text.now c.as_str-text.utf8 c.as_str-text.ensures) c.requires)
+    (λ _. subst (λ (bs : List ℕ). IsCharBoundary bs c.args.at) (bytes_from_view c.as_str-text.result.now c.args.text.now c.as_str-text.utf8 c.as_str-text.ensures) c.requires)
 
 pub returns-clause-letter : goal.returns-clause-letter
 returns-clause-letter c =

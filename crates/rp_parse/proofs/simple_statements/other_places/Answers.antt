@@ -7,11 +7,11 @@ use Rattle.rp_grammar.specs.Kinds.{Tokens, first}
 use Rattle.rp_grammar.specs.ExpressionReading as reading
 use Rattle.rp_grammar.proofs.Loops.{begin_one, answered, listed_keeps, listed_shuts, listed_ends}
 use Rattle.rp_grammar.proofs.ExpressionTakes.{skip_within}
-use Rattle.rp_grammar.proofs.Turns.{alike_reads}
 use Rattle.rp_parse.specs.Gives.{deep}
 use Rattle.rp_grammar.specs.StatementReading.{place}
 use Rattle.rp_parse.proofs.Turns.{front_list, places_short}
 use Rattle.rp_expr.proofs.Faults.{listed_fails, alike_fails}
+use Rattle.rp_grammar.proofs.Basics.{alike_reads}
 use Rattle.rp_parse.proofs.simple_statements.other_places.Goals as goal
 
 abbrev cons : Place → List Place → List Place

@@ -2,7 +2,8 @@ use Rattle.std.proofs.Common.{◌||◌, nat_eq, chars, codes, refl, sym, ap, ◌
 use Rattle.std.specs.List.{ends_with}
 use Rattle.std.proofs.lemmas.Str.Pattern.{ends_text}
 use Rattle.rp_policy.specs.Forbidden.{is_forbidden_name}
-use Rattle.rp_policy.proofs.Spelled.{IsAscii-tested, ends_with-chars}
+use Rattle.rp_base.proofs.CallerLemmas.{IsAscii-tested}
+use Rattle.rp_policy.proofs.Spelled.{ends_with-chars}
 use Rattle.rp_policy.proofs.forbidden_words.is_forbidden_name.Goals as goal
 
 pub returns-then-is_private : goal.returns-then-is_private

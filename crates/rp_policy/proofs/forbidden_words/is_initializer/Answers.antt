@@ -1,6 +1,7 @@
 use Rattle.std.proofs.Common.{codes, refl, ◌∙◌}
 use Rattle.rp_policy.specs.Forbidden.{is_initializer}
-use Rattle.rp_policy.proofs.Spelled.{IsAscii-tested, same_text-chars}
+use Rattle.rp_base.proofs.CallerLemmas.{IsAscii-tested}
+use Rattle.rp_policy.proofs.Spelled.{same_text-chars}
 use Rattle.rp_policy.proofs.forbidden_words.is_initializer.Goals as goal
 
 pub returns : goal.returns

@@ -2,7 +2,8 @@ use Rattle.std.proofs.Common.{◌≡◌, ◌&&◌, true, false, not, nat_eq, cha
 use Rattle.std.specs.List.{starts_with}
 use Rattle.std.proofs.lemmas.Str.Pattern.{starts_text}
 use Rattle.rp_base.specs.Same.{same_text}
-use Rattle.rp_policy.proofs.Spelled.{IsAscii-tested, same_text-chars, starts_with-chars}
+use Rattle.rp_base.proofs.CallerLemmas.{IsAscii-tested}
+use Rattle.rp_policy.proofs.Spelled.{same_text-chars, starts_with-chars}
 use Rattle.rp_policy.proofs.forbidden_words.is_private.Goals as goal
 
 pub returns-then-starts_with : goal.returns-then-starts_with

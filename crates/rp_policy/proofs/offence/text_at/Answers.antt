@@ -3,7 +3,7 @@ use Rattle.std.specs.Fmt.{decimal}
 use Rattle.std.specs.Str.{IsAscii}
 use Rattle.std.proofs.lemmas.Fmt.{IsAscii-decimal}
 use Rattle.std.proofs.lemmas.Str.{IsAscii-append, IsUtf8-from_ascii, chars-IsAscii, chars-append}
-use Rattle.rp_policy.proofs.Spelled.{IsAscii-tested}
+use Rattle.rp_base.proofs.CallerLemmas.{IsAscii-tested}
 use Rattle.rp_policy.proofs.offence.text_at.Goals as goal
 
 regrouped : (a b c d e f : List ℕ) → (a ++ b ++ c ++ d) ++ (e ++ f) ≡ a ++ b ++ c ++ (d ++ e ++ f)

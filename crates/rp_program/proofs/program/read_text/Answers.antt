@@ -1,13 +1,11 @@
-use Rattle.std.proofs.Common.{◌≡◌, ◌∙◌, chars, map, subst, sym, Ok}
+use Rattle.std.proofs.Common.{◌≡◌, ◌∙◌, chars, map, sym, Ok}
 use Rattle.std.proofs.lemmas.Result.{err_from_is_err_and}
 use Rattle.rp_base.specs.Names.{with_words}
-use Rattle.rp_base.proofs.Words.{with_words-then}
+use Rattle.rp_base.proofs.CallerLemmas.{with_words-then}
 use Rattle.rp_token.specs.NameWords.{name_words, words_of}
 use Rattle.rp_token.specs.Tokens.{tokens_of}
 use Rattle.rp_token.specs.View.{item_view}
 use Rattle.rp_more.specs.Expanded.{expanded}
-use Rattle.rp_grammar.specs.Leaves.{HasLeavesOf}
-use Rattle.rp_grammar.specs.Program.{Spells}
 use Rattle.rp_tree.specs.StatementViews.{view_tree}
 use Rattle.rp_program.specs.ProgramWords.{item_words}
 use Rattle.rp_program.proofs.Leaves.{tree_held, tree_unnumbered}
@@ -30,10 +28,8 @@ returns-in_err-parse-clause-refused c =
     let expansion = c.in_ok-expanded.ensures.expanded in
     let is = is_read c.args.text.now c.tokens.new.names names c.in_ok-given.given.items ts c.utf8.text c.hold_each_once.ensures c.in_ok-expanded.ensures.held
     c.in_ok-given.ensures.tokens expansion in
-    let only = rw c.as_slice.ensures.value at c.in_err-parse.ensures.only in
-    let fault = rw c.as_slice.ensures.value at c.in_err-parse.ensures.syntax in
     let p = err_from_is_err_and c.from_residual-in_err-parse.result c.from_residual-in_err-parse.ensures.1 in
-    rw p.1 (refused_by_parse c.args.text.now names ts is c.in_err-parse.field-0.0 only fault p.0 p.2)
+    rw p.1 (refused_by_parse c.args.text.now names ts is c.in_err-parse.field-0.0 c.in_err-parse.ensures.only c.in_err-parse.ensures.syntax p.0 p.2)
 
 pub returns-in_err-parse-clause-only : goal.returns-in_err-parse-clause-only
 returns-in_err-parse-clause-only c = λ tree program.
@@ -42,10 +38,8 @@ returns-in_err-parse-clause-only c = λ tree program.
     let expansion = c.in_ok-expanded.ensures.expanded in
     let is = is_read c.args.text.now c.tokens.new.names names c.in_ok-given.given.items ts c.utf8.text c.hold_each_once.ensures c.in_ok-expanded.ensures.held
     c.in_ok-given.ensures.tokens expansion in
-    let only = rw c.as_slice.ensures.value at c.in_err-parse.ensures.only in
-    let fault = rw c.as_slice.ensures.value at c.in_err-parse.ensures.syntax in
     let p = err_from_is_err_and c.from_residual-in_err-parse.result c.from_residual-in_err-parse.ensures.1 in
-    rw p.1 (no_fault c.args.text.now tree program p.0 (refused_by_parse c.args.text.now names ts is c.in_err-parse.field-0.0 only fault p.0 p.2))
+    rw p.1 (no_fault c.args.text.now tree program p.0 (refused_by_parse c.args.text.now names ts is c.in_err-parse.field-0.0 c.in_err-parse.ensures.only c.in_err-parse.ensures.syntax p.0 p.2))
 
 pub returns-clause-program : goal.returns-clause-program
 returns-clause-program c =
@@ -55,7 +49,7 @@ returns-clause-program c =
     let is = is_read c.args.text.now c.tokens.new.names names c.in_ok-given.given.items ts c.utf8.text c.hold_each_once.ensures c.in_ok-expanded.ensures.held
     c.in_ok-given.ensures.tokens expansion in
     let tree = view_tree c.in_ok-parse.field-0 in
-    read_program c.args.text.now names ts is tree (subst (Spells tree) c.as_slice.ensures.value c.in_ok-parse.ensures.spelled)
+    read_program c.args.text.now names ts is tree c.in_ok-parse.ensures.spelled
 
 pub returns-clause-one : goal.returns-clause-one
 returns-clause-one c = one_program c.args.text.now
@@ -68,16 +62,15 @@ returns-clause-only c = λ tree program.
     let is = is_read c.args.text.now c.tokens.new.names names c.in_ok-given.given.items ts c.utf8.text c.hold_each_once.ensures c.in_ok-expanded.ensures.held
     c.in_ok-given.ensures.tokens expansion in
     let read = view_tree c.in_ok-parse.field-0 in
-    one_program c.args.text.now _ tree (read_program c.args.text.now names ts is read (subst (Spells read) c.as_slice.ensures.value c.in_ok-parse.ensures.spelled)) program
+    one_program c.args.text.now _ tree (read_program c.args.text.now names ts is read c.in_ok-parse.ensures.spelled) program
 
 pub returns-clause-held : goal.returns-clause-held
 returns-clause-held c =
     let tree = view_tree c.in_ok-parse.field-0 in
-    tree_held c.expand.new.names c.in_ok-expanded.expanded.items tree c.in_ok-expanded.ensures.held
-    (subst (λ ts. HasLeavesOf ts tree) c.as_slice.ensures.value c.in_ok-parse.ensures.leaves)
+    tree_held c.expand.new.names c.in_ok-expanded.expanded.items tree c.in_ok-expanded.ensures.held c.in_ok-parse.ensures.leaves
 
 pub returns-clause-unnumbered : goal.returns-clause-unnumbered
-returns-clause-unnumbered c = tree_unnumbered c.as_slice.result.now (view_tree c.in_ok-parse.field-0) c.in_ok-parse.ensures.leaves
+returns-clause-unnumbered c = tree_unnumbered c.in_ok-expanded.expanded.items (view_tree c.in_ok-parse.field-0) c.in_ok-parse.ensures.leaves
 
 pub returns-clause-words : goal.returns-clause-words
 returns-clause-words c =

@@ -1,5 +1,5 @@
 use Rattle.std.proofs.Common.{◌≡◌, ◌++◌, codes, ◌∙◌, sym, append_assoc, append-nil}
-use Rattle.rp_run.proofs.Ascii.{detail-some, detail-none}
+use Rattle.rp_run.proofs.Bytes.{detail-some, detail-none}
 use Rattle.rp_run.proofs.answer.add_detail.Goals as goal
 
 pub returns-then-is_empty : goal.returns-then-is_empty

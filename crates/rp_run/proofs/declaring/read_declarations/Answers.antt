@@ -33,7 +33,6 @@ returns-in-Ok-clause-well g c = record {
   held = c.in-Ok.ensures.held;
   consistent = c.in-Ok.ensures.consistent;
   ordered = c.in-Ok.ensures.ordered;
-  apart = c.in-Ok.ensures.apart;
 }
 
 pub returns-clause-refused : goal.returns-clause-refused

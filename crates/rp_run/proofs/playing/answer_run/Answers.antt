@@ -1,7 +1,6 @@
 use Rattle.std.proofs.lemmas.Result.{err_from_is_err_and}
 use Rattle.std.proofs.Common.{ap, Err}
-use Rattle.rp_decl.specs.View.{declarations_view}
-use Rattle.rp_run.proofs.RunSteps.{played_so, refused_so}
+use Rattle.rp_run.proofs.RunSteps.{played_so, refused_told}
 use Rattle.rp_run.proofs.Sayings.{stop_of}
 use Rattle.rp_words.specs.View.{run_view}
 use Rattle.rp_run.proofs.playing.answer_run.Goals as goal
@@ -9,7 +8,7 @@ use Rattle.rp_run.proofs.playing.answer_run.Goals as goal
 pub returns-in_err-ready-clause-told : goal.returns-in_err-ready-clause-told
 returns-in_err-ready-clause-told g c =
     let p = err_from_is_err_and c.from_residual.result c.from_residual.ensures.1 in
-    rw (p.1, p.2) (refused_so (run_view c.args.command.now) _ _ c.in_err-ready.ensures.refused)
+    rw (p.1, p.2) (refused_told (run_view c.args.command.now) _ _ c.in_err-ready.ensures.refused)
 
 pub returns-in_err-ready-clause-status : goal.returns-in_err-ready-clause-status
 returns-in_err-ready-clause-status g c =
@@ -28,7 +27,5 @@ returns-in_err-ready-clause-cause g c = λ failed.
 
 pub returns-clause-told : goal.returns-clause-told
 returns-clause-told g c =
-    let ready = c.in_ok-ready.ready in
-    played_so (run_view c.args.command.now)
-    (declarations_view ready.names ready.decl) ready.names _ _ _ _ c.in_ok-ready.ensures.ready
-    c.in_ok-ready.ensures.names c.in_ok-run_scripts.ensures.told
+    played_so (run_view c.args.command.now) c.in_ok-ready.ready _ _ _ c.in_ok-ready.ensures.ready
+    c.in_ok-run_scripts.ensures.told

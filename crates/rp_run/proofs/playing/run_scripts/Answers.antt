@@ -1,55 +1,51 @@
-use Rattle.std.proofs.Common.{◌≡◌, ℕ, List, map, refl}
-use Rattle.rp_decl.specs.View.{declarations_view}
-use Rattle.rp_first.specs.View.{statement_view}
-use Rattle.rp_tree.specs.StatementTrees.{Stmts}
-use Rattle.rp_run.proofs.Ended.{played_status, told_there, told_where}
-use Rattle.rp_run.proofs.FirstForms.{alone}
-use Rattle.rp_run.specs.FirstSteps.{ReadsFirst}
-use Rattle.rp_run.specs.Told.{IsNoFirst, ToldPlayed}
-use Rattle.rp_run.specs.View.{program_of}
+use Rattle.std.proofs.Common.{◌≡◌, map, refl, sym}
+use Rattle.rp_play.specs.Played.{Plays}
+use Rattle.rp_run.proofs.Blocks.{AreToldSo, all-told}
+use Rattle.rp_run.proofs.Ended.{ran_status, told_ran, told_there}
+use Rattle.rp_run.specs.Output.{as_told, run_status, run_text}
+use Rattle.rp_run.specs.SetUp.{programs_in}
+use Rattle.rp_session.specs.View.{sessions_view}
+use Rattle.rp_tree.specs.StatementViews.{view_tree}
+use Rattle.rp_words.specs.Command.{Pair}
 use Rattle.rp_words.specs.View.{run_view}
+use Rattle.rp_world.specs.Worlds.{world_view}
 use Rattle.rp_run.proofs.playing.run_scripts.Goals as goal
 
-pub play_only-requires : goal.play_only-requires
-play_only-requires c =
-    let reads = rw (c.as_slice-trees.ensures.value, c.in-Some.is) at c.in_ok-forms.ensures.first in
+pub answer_sessions-requires : goal.answer_sessions-requires
+answer_sessions-requires c = record {
+  as_many = sym c.in-Ok.ensures.count;
+  ended = c.in-Ok.ensures.ended;
+  held =
+      c.in-Ok.ensures.ready.faithful.entries;
+}
+
+pub returns-in-Ok-clause-told : goal.returns-in-Ok-clause-told
+returns-in-Ok-clause-told c =
+    let r = run_view c.args.command.now in
+    let x = c.args.ready in
+    let w = world_view x.loaded.world in
+    let body = view_tree x.loaded.module in
+    let trees = programs_in x.loaded.world x.scripts.items in
+    let sessions = c.in-Ok.sessions in
+    let all = all-told sessions.list.items c.in-Ok.ensures.ended in
+    let log = (sessions_view sessions).log in
+    let plays : Plays w body trees (map (λ (p : Pair). p.ids) r.pairs) r.turns r.steps (map as_told all.0) log =
     record {
-      ready = c.requires.ready;
-      alone = alone (run_view c.args.command.now) c.args.command.now.pairs.items refl reads.plain;
-      fields = reads.fields;
-      held = rw c.in-Some.is at c.in_ok-forms.ensures.held;
-    }
+      last = sessions_view sessions;
+      reaches = c.in-Ok.ensures.reaches;
+      sessions = sym all.1;
+      entries = refl;
+    } in
+    told_ran r body w trees all.0 log c.answer_sessions.result plays
+    (told_there (λ fs. AreToldSo fs sessions.list.items) (λ fs a.
+    a.text ≡ run_text r fs log) c.answer_sessions.result c.answer_sessions.ensures.text all.0 all.1)
+    (told_there (λ fs. AreToldSo fs sessions.list.items) (λ fs a.
+    a.status.0 ≡ run_status fs) c.answer_sessions.result c.answer_sessions.ensures.status all.0 all.1)
 
-pub returns-in-Some-clause-told : goal.returns-in-Some-clause-told
-returns-in-Some-clause-told c =
-    let names = c.args.ready.names in
-    let d = declarations_view names c.args.ready.decl in
-    let r = run_view c.args.command.now in
-    told_there (λ (trees : List (Stmts (List ℕ))). ReadsFirst r d trees (map (statement_view names) c.in-Some.forms))
-    (λ trees a. ToldPlayed r d names trees a.text a.status.0)
-    c.play_only.result c.play_only.ensures.told (map (program_of names) c.args.ready.trees.items)
-    (rw (c.as_slice-trees.ensures.value, c.in-Some.is) at c.in_ok-forms.ensures.first)
-
-pub returns-in-None-clause-told : goal.returns-in-None-clause-told
-returns-in-None-clause-told c =
-    let names = c.args.ready.names in
-    let d = declarations_view names c.args.ready.decl in
-    let r = run_view c.args.command.now in
-    let trees = map (program_of names) c.args.ready.trees.items in
-    told_where (IsNoFirst r d trees) (λ a. ToldPlayed r d names trees a.text a.status.0)
-    c.play_scripts.result c.play_scripts.ensures.told
-    (rw (c.as_slice-trees.ensures.value, c.in-None.is) at c.in_ok-forms.ensures.first)
-
-pub returns-in-Some-clause-status : goal.returns-in-Some-clause-status
-returns-in-Some-clause-status c =
-    let names = c.args.ready.names in
-    let d = declarations_view names c.args.ready.decl in
-    played_status (run_view c.args.command.now) d names
-    (map (program_of names) c.args.ready.trees.items) c.play_only.result (returns-in-Some-clause-told c)
-
-pub returns-in-None-clause-status : goal.returns-in-None-clause-status
-returns-in-None-clause-status c =
-    let names = c.args.ready.names in
-    let d = declarations_view names c.args.ready.decl in
-    played_status (run_view c.args.command.now) d names
-    (map (program_of names) c.args.ready.trees.items) c.play_scripts.result (returns-in-None-clause-told c)
+pub returns-in-Ok-clause-status : goal.returns-in-Ok-clause-status
+returns-in-Ok-clause-status c =
+    let sessions = c.in-Ok.sessions in
+    let all = all-told sessions.list.items c.in-Ok.ensures.ended in
+    ran_status all.0 c.answer_sessions.result
+    (told_there (λ fs. AreToldSo fs sessions.list.items) (λ fs a.
+    a.status.0 ≡ run_status fs) c.answer_sessions.result c.answer_sessions.ensures.status all.0 all.1)

@@ -1,6 +1,7 @@
 use Rattle.std.proofs.Common.{map, string_bytes}
 use Rattle.std.proofs.lemmas.List.{length-map}
 use Rattle.rp_run.proofs.FewPairs.{few-pairs}
+use Rattle.rp_run.proofs.LargeSizes.{large-within}
 use Rattle.rp_words.specs.View.{pair_view, run_view}
 use Rattle.rp_run.proofs.program.obey.Goals as goal
 
@@ -10,3 +11,13 @@ answer_run-requires-clause-few g c =
     let gives = rw c.in-Ok-Run.field-0-is at c.in-Ok-Run.ensures.read in
     let few = few-pairs (map string_bytes c.args.words.now) (run_view run) gives in
     rw (length-map run.pairs.items pair_view) at few
+
+pub answer_large-requires-clause-some : goal.answer_large-requires-clause-some
+answer_large-requires-clause-some g c =
+    let gives = rw c.in-Ok-Large.field-0-is at c.in-Ok-Large.ensures.read in
+    (large-within (map string_bytes c.args.words.now) c.in-Ok-Large.size gives).0
+
+pub answer_large-requires-clause-most : goal.answer_large-requires-clause-most
+answer_large-requires-clause-most g c =
+    let gives = rw c.in-Ok-Large.field-0-is at c.in-Ok-Large.ensures.read in
+    (large-within (map string_bytes c.args.words.now) c.in-Ok-Large.size gives).1

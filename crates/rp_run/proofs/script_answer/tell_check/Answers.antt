@@ -1,5 +1,5 @@
 use Rattle.std.proofs.Common.{[], refl}
-use Rattle.rp_run.proofs.Ascii.{chars-ascii}
+use Rattle.rp_base.proofs.CallerLemmas.{chars-ascii}
 use Rattle.rp_run.proofs.Asked.{tells_accepted, tells_unaccepted}
 use Rattle.rp_run.specs.Told.{said_to}
 use Rattle.rp_words.specs.declared.command.Question.TheVariants.{Check}

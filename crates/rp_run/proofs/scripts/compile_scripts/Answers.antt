@@ -1,10 +1,10 @@
 use Rattle.std.proofs.Common.{◌≡◌, ◌∙◌, refl, sym}
-use Rattle.rp_run.proofs.Ascii.{empty_chars, some_chars}
+use Rattle.rp_run.proofs.Bytes.{empty_chars, some_chars}
 use Rattle.rp_run.proofs.Compiling.{end-compiled, end-count, end-refused, end-words, goes-start, goes-turn}
 use Rattle.rp_run.proofs.scripts.compile_scripts.Goals as goal
 
 pub loop-place-init : goal.loop-place-init
-loop-place-init c = rw (c.new-trees.ensures.items, c.new-said.ensures) (goes-start _ c.args.names.now)
+loop-place-init c = rw (c.new-all.ensures.items, c.new-said.ensures) (goes-start _ c.args.names.now)
 
 pub loop-place-preserved : goal.loop-place-preserved
 loop-place-preserved c =

@@ -5,9 +5,10 @@ use Rattle.rp_scope.specs.Bindings as bindings
 use Rattle.rp_scope.specs.Bindings.{all_bound}
 use Rattle.rp_scope.specs.MentionSteps.{listed}
 use Rattle.rp_scope.proofs.Appends.{grown}
-use Rattle.rp_scope.proofs.Listings.{listings, listed-append, inner_none, on_ok, maybe_part, listed_four, grew}
+use Rattle.rp_scope.proofs.Listings.{listings, listed-append, inner_none, on_ok, maybe_part, listed_four}
 use Rattle.rp_tree.proofs.ExpressionEquations.{walk_out}
 use Rattle.rp_tree.proofs.StatementEquations.{stmt_out, branch_out, except_out, stmt_for, stmt_try}
+use Rattle.rp_scope.proofs.Laid.{grown_four}
 use Rattle.rp_scope.proofs.mentions.+note_stmts.Goals as goal
 
 pub note_stmts-stmts-preserved : goal.note_stmts-stmts-preserved
@@ -37,4 +38,4 @@ note_form-returns-in_ok-note_stmts-in-Try-2 t c =
     let handlers : c.note_handlers.new.list.items ≡ c.note_stmts-in-Try.new.list.items ++ listed c.args.listing (bindings.excepts_mentions (stmt_views.excepts_of (map stmt_views.view_except c.in-Try.handlers.items))) = first_of (search rules, grind arith, grind (arith, common_steps)) in
     let other : c.note_stmts-in-Try-2.new.list.items ≡ c.note_handlers.new.list.items ++ listed c.args.listing (bindings.maybe_mentions (stmt_views.view_maybe_stmts c.in-Try.other)) = first_of (grind (arith, common_steps, maybe_part), search (rules, maybe_part), grind (arith, maybe_part)) in
     let form : bindings.form_mentions (stmt_views.view_stmt_form c.args.form.now) ≡ bindings.stmts_mentions (stmt_views.view_stmts c.in-Try.body.items) ++ bindings.excepts_mentions (stmt_views.excepts_of (map stmt_views.view_except c.in-Try.handlers.items)) ++ bindings.maybe_mentions (stmt_views.view_maybe_stmts c.in-Try.other) ++ bindings.maybe_mentions (stmt_views.view_maybe_stmts c.in-Try.last) = ap bindings.form_mentions (ap stmt_views.view_stmt_form c.in-Try.is ∙ stmt_try c.in-Try.body c.in-Try.handlers c.in-Try.other c.in-Try.last) in
-    on_ok c.note_stmts-in-Try-3.result c.note_stmts-in-Try-3.ensures (λ h. let last : c.note_stmts-in-Try-3.new.list.items ≡ c.note_stmts-in-Try-2.new.list.items ++ listed c.args.listing (bindings.maybe_mentions (stmt_views.view_maybe_stmts c.in-Try.last)) = first_of (grind (arith, common_steps, maybe_part), search (rules, maybe_part), grind (arith, maybe_part)) in grew c.args.list.now.items (listed c.args.listing (bindings.stmts_mentions (stmt_views.view_stmts c.in-Try.body.items))) (listed c.args.listing (bindings.excepts_mentions (stmt_views.excepts_of (map stmt_views.view_except c.in-Try.handlers.items)))) (listed c.args.listing (bindings.maybe_mentions (stmt_views.view_maybe_stmts c.in-Try.other))) (listed c.args.listing (bindings.maybe_mentions (stmt_views.view_maybe_stmts c.in-Try.last))) c.note_stmts-in-Try.new.list.items c.note_handlers.new.list.items c.note_stmts-in-Try-2.new.list.items c.note_stmts-in-Try-3.new.list.items body handlers other last ∙ ap (λ ms. c.args.list.now.items ++ ms) (sym (ap (listed c.args.listing) form ∙ listed_four c.args.listing (bindings.stmts_mentions (stmt_views.view_stmts c.in-Try.body.items)) (bindings.excepts_mentions (stmt_views.excepts_of (map stmt_views.view_except c.in-Try.handlers.items))) (bindings.maybe_mentions (stmt_views.view_maybe_stmts c.in-Try.other)) (bindings.maybe_mentions (stmt_views.view_maybe_stmts c.in-Try.last)))))
+    on_ok c.note_stmts-in-Try-3.result c.note_stmts-in-Try-3.ensures (λ h. let last : c.note_stmts-in-Try-3.new.list.items ≡ c.note_stmts-in-Try-2.new.list.items ++ listed c.args.listing (bindings.maybe_mentions (stmt_views.view_maybe_stmts c.in-Try.last)) = first_of (grind (arith, common_steps, maybe_part), search (rules, maybe_part), grind (arith, maybe_part)) in grown_four c.args.list.now.items (listed c.args.listing (bindings.stmts_mentions (stmt_views.view_stmts c.in-Try.body.items))) (listed c.args.listing (bindings.excepts_mentions (stmt_views.excepts_of (map stmt_views.view_except c.in-Try.handlers.items)))) (listed c.args.listing (bindings.maybe_mentions (stmt_views.view_maybe_stmts c.in-Try.other))) (listed c.args.listing (bindings.maybe_mentions (stmt_views.view_maybe_stmts c.in-Try.last))) c.note_stmts-in-Try.new.list.items c.note_handlers.new.list.items c.note_stmts-in-Try-2.new.list.items c.note_stmts-in-Try-3.new.list.items body handlers other last ∙ ap (λ ms. c.args.list.now.items ++ ms) (sym (ap (listed c.args.listing) form ∙ listed_four c.args.listing (bindings.stmts_mentions (stmt_views.view_stmts c.in-Try.body.items)) (bindings.excepts_mentions (stmt_views.excepts_of (map stmt_views.view_except c.in-Try.handlers.items))) (bindings.maybe_mentions (stmt_views.view_maybe_stmts c.in-Try.other)) (bindings.maybe_mentions (stmt_views.view_maybe_stmts c.in-Try.last)))))

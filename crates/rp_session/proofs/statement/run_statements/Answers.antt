@@ -11,7 +11,6 @@ pub run_block-requires-clause-ready : goal.run_block-requires-clause-ready
 run_block-requires-clause-ready c = record {
   machine = record {
     faithful = c.requires.faithful;
-    block = c.requires.block;
     scope = c.requires.scope;
     fit = subst (λ (values : List Value). AreFit c.args.world.now.store.heap c.args.side values) (sym c.new-2.ensures) (All-nil _);
     indexed = c.requires.indexed;

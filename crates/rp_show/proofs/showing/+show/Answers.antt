@@ -11,8 +11,9 @@ use Rattle.rp_show.specs.Show.{content_shown, enclosed, is_among, object_shown, 
 use Rattle.rp_show.specs.Shown.{shown_inside}
 use Rattle.rp_show.specs.ShowView.{Item, Writes, added, cells_of, closing, element_item, entry_item, item_of, inner, items, moment, named_text, object_within, opening, turn}
 use Rattle.rp_show.proofs.Marks.{chars-closing, chars-cut, chars-opening}
-use Rattle.rp_show.proofs.Lines.{Prints-as, enclosed-first, enclosed-on, enclosed-second, first_of_rest, stops}
+use Rattle.rp_show.proofs.Lines.{Prints-as, enclosed-first, enclosed-on, enclosed-second, stops}
 use Rattle.rp_show.proofs.Turns.{among-reverse, container-deep, container-parts, content-named, object-none, object-some, rest-on, rest-stops, shown-prox, shown-ref, shown-rock, turn-gap_stops, turn-key_stops, turn-on, turn-step_stops}
+use Rattle.rp_base.proofs.CallerLemmas.{drop_here}
 use Rattle.rp_show.proofs.showing.+show.Goals as goal
 
 -- ---- values
@@ -246,7 +247,7 @@ show_elements-loop-element-preserved t c =
     let end = moment heap c.show_item.new.page.printer.purse c.show_item.new.meter.left in
     let line = l.page.printer.line in
     let after = c.show_item.new.page.printer.line in
-    let first : drop i xs ≡ x ∷ drop (i + 1) xs = first_of_rest xs i x (omega arith) c.element-item.is in
+    let first : drop i xs ≡ x ∷ drop (i + 1) xs = drop_here xs i x (omega arith) c.element-item.is in
     record {
       plain = l.invariant.plain
           ∙ rest-on (item_of names c.args.left (reverse c.args.page.now.outer.items)) l.first (element_item x) (map element_item (drop i xs)) (map element_item (drop (i + 1) xs)) line after s end (ap (map element_item) first)
@@ -270,7 +271,7 @@ show_elements-returns-in_err-show_item-clause-plain t c =
     let line = l.page.printer.line in
     let f = c.in_err-show_item.field-0.0 in
     let one = item_of names c.args.left (reverse c.args.page.now.outer.items) in
-    let first : drop i xs ≡ x ∷ drop (i + 1) xs = first_of_rest xs i x (omega arith) c.element-item.is in
+    let first : drop i xs ≡ x ∷ drop (i + 1) xs = drop_here xs i x (omega arith) c.element-item.is in
     stops c.from_residual.result f c.show_item.new.page.printer.line end (added c.args.page.now.printer.line (separated one (map element_item xs) (moment heap c.args.page.now.printer.purse c.args.meter.now.left)))
     c.from_residual.ensures.1
     (subst (λ (o : Outcome (List ℕ)). Meets {A = List ℕ} (Err f) end o) (sym l.invariant.plain)

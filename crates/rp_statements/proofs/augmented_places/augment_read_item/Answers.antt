@@ -1,9 +1,14 @@
-use Rattle.std.proofs.Common.{◌∙◌}
+use Rattle.std.proofs.Common.{[], ◌∷◌, ap, ◌∙◌}
+use Rattle.rp_base.specs.declared.word.TheConstants.{GET_ITEM}
+use Rattle.rp_ops.specs.Outcome.{on_value}
+use Rattle.rp_engine.proofs.Specials.{item_left}
+use Rattle.rp_engine.specs.Law.{frame_in}
+use Rattle.rp_engine.specs.SpecialSteps.{from_got, special_called}
 use Rattle.rp_meaning.specs.Access as access
 use Rattle.rp_meaning.specs.Statements as forms
 use Rattle.rp_meaning.specs.Statements.{Store}
 use Rattle.rp_expressions.proofs.Asking.{calls_item, item_is}
-use Rattle.rp_engine.proofs.Doings.{does_as, does_end}
+use Rattle.rp_engine.proofs.Doings.{does_as, does_end, does_goes}
 use Rattle.rp_targets.proofs.Steps.{assign_ends, assign_gives}
 use Rattle.rp_engine.proofs.Worlds.{IsReady-goes}
 use Rattle.rp_access.proofs.Going.{IsEnd-same}
@@ -51,5 +56,21 @@ pub returns-in-Err-clause-ready : goal.returns-in-Err-clause-ready
 returns-in-Err-clause-ready c =
     c.cut_off.ensures.ready c.get_item.new.world (IsReady-goes _ _ _ c.args.world.now c.get_item.new.world c.requires.ready c.get_item.ensures.shape c.get_item.ensures.faithful)
 
+pub returns-in-Ok-None-clause-law : goal.returns-in-Ok-None-clause-law
+returns-in-Ok-None-clause-law c =
+    let m = c.args.machine.now in
+    let w = c.args.world.now in
+    let u = c.get_item.new.world in
+    let x = access.get_item c.args.o c.args.i in
+    let store : Store = λ a. forms.assign (does.expr c.args.value.now) (item_augmented c.args.o c.args.i c.args.op a) in
+    let left = rw c.in-Ok-None.field-0-is at c.in-Ok-None.ensures.special in
+    does_goes m c.augment_by_method.new.machine w u c.augment_by_method.result (forms.assign x store)
+    (λ frame s. on_value (special_called GET_ITEM c.args.o (c.args.i ∷ []) frame s) (λ a s. from_got c.args.o c.args.i c.args.op (does.expr c.args.value.now) a frame s))
+    (λ base. ap (λ o. on_value o (λ a s. store a (frame_in base m) s)) (item_left base m.units.now m.frame c.args.o c.args.i (state_of w) (state_of u) left)) c.augment_by_method.ensures.law
+
 pub returns-in-Ok-None-clause-ready : goal.returns-in-Ok-None-clause-ready
-returns-in-Ok-None-clause-ready c = IsReady-goes _ _ _ c.args.world.now c.get_item.new.world c.requires.ready c.get_item.ensures.shape c.get_item.ensures.faithful
+returns-in-Ok-None-clause-ready c =
+    let u = c.get_item.new.world in
+    let side = c.args.machine.now.frame.side in
+    let shape = c.get_item.ensures.shape in
+    c.augment_by_method.ensures.ready u (IsReady-goes _ _ _ c.args.world.now u c.requires.ready shape c.get_item.ensures.faithful) (shape.fit side c.args.o c.requires.o) (shape.fit side c.args.i c.requires.i)

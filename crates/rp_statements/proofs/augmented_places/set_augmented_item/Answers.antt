@@ -19,6 +19,9 @@ set_item-requires-clause-ready c = IsReady-goes _ _ _ c.args.world.now c.augment
 pub set_item-requires-clause-o : goal.set_item-requires-clause-o
 set_item-requires-clause-o c = c.augment.ensures.shape.fit c.args.machine.now.frame.side c.args.o c.requires.o
 
+pub set_item-requires-clause-i : goal.set_item-requires-clause-i
+set_item-requires-clause-i c = c.augment.ensures.shape.fit c.args.machine.now.frame.side c.args.i c.requires.i
+
 pub returns-in-Err-clause-law : goal.returns-in-Err-clause-law
 returns-in-Err-clause-law c =
     let m = c.args.machine.now in

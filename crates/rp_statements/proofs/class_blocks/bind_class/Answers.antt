@@ -13,8 +13,9 @@ returns-in-Ok-clause-law c =
     let m = c.args.machine.now in
     let w = c.args.world.now in
     let u = c.class_with.new.world in
-    does_as m c.bind_made.new.machine w c.bind_made.new.world c.bind_made.result (class_bound c.args.name c.args.methods) (bind_name c.args.name (value.Ref c.in-Ok.at)) u
-    (class_gives m w u c.args.name c.args.methods c.declared_class-declared.result (λ base. c.declared_class-declared.ensures (frame_in base m) refl refl) c.in-Ok.at c.in-Ok.ensures.law) c.bind_made.ensures.law
+    does_as m c.bind_next.new.machine w c.bind_next.new.world c.bind_next.result (class_bound c.args.name c.args.methods) (bind_name c.args.name (value.Ref c.in-Ok.at)) u
+    (class_gives m w u c.args.name c.args.methods c.functions_in-functions.result c.functions_in-functions.ensures.value c.declared_class-declared.result
+    (λ base. c.declared_class-declared.ensures.place (frame_in base m) refl refl) c.in-Ok.at c.in-Ok.ensures.law) c.bind_next.ensures.law
 
 pub returns-in-Err-clause-law : goal.returns-in-Err-clause-law
 returns-in-Err-clause-law c =
@@ -22,10 +23,14 @@ returns-in-Err-clause-law c =
     let w = c.args.world.now in
     let u = c.class_with.new.world in
     does_end m c.cut_off.new.self w u c.cut_off.result (class_bound c.args.name c.args.methods) c.in-Err.end
-    (class_ends m w u c.args.name c.args.methods c.declared_class-declared.result (λ base. c.declared_class-declared.ensures (frame_in base m) refl refl) c.in-Err.end c.in-Err.ensures.law) c.cut_off.ensures.law
+    (class_ends m w u c.args.name c.args.methods c.functions_in-functions.result c.functions_in-functions.ensures.value c.declared_class-declared.result
+    (λ base. c.declared_class-declared.ensures.place (frame_in base m) refl refl) c.in-Err.end c.in-Err.ensures.law) c.cut_off.ensures.law
 
-pub bind_made-requires : goal.bind_made-requires
-bind_made-requires c = record { ready = IsReady-goes _ _ _ c.args.world.now c.class_with.new.world c.requires.ready c.class_with.ensures.shape c.class_with.ensures.faithful }
+pub bind_next-requires-clause-ready : goal.bind_next-requires-clause-ready
+bind_next-requires-clause-ready c = IsReady-goes _ _ _ c.args.world.now c.class_with.new.world c.requires.ready c.class_with.ensures.shape c.class_with.ensures.faithful
+
+pub bind_next-requires-clause-value : goal.bind_next-requires-clause-value
+bind_next-requires-clause-value c = c.in-Ok.ensures.fit
 
 pub returns-in-Err-clause-ready : goal.returns-in-Err-clause-ready
 returns-in-Err-clause-ready c =

@@ -11,7 +11,7 @@ use Rattle.rp_engine.specs.Ends.{end_of}
 use Rattle.rp_engine.specs.Handling as steps
 use Rattle.rp_engine.specs.Law.{frame_in}
 use Rattle.rp_access.specs.Moment.{state_of}
-use Rattle.rp_engine.specs.Rest.{after_flow, did, gave}
+use Rattle.rp_engine.specs.Rest.{after_flow, did}
 use Rattle.rp_step.proofs.cutting.flow_cut.Goals as goal
 
 pub returns-in-While-clause-law : goal.returns-in-While-clause-law
@@ -107,14 +107,6 @@ returns-in-Class-clause-law c =
     held_by m c.go_less-in-Class.new.machine w c.go_less-in-Class.result (λ base. after_flow c.args.task (frame_in base m) m.values (ends (end_of m.end) (state_of w)))
     (λ base. did (frame_in base m) (drop c.in-Class.count m.values) (ends (end_of m.end) (state_of w)))
     (λ base. ap (λ t. after_flow t (frame_in base m) m.values (ends (end_of m.end) (state_of w))) c.in-Class.is) (λ base. c.go_less-in-Class.ensures.law base (state_of w))
-
-pub returns-in-Comprehension-clause-law : goal.returns-in-Comprehension-clause-law
-returns-in-Comprehension-clause-law c =
-    let m = c.args.machine.now in
-    let w = c.args.world.now in
-    held_as m c.leave_scope.new.machine w c.leave_scope.result (λ base. after_flow c.args.task (frame_in base m) m.values (ends (end_of m.end) (state_of w)))
-    (λ base. gave (record (frame_in base m) { block = c.in-Comprehension.block; scope = c.in-Comprehension.scope }) m.values (ends (end_of m.end) (state_of w)))
-    (λ base. ap (λ t. after_flow t (frame_in base m) m.values (ends (end_of m.end) (state_of w))) c.in-Comprehension.is) c.leave_scope.ensures.law
 
 pub returns-in-Clause-clause-law : goal.returns-in-Clause-clause-law
 returns-in-Clause-clause-law c =

@@ -1,3 +1,8 @@
+use Rattle.rp_frame.specs.declared.task.ExprTask.TheVariants as expr
+use Rattle.rp_proxy.specs.declared.world.World.{World}
+use Rattle.rp_engine.proofs.Moves.{on_ok}
+use Rattle.rp_engine.specs.Law.{Resumes}
+use Rattle.rp_step.proofs.Others.{parts_left}
 use Rattle.rp_step.proofs.expressions.after_expr.Goals as goal
 
 pub returns-in-Operands-clause-law : goal.returns-in-Operands-clause-law
@@ -27,6 +32,9 @@ returns-in-Tests-clause-law c = rw (c.in-Tests.is) c.tests.ensures.law
 pub returns-in-Test-clause-law : goal.returns-in-Test-clause-law
 returns-in-Test-clause-law c = rw (c.in-Test.is) c.after_test.ensures.law
 
+pub returns-in-Contained-clause-law : goal.returns-in-Contained-clause-law
+returns-in-Contained-clause-law c = rw (c.in-Contained.is) c.after_contained.ensures.law
+
 pub returns-in-Joined-clause-law : goal.returns-in-Joined-clause-law
 returns-in-Joined-clause-law c = rw (c.in-Joined.is) c.later.ensures.law
 
@@ -35,12 +43,6 @@ returns-in-Trailers-clause-law c = rw (c.in-Trailers.is) c.trailers.ensures.law
 
 pub returns-in-Key-clause-law : goal.returns-in-Key-clause-law
 returns-in-Key-clause-law c = rw (c.in-Key.is) c.after_key.ensures.law
-
-pub returns-in-Items-clause-law : goal.returns-in-Items-clause-law
-returns-in-Items-clause-law c = rw (c.in-Items.is) c.after_item.ensures.law
-
-pub returns-in-Argument-clause-law : goal.returns-in-Argument-clause-law
-returns-in-Argument-clause-law c = rw (c.in-Argument.is) c.after_argument.ensures.law
 
 pub returns-in-SliceFrom-clause-law : goal.returns-in-SliceFrom-clause-law
 returns-in-SliceFrom-clause-law c = rw (c.in-SliceFrom.is) c.after_from.ensures.law
@@ -51,23 +53,17 @@ returns-in-SliceTo-clause-law c = rw (c.in-SliceTo.is) c.after_to.ensures.law
 pub returns-in-SliceStep-clause-law : goal.returns-in-SliceStep-clause-law
 returns-in-SliceStep-clause-law c = rw (c.in-SliceStep.is) c.after_stride.ensures.law
 
-pub returns-in-DictKey-clause-law : goal.returns-in-DictKey-clause-law
-returns-in-DictKey-clause-law c = rw (c.in-DictKey.is) c.after_dict_key.ensures.law
+pub returns-in-Length-clause-law : goal.returns-in-Length-clause-law
+returns-in-Length-clause-law c =
+    let m = c.args.machine.now in
+    let n = c.after_length.new.machine in
+    let w = c.args.world.now in
+    rw (c.in-Length.is) (on_ok c.after_length.result ((w : World) → Resumes (expr.Length c.in-Length.rest) c.args.value m w n w)
+    (Resumes (expr.Length c.in-Length.rest) c.args.value m w n w) (λ law. law w) c.after_length.ensures.law)
 
-pub returns-in-DictValue-clause-law : goal.returns-in-DictValue-clause-law
-returns-in-DictValue-clause-law c = rw (c.in-DictValue.is) c.after_dict_value.ensures.law
-
-pub returns-in-Default-clause-law : goal.returns-in-Default-clause-law
-returns-in-Default-clause-law c = rw (c.in-Default.is) c.after_default.ensures.law
-
-pub returns-in-Comprehension-clause-law : goal.returns-in-Comprehension-clause-law
-returns-in-Comprehension-clause-law c = rw (c.in-Comprehension.is) c.comprehend.ensures.law
-
-pub returns-in-StarArgument-clause-law : goal.returns-in-StarArgument-clause-law
-returns-in-StarArgument-clause-law c = rw (c.in-StarArgument.is) c.after_star.ensures.law
-
-pub returns-in-NamedArgument-clause-law : goal.returns-in-NamedArgument-clause-law
-returns-in-NamedArgument-clause-law c = rw (c.in-NamedArgument.is) c.after_named.ensures.law
-
-pub returns-in-StarsArgument-clause-law : goal.returns-in-StarsArgument-clause-law
-returns-in-StarsArgument-clause-law c = rw (c.in-StarsArgument.is) c.after_stars.ensures.law
+pub after_part-requires-clause-task : goal.after_part-requires-clause-task
+after_part-requires-clause-task c =
+    let o = c.in_default in
+    parts_left c.args.task o.not-Operands o.not-Operand o.not-Not o.not-Cond o.not-Unary o.not-Power o.not-Exponent
+    o.not-Tests o.not-Test o.not-Joined o.not-Trailers o.not-Key o.not-SliceFrom o.not-SliceTo o.not-SliceStep
+    o.not-Contained o.not-Length

@@ -21,3 +21,9 @@ returns-in_ok-block-in-Block-clause-law c = λ base.
 
 pub returns-in-Call-clause-law : goal.returns-in-Call-clause-law
 returns-in-Call-clause-law c = λ base. refl
+
+pub returns-in-Special-clause-law : goal.returns-in-Special-clause-law
+returns-in-Special-clause-law c = λ base. refl
+
+pub returns-in-Comprehension-clause-law : goal.returns-in-Comprehension-clause-law
+returns-in-Comprehension-clause-law c = λ base. refl

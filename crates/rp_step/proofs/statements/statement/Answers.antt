@@ -29,6 +29,6 @@ returns-clause-law c =
     let u = c.take_step.new.world in
     let x = c.args.x.now in
     let form = c.deref.result.now in
-    does_as m c.stmt_form.new.machine w c.stmt_form.new.world c.stmt_form.result (does.stmt x) (does.stmt_form form) u
+    does_as m c.form.new.machine w c.form.new.world c.form.result (does.stmt x) (does.stmt_form form) u
     (λ base. ap (λ D. D (frame_in base m) (state_of w)) (stmt_out x ∙ ap (λ (z : StmtForm). λ f s. stepped s (does.stmt_form z f)) (sym c.deref.ensures))
-    ∙ stepped_gives m w u (does.stmt_form form) c.in_default.ensures.law base) c.stmt_form.ensures.law
+    ∙ stepped_gives m w u (does.stmt_form form) c.in_default.ensures.law base) c.form.ensures.law

@@ -110,14 +110,6 @@ returns-in-Class-clause-law c =
     (λ base. after_flow (flow.Class c.in-Class.name c.in-Class.body c.in-Class.done c.in-Class.count) (frame_in base m) m.values (gives next (state_of w)))
     (λ base. ap (λ t. after_flow t (frame_in base m) m.values (gives next (state_of w))) c.in-Class.is) c.class_part.ensures.law
 
-pub returns-in-Comprehension-clause-law : goal.returns-in-Comprehension-clause-law
-returns-in-Comprehension-clause-law c =
-    let m = c.args.machine.now in
-    let w = c.args.world.now in
-    held_as m c.comprehended.new.machine w c.comprehended.result (λ base. after_flow c.args.task (frame_in base m) m.values (gives next (state_of w)))
-    (λ base. after_flow (flow.Comprehension c.in-Comprehension.block c.in-Comprehension.scope c.in-Comprehension.at) (frame_in base m) m.values (gives next (state_of w)))
-    (λ base. ap (λ t. after_flow t (frame_in base m) m.values (gives next (state_of w))) c.in-Comprehension.is) c.comprehended.ensures.law
-
 pub returns-in-Clause-clause-law : goal.returns-in-Clause-clause-law
 returns-in-Clause-clause-law c =
     let m = c.args.machine.now in

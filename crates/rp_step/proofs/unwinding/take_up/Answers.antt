@@ -3,7 +3,6 @@ use Rattle.rp_frame.specs.Top.{below, top}
 use Rattle.rp_meaning.specs.Frame.{Run}
 use Rattle.rp_meaning.specs.State.{State, broke, continued, next, returned}
 use Rattle.rp_ops.specs.Outcome.{ends, gives}
-use Rattle.rp_proxy.specs.declared.world.World.{World}
 use Rattle.rp_engine.proofs.Doings.{held_as}
 use Rattle.rp_engine.proofs.Moves.{on_ok}
 use Rattle.rp_engine.specs.Ends.{end_of}
@@ -59,13 +58,6 @@ returns-in-CutOff-clause-law c =
     held_as m c.with_cut.new.machine c.with_cut.new.world c.with_cut.result (λ base. after c.args.task (begun (frame_in base m) m.control m.values m.end (state_of w)))
     (λ base. after c.args.task (did (frame_in base m) m.values (ends (end_of m.end) (state_of w))))
     (λ base. ap (λ z. after c.args.task (begun (frame_in base m) z m.values m.end (state_of w))) c.in-CutOff.is) c.with_cut.ensures.law
-
-pub returns-in_default-clause-law : goal.returns-in_default-clause-law
-returns-in_default-clause-law c =
-    let m = c.args.machine.now in
-    let n = c.put_back.new.machine in
-    let w = c.args.world.now in
-    on_ok c.put_back.result ((u : World) → Takes c.args.task m u n u) (Takes c.args.task m w n w) (λ law. law w) c.put_back.ensures.law
 
 pub returns-in-Returned-clause-law : goal.returns-in-Returned-clause-law
 returns-in-Returned-clause-law c =

@@ -1,6 +1,8 @@
-use Rattle.std.proofs.Common.{sym, ap, ◌∙◌}
+use Rattle.std.proofs.Common.{sym, ap, subst, ◌∙◌}
 use Rattle.rp_frame.specs.Top.{below, top}
 use Rattle.rp_ops.specs.Outcome.{gives}
+use Rattle.rp_store.specs.Kept.{IsFit}
+use Rattle.rp_engine.proofs.AtHand.{top_fit}
 use Rattle.rp_engine.proofs.Doings.{held_as, held_by}
 use Rattle.rp_engine.proofs.Passing.{ready_less}
 use Rattle.rp_engine.specs.Law.{frame_in}
@@ -47,3 +49,17 @@ after_expr-requires-clause-ready c = ready_less c.args.machine.now c.pop-value.n
 
 pub after_stmt-requires-clause-ready : goal.after_stmt-requires-clause-ready
 after_stmt-requires-clause-ready c = ready_less c.args.machine.now c.pop-value-in-Stmt.new.self c.pop-value-in-Stmt.ensures.left c.args.world.now c.requires.ready
+
+pub after_expr-requires-clause-value : goal.after_expr-requires-clause-value
+after_expr-requires-clause-value c =
+    let m = c.args.machine.now in
+    let w = c.args.world.now in
+    subst (IsFit w.store.heap m.frame.side) (sym c.pop-value.ensures.value)
+    (top_fit m.units.now m.frame m.values w c.requires.ready)
+
+pub after_stmt-requires-clause-value : goal.after_stmt-requires-clause-value
+after_stmt-requires-clause-value c =
+    let m = c.args.machine.now in
+    let w = c.args.world.now in
+    subst (IsFit w.store.heap m.frame.side) (sym c.pop-value-in-Stmt.ensures.value)
+    (top_fit m.units.now m.frame m.values w c.requires.ready)

@@ -1,4 +1,3 @@
-use Rattle.std.proofs.Common.{◌≡◌, true, rules}
 use Rattle.rp_meaning.specs.State.{next}
 use Rattle.rp_meaning.specs.Statements.{leave}
 use Rattle.rp_targets.proofs.Comprehending.{element_ends, element_gives}
@@ -30,13 +29,3 @@ returns-in-Ok-clause-ready c =
 pub returns-in-Err-clause-ready : goal.returns-in-Err-clause-ready
 returns-in-Err-clause-ready c =
     c.cut_off.ensures.ready c.put_element.new.world (IsReady-goes _ _ _ c.args.world.now c.put_element.new.world c.requires.ready c.put_element.ensures.shape c.put_element.ensures.faithful)
-
-pub put_element-requires-clause-held : goal.put_element-requires-clause-held
-put_element-requires-clause-held c =
-    let is : c.is_list.result ≡ true = search rules in
-    c.is_list.ensures.held is
-
-pub put_element-requires-clause-list : goal.put_element-requires-clause-list
-put_element-requires-clause-list c =
-    let is : c.is_list.result ≡ true = search rules in
-    c.is_list.ensures.list is

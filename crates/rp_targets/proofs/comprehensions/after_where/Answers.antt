@@ -10,6 +10,7 @@ use Rattle.rp_engine.proofs.Worlds.{IsReady-goes}
 use Rattle.rp_engine.specs.Does as does
 use Rattle.rp_engine.specs.Law.{frame_in}
 use Rattle.rp_access.specs.Moment.{state_of}
+use Rattle.rp_store.proofs.Shapes.{KeepsShape-trans}
 use Rattle.rp_targets.proofs.comprehensions.after_where.Goals as goal
 
 pub returns-in-Ok-true-clause-law : goal.returns-in-Ok-true-clause-law
@@ -54,3 +55,15 @@ returns-in-Ok-false-clause-ready c =
 pub returns-clause-ready : goal.returns-clause-ready
 returns-clause-ready c =
     c.cut_off.ensures.ready c.truth.new.world (IsReady-goes _ _ _ c.args.world.now c.truth.new.world c.requires.ready c.truth.ensures.shape c.truth.ensures.faithful)
+
+pub returns-in-Ok-true-clause-ready : goal.returns-in-Ok-true-clause-ready
+returns-in-Ok-true-clause-ready c = c.where_all.ensures.ready
+
+pub returns-in-Ok-true-clause-shape : goal.returns-in-Ok-true-clause-shape
+returns-in-Ok-true-clause-shape c = KeepsShape-trans _ _ _ c.truth.ensures.shape c.where_all.ensures.shape
+
+pub returns-in-Ok-false-clause-shape : goal.returns-in-Ok-false-clause-shape
+returns-in-Ok-false-clause-shape c = c.truth.ensures.shape
+
+pub returns-clause-shape : goal.returns-clause-shape
+returns-clause-shape c = c.truth.ensures.shape

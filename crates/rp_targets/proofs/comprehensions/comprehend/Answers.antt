@@ -1,6 +1,6 @@
 use Rattle.rp_access.specs.Spots.{cursor_at}
 use Rattle.rp_targets.proofs.Comprehending.{walk_ends, walk_gives}
-use Rattle.rp_engine.proofs.Moves.{as_ok, end_ok}
+use Rattle.rp_engine.proofs.Moves.{end_ok, goes_ok}
 use Rattle.rp_engine.proofs.Worlds.{IsReady-goes}
 use Rattle.rp_engine.specs.ComprehensionSteps.{comprehension_of, comprehension_over, does_made}
 use Rattle.rp_engine.specs.Does as does
@@ -16,14 +16,13 @@ returns-in-Ok-clause-law c =
     let cs = does.clauses c.args.parts.behind.now in
     let r = does_made c.args.parts.made in
     let d = cursor_at c.args.value c.in-Ok.spot in
-    as_ok m c.make_scope.new.machine w c.make_scope.new.world c.make_scope.result (comprehension_of b x cs r c.args.value) (comprehension_over b x cs r d) u
-    (walk_gives m w u b x cs r c.args.value d c.in-Ok.ensures.law) c.make_scope.ensures.law
+    goes_ok m c.go_with.new.self w u c.go_with.result (comprehension_of b x cs r c.args.value) (comprehension_over b x cs r d)
+    (walk_gives m w u b x cs r c.args.value d c.in-Ok.ensures.law) c.go_with.ensures.law
 
-pub make_scope-requires-clause-ready : goal.make_scope-requires-clause-ready
-make_scope-requires-clause-ready c = IsReady-goes _ _ _ c.args.world.now c.walk.new.world c.requires.ready c.walk.ensures.shape c.walk.ensures.faithful
-
-pub make_scope-requires-clause-value : goal.make_scope-requires-clause-value
-make_scope-requires-clause-value c = c.walk.ensures.shape.fit c.args.machine.now.frame.side c.args.value c.requires.value
+pub returns-in-Ok-clause-ready : goal.returns-in-Ok-clause-ready
+returns-in-Ok-clause-ready c =
+    c.go_with.ensures.ready c.walk.new.world (IsReady-goes _ _ _ c.args.world.now c.walk.new.world c.requires.ready c.walk.ensures.shape c.walk.ensures.faithful)
+    (c.walk.ensures.shape.fit c.args.machine.now.frame.side c.args.value c.requires.value)
 
 pub returns-in-Err-clause-law : goal.returns-in-Err-clause-law
 returns-in-Err-clause-law c =

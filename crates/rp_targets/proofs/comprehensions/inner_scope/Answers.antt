@@ -1,4 +1,4 @@
-use Rattle.std.proofs.Common.{◌≡◌, ◌<◌, ◌++◌, ◌-◌, ℕ, List, [], Option, Some, arith, ap, length, subst, sym, ◌∙◌}
+use Rattle.std.proofs.Common.{◌≡◌, ◌++◌, ◌-◌, ℕ, List, [], Option, Some, arith, ap, length, subst, sym, ◌∙◌}
 use Rattle.std.specs.Prelude.{IfSome}
 use Rattle.std.proofs.lemmas.List.Elements.{All-nil}
 use Rattle.rp_access.specs.Comes.{Comes}
@@ -15,9 +15,6 @@ use Rattle.rp_targets.proofs.comprehensions.inner_scope.Goals as goal
 
 sub_none : (n : ℕ) → n - 0 ≡ n
 sub_none n = omega arith
-
-pub local_count-locals-requires : goal.local_count-locals-requires
-local_count-locals-requires c = subst (λ (p : Program). c.args.block < length p.layouts) (sym c.program.ensures) c.requires.block
 
 pub new_scope-requires-clause-slots : goal.new_scope-requires-clause-slots
 new_scope-requires-clause-slots c =

@@ -1,4 +1,4 @@
-use Rattle.std.proofs.Common.{List, ◌-◌, arith, length, take, drop, sym, subst}
+use Rattle.std.proofs.Common.{List, arith, drop, length, refl, subst, sym, take, ◌-◌}
 use Rattle.std.specs.Prelude.{OnOk}
 use Rattle.rp_meaning.specs.Expressions as forms
 use Rattle.rp_meaning.specs.Frame.{Doing, Meaning}
@@ -12,6 +12,7 @@ use Rattle.rp_engine.proofs.Firsts.{of_first, of_none}
 use Rattle.rp_engine.proofs.Moves.{on_ok}
 use Rattle.rp_engine.specs.Does as does
 use Rattle.rp_engine.specs.Law.{Executes}
+use Rattle.rp_store.proofs.Shapes.{KeepsShape-same}
 use Rattle.rp_targets.proofs.comprehensions.nest.Goals as goal
 
 pub returns-in-len1-up-clause-law : goal.returns-in-len1-up-clause-law
@@ -40,3 +41,15 @@ returns-in-empty-clause-law c =
     let D : Doing = does.adds c.args.adds in
     of_none c.add.result (λ (ys : List Clause). Executes (forms.nest (does.clauses ys) D) m w n w) c.args.clauses.now (omega arith)
     (on_ok c.add.result ((u : World) → Executes D m u n u) (Executes D m w n w) (λ law. law w) c.add.ensures.law)
+
+pub returns-in-empty-clause-ready : goal.returns-in-empty-clause-ready
+returns-in-empty-clause-ready c = c.add.ensures.ready c.args.world.now c.requires.ready
+
+pub returns-in-empty-clause-shape : goal.returns-in-empty-clause-shape
+returns-in-empty-clause-shape c = KeepsShape-same c.args.world.now.store.heap c.args.world.now.store.heap refl
+
+pub returns-in-len1-up-clause-ready : goal.returns-in-len1-up-clause-ready
+returns-in-len1-up-clause-ready c = c.for_each.ensures.ready
+
+pub returns-in-len1-up-clause-shape : goal.returns-in-len1-up-clause-shape
+returns-in-len1-up-clause-shape c = c.for_each.ensures.shape

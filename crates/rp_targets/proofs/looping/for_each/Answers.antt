@@ -7,6 +7,8 @@ use Rattle.rp_engine.specs.Does as does
 use Rattle.rp_engine.specs.Law.{frame_in}
 use Rattle.rp_engine.specs.Loops.{over}
 use Rattle.rp_access.specs.Moment.{state_of}
+use Rattle.rp_targets.proofs.Found.{found_fit}
+use Rattle.rp_store.proofs.Shapes.{KeepsShape-trans}
 use Rattle.rp_targets.proofs.looping.for_each.Goals as goal
 
 pub returns-in-Ok-Some-clause-law : goal.returns-in-Ok-Some-clause-law
@@ -40,3 +42,27 @@ returns-in-Err-clause-law c =
     let go : Store = over (does.target c.args.each.target.now) (does.inside c.args.each.inside) in
     does_end m c.cut_off.new.self w u c.cut_off.result (forms.assign x go) c.in-Err.end
     (assign_ends m w u x go c.in-Err.end c.in-Err.ensures.law) c.cut_off.ensures.law
+
+pub walk_over-requires-clause-ready : goal.walk_over-requires-clause-ready
+walk_over-requires-clause-ready c = c.leaf.ensures.ready
+
+pub walk_over-requires-clause-value : goal.walk_over-requires-clause-value
+walk_over-requires-clause-value c = found_fit c.in-Ok-Some.field-0 c.in-Ok-Some.value c.in-Ok-Some.field-0-is c.leaf.new.world.store.heap c.args.machine.now.frame.side c.in-Ok-Some.ensures.fit
+
+pub returns-in-Ok-Some-clause-ready : goal.returns-in-Ok-Some-clause-ready
+returns-in-Ok-Some-clause-ready c = c.walk_over.ensures.ready
+
+pub returns-in-Ok-Some-clause-shape : goal.returns-in-Ok-Some-clause-shape
+returns-in-Ok-Some-clause-shape c = KeepsShape-trans _ _ _ c.leaf.ensures.shape c.walk_over.ensures.shape
+
+pub returns-in-Ok-None-clause-ready : goal.returns-in-Ok-None-clause-ready
+returns-in-Ok-None-clause-ready c = c.wait.ensures.ready c.leaf.new.world c.leaf.ensures.ready
+
+pub returns-in-Ok-None-clause-shape : goal.returns-in-Ok-None-clause-shape
+returns-in-Ok-None-clause-shape c = c.leaf.ensures.shape
+
+pub returns-in-Err-clause-ready : goal.returns-in-Err-clause-ready
+returns-in-Err-clause-ready c = c.cut_off.ensures.ready c.leaf.new.world c.leaf.ensures.ready
+
+pub returns-in-Err-clause-shape : goal.returns-in-Err-clause-shape
+returns-in-Err-clause-shape c = c.leaf.ensures.shape

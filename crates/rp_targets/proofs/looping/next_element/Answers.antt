@@ -7,6 +7,7 @@ use Rattle.rp_engine.proofs.Worlds.{IsReady-goes}
 use Rattle.rp_engine.specs.Does as does
 use Rattle.rp_engine.specs.Loops.{turn_before, walked}
 use Rattle.rp_access.specs.Spots.{cursor_at}
+use Rattle.rp_store.proofs.Shapes.{KeepsShape-trans}
 use Rattle.rp_targets.proofs.looping.next_element.Goals as goal
 
 pub returns-in-Ok-Some-clause-law : goal.returns-in-Ok-Some-clause-law
@@ -59,3 +60,15 @@ returns-in-Ok-None-clause-ready c =
 pub returns-in-Err-clause-ready : goal.returns-in-Err-clause-ready
 returns-in-Err-clause-ready c =
     c.cut_off.ensures.ready c.next_element.new.world (IsReady-goes _ _ _ c.args.world.now c.next_element.new.world c.requires.ready c.next_element.ensures.shape c.next_element.ensures.faithful)
+
+pub returns-in-Ok-Some-clause-ready : goal.returns-in-Ok-Some-clause-ready
+returns-in-Ok-Some-clause-ready c = c.turn_with.ensures.ready
+
+pub returns-in-Ok-Some-clause-shape : goal.returns-in-Ok-Some-clause-shape
+returns-in-Ok-Some-clause-shape c = KeepsShape-trans _ _ _ c.next_element.ensures.shape c.turn_with.ensures.shape
+
+pub returns-in-Ok-None-clause-shape : goal.returns-in-Ok-None-clause-shape
+returns-in-Ok-None-clause-shape c = c.next_element.ensures.shape
+
+pub returns-in-Err-clause-shape : goal.returns-in-Err-clause-shape
+returns-in-Err-clause-shape c = c.next_element.ensures.shape

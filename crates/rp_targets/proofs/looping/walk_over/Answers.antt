@@ -4,6 +4,7 @@ use Rattle.rp_engine.proofs.Worlds.{IsReady-goes}
 use Rattle.rp_engine.specs.Does as does
 use Rattle.rp_engine.specs.Loops.{all_turns, over}
 use Rattle.rp_access.specs.Spots.{cursor_at}
+use Rattle.rp_store.proofs.Shapes.{KeepsShape-trans}
 use Rattle.rp_targets.proofs.looping.walk_over.Goals as goal
 
 pub returns-in-Ok-clause-law : goal.returns-in-Ok-clause-law
@@ -36,3 +37,12 @@ returns-in-Err-clause-law c =
 pub returns-in-Err-clause-ready : goal.returns-in-Err-clause-ready
 returns-in-Err-clause-ready c =
     c.cut_off.ensures.ready c.walk.new.world (IsReady-goes _ _ _ c.args.world.now c.walk.new.world c.requires.ready c.walk.ensures.shape c.walk.ensures.faithful)
+
+pub returns-in-Ok-clause-ready : goal.returns-in-Ok-clause-ready
+returns-in-Ok-clause-ready c = c.first_turn.ensures.ready
+
+pub returns-in-Ok-clause-shape : goal.returns-in-Ok-clause-shape
+returns-in-Ok-clause-shape c = KeepsShape-trans _ _ _ c.walk.ensures.shape c.first_turn.ensures.shape
+
+pub returns-in-Err-clause-shape : goal.returns-in-Err-clause-shape
+returns-in-Err-clause-shape c = c.walk.ensures.shape

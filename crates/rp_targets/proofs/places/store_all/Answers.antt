@@ -1,4 +1,4 @@
-use Rattle.std.proofs.Common.{◌∷◌, ◌-◌, List, length, take, drop, sym, ap, ◌∙◌, arith}
+use Rattle.std.proofs.Common.{List, ap, arith, drop, length, refl, sym, take, ◌-◌, ◌∙◌, ◌∷◌}
 use Rattle.rp_meaning.specs.State.{next}
 use Rattle.rp_meaning.specs.Statements as forms
 use Rattle.rp_tree.specs.declared.expr.Place.{Place}
@@ -8,6 +8,7 @@ use Rattle.rp_targets.proofs.Steps.{on_done}
 use Rattle.rp_engine.specs.Does as does
 use Rattle.rp_engine.specs.Law.{frame_in}
 use Rattle.rp_access.specs.Moment.{state_of}
+use Rattle.rp_store.proofs.Shapes.{KeepsShape-same}
 use Rattle.rp_targets.proofs.places.store_all.Goals as goal
 
 pub returns-in-len1-clause-law : goal.returns-in-len1-clause-law
@@ -40,3 +41,21 @@ returns-in-empty-clause-law c =
     let ps = c.args.places.now in
     does_moves m c.go.new.self w w c.go.result (forms.store_all (does.places ps) c.args.value) (forms.leave next)
     (λ base. ap (λ (ps : List Place). forms.store_all (does.places ps) c.args.value (frame_in base m) (state_of w)) (none_left ps (omega arith))) c.go.ensures.law
+
+pub returns-in-empty-clause-ready : goal.returns-in-empty-clause-ready
+returns-in-empty-clause-ready c = c.go.ensures.ready c.args.world.now c.requires.ready
+
+pub returns-in-empty-clause-shape : goal.returns-in-empty-clause-shape
+returns-in-empty-clause-shape c = KeepsShape-same c.args.world.now.store.heap c.args.world.now.store.heap refl
+
+pub returns-in-len1-clause-ready : goal.returns-in-len1-clause-ready
+returns-in-len1-clause-ready c = c.store.ensures.ready
+
+pub returns-in-len1-clause-shape : goal.returns-in-len1-clause-shape
+returns-in-len1-clause-shape c = c.store.ensures.shape
+
+pub returns-in-len1-up-clause-ready : goal.returns-in-len1-up-clause-ready
+returns-in-len1-up-clause-ready c = c.store_first.ensures.ready
+
+pub returns-in-len1-up-clause-shape : goal.returns-in-len1-up-clause-shape
+returns-in-len1-up-clause-shape c = c.store_first.ensures.shape

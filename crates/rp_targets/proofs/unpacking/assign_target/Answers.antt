@@ -5,6 +5,8 @@ use Rattle.rp_meaning.specs.Statements as forms
 use Rattle.rp_engine.specs.Does as does
 use Rattle.rp_engine.specs.Law.{frame_in}
 use Rattle.rp_access.specs.Moment.{state_of}
+use Rattle.rp_targets.proofs.Found.{found_fit}
+use Rattle.rp_store.proofs.Shapes.{KeepsShape-trans}
 use Rattle.rp_targets.proofs.unpacking.assign_target.Goals as goal
 
 pub returns-in-Ok-Some-clause-law : goal.returns-in-Ok-Some-clause-law
@@ -36,3 +38,27 @@ returns-in-Err-clause-law c =
     let store = does.target c.args.target.now in
     does_end m c.cut_off.new.self w u c.cut_off.result (forms.assign x store) c.in-Err.end
     (assign_ends m w u x store c.in-Err.end c.in-Err.ensures.law) c.cut_off.ensures.law
+
+pub store_target-requires-clause-ready : goal.store_target-requires-clause-ready
+store_target-requires-clause-ready c = c.leaf.ensures.ready
+
+pub store_target-requires-clause-value : goal.store_target-requires-clause-value
+store_target-requires-clause-value c = found_fit c.in-Ok-Some.field-0 c.in-Ok-Some.v c.in-Ok-Some.field-0-is c.leaf.new.world.store.heap c.args.machine.now.frame.side c.in-Ok-Some.ensures.fit
+
+pub returns-in-Ok-Some-clause-ready : goal.returns-in-Ok-Some-clause-ready
+returns-in-Ok-Some-clause-ready c = c.store_target.ensures.ready
+
+pub returns-in-Ok-Some-clause-shape : goal.returns-in-Ok-Some-clause-shape
+returns-in-Ok-Some-clause-shape c = KeepsShape-trans _ _ _ c.leaf.ensures.shape c.store_target.ensures.shape
+
+pub returns-in-Ok-None-clause-ready : goal.returns-in-Ok-None-clause-ready
+returns-in-Ok-None-clause-ready c = c.wait.ensures.ready c.leaf.new.world c.leaf.ensures.ready
+
+pub returns-in-Ok-None-clause-shape : goal.returns-in-Ok-None-clause-shape
+returns-in-Ok-None-clause-shape c = c.leaf.ensures.shape
+
+pub returns-in-Err-clause-ready : goal.returns-in-Err-clause-ready
+returns-in-Err-clause-ready c = c.cut_off.ensures.ready c.leaf.new.world c.leaf.ensures.ready
+
+pub returns-in-Err-clause-shape : goal.returns-in-Err-clause-shape
+returns-in-Err-clause-shape c = c.leaf.ensures.shape

@@ -5,4 +5,4 @@ use Rattle.rp_tests_scripts.proofs.answers.parsed.Goals as goal
 pub parse-requires : goal.parse-requires
 parse-requires c =
     let ts = c.in-Ok.found.items in
-    record { shallow = rw c.as_slice.ensures.value (within_weaker 200 450 0 ts (omega arith) c.in-Ok.ensures.brackets) }
+    record { shallow = within_weaker 200 450 0 ts (omega arith) c.in-Ok.ensures.brackets }

@@ -7,18 +7,21 @@ use Rattle.rp_decl.proofs.Growth.{GrowsTo-trans}
 use Rattle.rp_proxy.proofs.LaterRecords.{declarations-later, held-later}
 use Rattle.rp_tests_stage.proofs.stage.read.Goals as goal
 
-pub returns-clause-ground : goal.returns-clause-ground
-returns-clause-ground c =
+pub loaded-requires-clause-first : goal.loaded-requires-clause-first
+loaded-requires-clause-first c =
     let names = c.declared.new.names in
-    let later = c.trees_of.new.names in
-    let held = rw c.in-Some.is at c.in_ok-decl.ensures.held in
-    let same = declarations-later names later c.trees_of.ensures.grown c.in-Some.decl held in
-    record {
-      first = GrowsTo-trans first_words names later (subst (λ first. GrowsTo first names) c.in_ok-names.ensures c.declared.ensures.grown) c.trees_of.ensures.grown;
-      held = held-later names later c.trees_of.ensures.grown c.in-Some.decl held;
-      consistent = subst IsConsistent (sym same) (rw c.in-Some.is at c.in_ok-decl.ensures.consistent);
-      ordered = subst AreInOrder (sym same) (rw c.in-Some.is at c.in_ok-decl.ensures.ordered);
-    }
+    GrowsTo-trans first_words names c.sources_of.new.names (subst (λ first. GrowsTo first names) c.in_ok-names.ensures c.declared.ensures.grown) c.sources_of.ensures.grown
 
-pub returns-clause-numbered : goal.returns-clause-numbered
-returns-clause-numbered c = rw c.in-Some-2.is at c.in_ok-trees.ensures.numbered
+pub loaded-requires-clause-held : goal.loaded-requires-clause-held
+loaded-requires-clause-held c =
+    held-later c.declared.new.names c.sources_of.new.names c.sources_of.ensures.grown c.in-Some.decl (rw c.in-Some.is at c.in_ok-decl.ensures.held)
+
+pub loaded-requires-clause-consistent : goal.loaded-requires-clause-consistent
+loaded-requires-clause-consistent c =
+    let same = declarations-later c.declared.new.names c.sources_of.new.names c.sources_of.ensures.grown c.in-Some.decl (rw c.in-Some.is at c.in_ok-decl.ensures.held) in
+    subst IsConsistent (sym same) (rw c.in-Some.is at c.in_ok-decl.ensures.consistent)
+
+pub loaded-requires-clause-ordered : goal.loaded-requires-clause-ordered
+loaded-requires-clause-ordered c =
+    let same = declarations-later c.declared.new.names c.sources_of.new.names c.sources_of.ensures.grown c.in-Some.decl (rw c.in-Some.is at c.in_ok-decl.ensures.held) in
+    subst AreInOrder (sym same) (rw c.in-Some.is at c.in_ok-decl.ensures.ordered)

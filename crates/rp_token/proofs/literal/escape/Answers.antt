@@ -3,8 +3,9 @@ use Rattle.std.specs.Map.{lookup}
 use Rattle.std.proofs.lemmas.List.{length-drop}
 use Rattle.rp_token.specs.Characters.{first, line_end_length}
 use Rattle.rp_token.specs.Literal.{literal_behind, with_front, plain_escapes, numbered_escapes}
-use Rattle.rp_token.proofs.Texts.{no_chars, not_empty, some_chars}
+use Rattle.rp_token.proofs.Texts.{no_chars, not_empty}
 use Rattle.rp_token.proofs.Literals.{drop-suc, escape-bad, escape-ended, escape-numbered}
+use Rattle.rp_base.proofs.CallerLemmas.{some_chars}
 use Rattle.rp_token.proofs.literal.escape.Goals as goal
 
 pub returns-then-is_empty-clause-meaning : goal.returns-then-is_empty-clause-meaning

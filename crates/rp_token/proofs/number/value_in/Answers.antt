@@ -6,8 +6,9 @@ use Rattle.std.proofs.lemmas.Int.{to_z_pos}
 use mir.Syntax.{w64}
 use Rattle.rp_token.specs.Characters.{first}
 use Rattle.rp_token.specs.Number.{limited, greatest_number}
-use Rattle.rp_token.proofs.Texts.{no_chars, some_chars}
+use Rattle.rp_token.proofs.Texts.{no_chars}
 use Rattle.rp_token.proofs.Numbers.{limited-ended, limited-stopped, not_lt, turn-digit, turn-great, turn-none, some_digit, value_in-none, behind-le}
+use Rattle.rp_base.proofs.CallerLemmas.{some_chars}
 use Rattle.rp_token.proofs.number.value_in.Goals as goal
 
 pub returns-then-is_empty : goal.returns-then-is_empty

@@ -3,7 +3,8 @@ use Rattle.std.specs.Cmp.Lexicographic.{pointwise, bytes_decides}
 use Rattle.rp_base.specs.Keyword.{keywords}
 use Rattle.rp_token.specs.Characters.{none_begins}
 use Rattle.rp_token.specs.Form.{keyword}
-use Rattle.rp_token.proofs.Places.{IsAscii-keyword, among-begin, among-end, among-here, among-next, is_among, pointwise-chars}
+use Rattle.rp_token.proofs.Places.{IsAscii-keyword, among-begin, among-end, among-here, among-next, is_among}
+use Rattle.rp_base.proofs.CallerLemmas.{pointwise-chars}
 use Rattle.rp_token.proofs.spelling.keyword.Goals as goal
 
 pub loop-place-init : goal.loop-place-init

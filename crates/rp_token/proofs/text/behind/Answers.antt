@@ -1,5 +1,5 @@
 use Rattle.std.proofs.Common.{◌∙◌, sym}
-use Rattle.rp_token.proofs.Texts.{chars-behind, chars-none}
+use Rattle.rp_base.proofs.CallerLemmas.{chars-behind, chars-none}
 use Rattle.rp_token.proofs.text.behind.Goals as goal
 
 pub returns-in-Some : goal.returns-in-Some

@@ -1,5 +1,6 @@
 use Rattle.std.proofs.Common.{◌∙◌, sym, rules, chars}
-use Rattle.rp_token.proofs.Texts.{is_empty_line-none, is_empty_line-some, no_chars, not_empty, some_chars}
+use Rattle.rp_token.proofs.Texts.{is_empty_line-none, is_empty_line-some, no_chars, not_empty}
+use Rattle.rp_base.proofs.CallerLemmas.{some_chars}
 use Rattle.rp_token.proofs.text.is_empty_line.Goals as goal
 
 pub returns-then-is_empty : goal.returns-then-is_empty

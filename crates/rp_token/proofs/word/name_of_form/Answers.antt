@@ -4,8 +4,8 @@ use Rattle.rp_base.specs.Identifier.{identifier_of}
 use Rattle.rp_base.specs.Names.{with_word, with_words}
 use Rattle.rp_token.specs.Form.{name}
 use Rattle.rp_token.specs.WordSteps.{form_words}
-use Rattle.rp_token.proofs.Places.{is_keyword-chars}
 use Rattle.rp_token.proofs.Rules.{held_among, word_form-name, word_form-refused}
+use Rattle.rp_base.proofs.CallerLemmas.{is_keyword-chars}
 use Rattle.rp_token.proofs.word.name_of_form.Goals as goal
 
 pub returns-then-is_keyword-clause-form : goal.returns-then-is_keyword-clause-form

@@ -2,8 +2,8 @@ use Rattle.std.proofs.Common.{◌≡◌, IfOk, sym, ap, subst, ◌∙◌}
 use Rattle.rp_decl.specs.Records.{Field, table}
 use Rattle.rp_decl.specs.View.{entries_view, field_view}
 use Rattle.rp_meaning.specs.Load.{field_made}
-use Rattle.rp_store.proofs.CallerLemmas.{KeepsShape-trans}
-use Rattle.rp_world.proofs.Turns.{entries-turn, list-turn, sound-turn, table-turn, table-view}
+use Rattle.rp_store.proofs.CallerLemmas.{AreSound-next, KeepsShape-trans}
+use Rattle.rp_world.proofs.Turns.{entries-turn, list-turn, table-turn, table-view}
 use Rattle.rp_world.proofs.fields.+field.Goals as goal
 
 pub place_field-returns-in-Table-clause-placed : goal.place_field-returns-in-Table-clause-placed
@@ -19,7 +19,7 @@ place_list-fields-preserved t c =
     let pushed = c.in_ok-push.ensures.items in
     record {
       placed = list-turn c.fields.values.items _ c.args.fields.now c.fields.field-index c.field-item.result c.fields.store _ c.in_ok-value.value _ c.fields-test.true c.field-item.is field.placed pushed known.placed;
-      sound = sound-turn c.fields.store.heap _ c.fields.values.items _ c.in_ok-value.value field.shape known.sound field.sound pushed;
+      sound = AreSound-next c.fields.store.heap _ c.fields.values.items _ c.in_ok-value.value field.shape known.sound field.sound pushed;
       shape = KeepsShape-trans _ _ _ known.shape field.shape;
     }
 

@@ -3,9 +3,9 @@ use Rattle.rp_world.proofs.Spots.{class-behind, class-within}
 use Rattle.rp_world.proofs.objects.class_place.Goals as goal
 
 pub returns-then-place-classes : goal.returns-then-place-classes
-returns-then-place-classes c decl same tells there =
-    class-behind decl c.args.globals.now c.args.class tells there c.unwrap_or-place.result _ (c.unwrap_or-place.ensures ∙ ap (λ o. unwrap_or o 0) c.place.ensures) refl
+returns-then-place-classes c declared same tells there =
+    class-behind declared c.args.places.now c.args.class tells there c.unwrap_or-place.result _ (c.unwrap_or-place.ensures ∙ ap (λ o. unwrap_or o 0) c.place.ensures) refl
 
 pub returns-else-place-classes : goal.returns-else-place-classes
-returns-else-place-classes c decl same tells there =
-    absurd (class-within decl c.args.globals.now c.args.class tells there c.unwrap_or-place.result (c.unwrap_or-place.ensures ∙ ap (λ o. unwrap_or o 0) c.place.ensures) (rw same c.if-place-classes.false))
+returns-else-place-classes c declared same tells there =
+    absurd (class-within declared c.args.places.now c.args.class tells there c.unwrap_or-place.result (c.unwrap_or-place.ensures ∙ ap (λ o. unwrap_or o 0) c.place.ensures) (rw same c.if-place-classes.false))

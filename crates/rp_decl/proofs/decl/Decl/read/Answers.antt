@@ -1,19 +1,23 @@
-use Rattle.std.proofs.Common.{◌∙◌, ap, sym}
+use Rattle.std.proofs.Common.{◌∙◌, ◌<◌, [], ℕ, List, ap, subst, sym}
+use Rattle.std.specs.List.{All}
+use Rattle.rp_base.specs.declared.value.Name.{Name}
 use Rattle.toml.specs.View.{members_view}
 use Rattle.rp_base.specs.Names.{with_words}
 use Rattle.rp_decl.specs.DeclaredWords.{declared_words}
 use Rattle.rp_decl.specs.Document.{records_of}
+use Rattle.rp_decl.specs.Reading.{Shows, ShowsName}
 use Rattle.rp_decl.specs.View.{Placed}
 use Rattle.rp_decl.proofs.Growth.{GrowsTo-refl, GrowsTo-trans}
 use Rattle.rp_decl.proofs.Interned.{declared-interned}
 use Rattle.rp_decl.proofs.Placed.{IsShown, shown-closed, shown-held, shown-ordered, shown-view}
+use Rattle.rp_decl.proofs.Shown.{names-shown}
 use Rattle.rp_decl.proofs.decl.Decl.read.Goals as goal
 use Rattle.rp_decl.proofs.decl.Decl.read.Goals.{After-into_permissions-permissions}
 
 placed : After-into_permissions-permissions → Placed
 placed c = record {
   permissions = c.into_permissions-permissions.result.items;
-  expose = c.in_ok-expose.expose.items;
+  expose = c.in_ok-exposed.exposed;
   module_text = c.in_ok-module_text.module_text;
   classes = c.in_ok-classes.classes.items;
   roles = c.in_ok-roles.roles.items;
@@ -34,7 +38,9 @@ shown c =
     let after_expose = GrowsTo-trans _ _ names c.in_ok-classes.ensures.grown after_classes in
     record {
       permissions = c.into_permissions-permissions.ensures.value ∙ c.requires.known_by.permissions;
-      expose = c.in_ok-expose.ensures.shown names after_expose;
+      expose = subst (λ (held : List Name). Shows (ShowsName names) held
+          (records_of (members_view c.args.document.now.entries)).expose []) (sym c.in_ok-exposed.ensures)
+          (c.in_ok-expose.ensures.shown names after_expose);
       module_text = c.in_ok-module_text.ensures ∙ c.text_member.ensures;
       classes = c.in_ok-classes.ensures.records names after_classes;
       roles = c.in_ok-roles.ensures.records names after_roles;
@@ -42,6 +48,16 @@ shown c =
       principals = c.in_ok-principals.ensures.records names after_principals;
       objects = c.in_ok-objects.ensures.records names (GrowsTo-refl names);
     }
+
+-- each exposed name is one of the names so far
+pub new-requires : goal.new-requires
+new-requires c =
+    let names = c.names_at.new.names in
+    let expose = c.in_ok-expose.expose.items in
+    let held =
+    (names-shown names expose (records_of (members_view c.args.document.now.entries)).expose
+    (c.in_ok-expose.ensures.shown names (GrowsTo-refl names))).1 in
+    subst (λ (n : ℕ). All (λ (name : Name). name.0 < n) expose) (sym c.len.ensures) held
 
 pub invariant_of-result : goal.invariant_of-result
 unfolding placed

@@ -2,7 +2,8 @@ use Rattle.std.proofs.Common.{◌≡◌, ◌∙◌, ◌<◌, ◌-◌, inl, inr, 
 use Rattle.std.proofs.lemmas.List.{length-drop}
 use Rattle.std.proofs.lemmas.Str.{IsUtf8-take}
 use Rattle.rp_more.specs.RunSteps.{passes}
-use Rattle.rp_token.proofs.Texts.{Passed-more, Passed-le, Passed-cut, Passed-rest, Passed-front, run-over, no_chars, some_chars}
+use Rattle.rp_token.proofs.Texts.{Passed-more, Passed-le, Passed-cut, Passed-rest, Passed-front, run-over, no_chars}
+use Rattle.rp_base.proofs.CallerLemmas.{some_chars}
 use Rattle.rp_more.proofs.letters.Run.split.Goals as goal
 use Rattle.rp_more.proofs.letters.Run.split.Goals.{then-run-test+else-passes, else-run-test}
 

@@ -1,14 +1,15 @@
 use Rattle.std.proofs.Common.{◌≡◌, ◌∙◌, ◌<◌, sym, ap, subst, rules, length, map, chars, string_bytes}
 use Rattle.std.proofs.lemmas.Str.{chars-nil}
-use Rattle.rp_token.proofs.Texts.{not_empty, some_chars}
+use Rattle.rp_token.proofs.Texts.{not_empty}
 use Rattle.rp_more.specs.PieceSteps.{piece_seen}
-use Rattle.rp_more.proofs.ReadPieces.{no_bytes, run-empty, run-filled}
+use Rattle.rp_more.proofs.ReadPieces.{run-empty, run-filled}
+use Rattle.rp_base.proofs.CallerLemmas.{no-chars, some_chars}
 use Rattle.rp_more.proofs.pieces.Reader.end_run.Goals as goal
 
 pub returns-then-is_empty-clause-run : goal.returns-then-is_empty-clause-run
 returns-then-is_empty-clause-run c =
     let empty : length c.as_str.result.now ≡ 0 = search rules in
-    ap chars (sym c.as_str.ensures.value) ∙ no_bytes c.as_str.result.now empty
+    ap chars (sym c.as_str.ensures.value) ∙ no-chars c.as_str.result.now empty
 
 pub returns-then-is_empty-clause-pieces : goal.returns-then-is_empty-clause-pieces
 returns-then-is_empty-clause-pieces c =

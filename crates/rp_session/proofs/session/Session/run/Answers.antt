@@ -22,8 +22,5 @@ returns-clause-home c = (done c).home
 pub returns-clause-others : goal.returns-clause-others
 returns-clause-others c = (done c).others
 
-pub run_statements-end-requires-clause-block : goal.run_statements-end-requires-clause-block
-run_statements-end-requires-clause-block c = (c.requires.laid _).block
-
 pub run_statements-end-requires-clause-indexed : goal.run_statements-end-requires-clause-indexed
 run_statements-end-requires-clause-indexed c = λ side. (c.requires.laid side).indexed

@@ -1,11 +1,12 @@
-use Rattle.std.proofs.Common.{◌≡◌, ◌<◌, ◌+◌, ◌∙◌, ap, sym, length, arith}
+use Rattle.std.proofs.Common.{◌≡◌, ◌<◌, ◌+◌, ◌∙◌, ◌≤◌, ap, sym, length, map, arith}
+use Rattle.std.proofs.lemmas.List.{length-map}
 use Rattle.rp_meaning.specs.Frame.{Run}
 use Rattle.rp_meaning.specs.Sessions.{count}
 use Rattle.rp_engine.specs.Moment.{program_at, run_of}
 use Rattle.rp_engine.specs.declared.units.Program.{Program}
-use Rattle.rp_session.specs.View.{sessions_view}
+use Rattle.rp_session.specs.View.{session_view, sessions_view}
 use Rattle.rp_session.proofs.Scripts.{count-of}
-use Rattle.rp_session.proofs.Turning.{finished-step, first-of}
+use Rattle.rp_session.proofs.Turning.{finished-done, finished-step, first-of}
 use Rattle.rp_session.proofs.sessions.Sessions.finish.Goals as goal
 
 pub loop-place-preserved : goal.loop-place-preserved
@@ -25,3 +26,13 @@ loop-place-preserved c =
           (sessions_view c.loop-place.self) (sessions_view c.turns_of.new.self) c.requires.ready.numbered within (statements base)
           (c.in_ok-turns_of.ensures.turns base) ∙ c.loop-place.invariant.left base;
     }
+
+pub returns-clause-finished : goal.returns-clause-finished
+returns-clause-finished c =
+    let items = c.args.self.now.list.items in
+    let total = c.args.self.now.list.ok.0 in
+    let many : length (map session_view items) ≡ length items = length-map items session_view in
+    let done : length (map session_view items) ≤ c.loop-place.place = omega (arith, many) in
+    λ base.
+    finished-done (run_of base c.args.units.now) (map session_view items) c.loop-place.place (sessions_view c.loop-place.self) _ done
+    (c.loop-place.invariant.left base)

@@ -1,7 +1,8 @@
 use Rattle.std.proofs.Common.{◌≡◌, ◌++◌, ◌<◌, ap, ◌∙◌, List, ℕ, append-nil, sym, length, take, drop, arith, rules}
 use Rattle.std.specs.Str.{chars}
 use Rattle.rp_show.specs.Shown.{escaped_all}
-use Rattle.rp_show.proofs.Runs.{escaped-turn, no-chars, shorter-turn, some-chars}
+use Rattle.rp_show.proofs.Runs.{escaped-turn, shorter-turn}
+use Rattle.rp_base.proofs.CallerLemmas.{no-chars, some_chars}
 use Rattle.rp_show.proofs.rock_texts.Line.add_escaped.Goals as goal
 
 pub runs-smaller : goal.runs-smaller
@@ -9,7 +10,7 @@ runs-smaller c =
     let some : 0 < length c.runs.rest.now = search rules in
     let run = chars c.split_plain.result.0.now in
     let behind = chars c.split_plain.result.1.now in
-    let shorter = shorter-turn run behind (chars c.runs.rest.now) c.split_plain.ensures.text (some-chars c.runs.rest.now c.runs.invariant.0 some) in
+    let shorter = shorter-turn run behind (chars c.runs.rest.now) c.split_plain.ensures.text (some_chars c.runs.rest.now c.runs.invariant.0 some) in
     omega (arith, shorter, ap length c.behind_first-rest.ensures)
 
 pub runs-preserved : goal.runs-preserved

@@ -1,4 +1,4 @@
-use Rattle.std.proofs.Common.{◌≡◌, ◌≢◌, ◌≤◌, ap, arith, length, reverse, take, sym, ◌∙◌, codes}
+use Rattle.std.proofs.Common.{◌≢◌, [], arith, codes}
 use Rattle.std.specs.Prelude.{None}
 use Rattle.std.specs.Str.{chars}
 use Rattle.rp_base.specs.declared.kind.Kind.TheVariants.{TypeError}
@@ -16,28 +16,39 @@ use Rattle.rp_engine.specs.HandSteps.{held_by, size_of}
 use Rattle.rp_engine.specs.Law.{frame_in}
 use Rattle.rp_step.proofs.runner.Runner.bare_instance.Goals as goal
 
-pub returns-then-size-gt0-clause-law : goal.returns-then-size-gt0-clause-law
+pub returns-then-plain-gt0-clause-law : goal.returns-then-plain-gt0-clause-law
 unfolding chars
-returns-then-size-gt0-clause-law c =
+returns-then-plain-gt0-clause-law c =
     let r = c.args.self.now in
     let w = c.args.world.now in
     let a = held_by c.args.hand r.machine.values in
-    let vs = r.machine.values in
-    let last : c.last.result.now ≡ reverse (take (size_of c.args.hand) vs) = c.last.ensures ∙ ap (λ n. reverse (take n vs)) c.size-size.ensures in
-    let other : size_of c.args.hand ≢ 0 = omega (arith, c.size-size.ensures) in
-    let enough : size_of c.args.hand ≤ length (reverse (take (size_of c.args.hand) vs)) = omega (arith, c.size-size.ensures, ap length last) in
+    let some : a.plain ≢ [] = some_args a.plain c.count_plain-plain.result c.count_plain-plain.ensures (omega arith) in
     refused_ok r.machine w r.callers.items (size_of c.args.hand) c.refuse.new.self c.refuse.result TypeError (codes "arguments")
     (λ base. on_value (made_instance c.args.owner c.args.class None a (frame_in base r.machine) (state_of w)) (λ x s. got_by c.args.lent x (frame_in base r.machine) s))
-    (λ base. bare_asked_refused r w a c.args.owner c.args.class c.args.lent base (some_args c.args.hand vs other enough)) c.refuse.ensures.law
+    (λ base. bare_asked_refused r w a c.args.owner c.args.class c.args.lent base (λ e. some)) c.refuse.ensures.law
 
-pub returns-then-size-gt0-clause-ready : goal.returns-then-size-gt0-clause-ready
-returns-then-size-gt0-clause-ready c = always c.refuse.result _ (c.refuse.ensures.ready c.args.world.now c.requires.ready)
+pub returns-then-plain-gt0-clause-ready : goal.returns-then-plain-gt0-clause-ready
+returns-then-plain-gt0-clause-ready c = always c.refuse.result _ (c.refuse.ensures.ready c.args.world.now c.requires.ready)
+
+pub returns-then-named-gt0-clause-law : goal.returns-then-named-gt0-clause-law
+unfolding chars
+returns-then-named-gt0-clause-law c =
+    let r = c.args.self.now in
+    let w = c.args.world.now in
+    let a = held_by c.args.hand r.machine.values in
+    let some : a.named ≢ [] = some_args a.named c.in_ok-named.named c.in_ok-named.ensures (omega arith) in
+    refused_ok r.machine w r.callers.items (size_of c.args.hand) c.refuse-then-named-gt0.new.self c.refuse-then-named-gt0.result TypeError (codes "arguments")
+    (λ base. on_value (made_instance c.args.owner c.args.class None a (frame_in base r.machine) (state_of w)) (λ x s. got_by c.args.lent x (frame_in base r.machine) s))
+    (λ base. bare_asked_refused r w a c.args.owner c.args.class c.args.lent base (λ e. absurd (some e))) c.refuse-then-named-gt0.ensures.law
+
+pub returns-then-named-gt0-clause-ready : goal.returns-then-named-gt0-clause-ready
+returns-then-named-gt0-clause-ready c = always c.refuse-then-named-gt0.result _ (c.refuse-then-named-gt0.ensures.ready c.args.world.now c.requires.ready)
 
 pub returns-in-Ok-clause-law : goal.returns-in-Ok-clause-law
 returns-in-Ok-clause-law c =
     let r = c.args.self.now in
-    let none : size_of c.args.hand ≡ 0 = omega (arith, c.size-size.ensures) in
-    bare_given r c.args.world.now c.new_instance.new.world c.args.hand c.args.owner c.args.class c.args.lent (no_args c.args.hand r.machine.values none) c.give_instance.new.self c.give_instance.result c.in-Ok.at
+    let none = no_args c.args.hand r.machine.values c.count_plain-plain.result c.in_ok-named.named c.count_plain-plain.ensures c.in_ok-named.ensures (omega arith) (omega arith) in
+    bare_given r c.args.world.now c.new_instance.new.world c.args.hand c.args.owner c.args.class c.args.lent none c.give_instance.new.self c.give_instance.result c.in-Ok.at
     (made_is c.new_instance.result (state_of c.new_instance.new.world) _ c.in-Ok.at c.in-Ok.is c.new_instance.ensures.law) c.give_instance.ensures.law
 
 pub give_instance-requires-clause-ready : goal.give_instance-requires-clause-ready
@@ -53,8 +64,8 @@ give_instance-requires-clause-ready c =
 pub returns-in-Err-clause-law : goal.returns-in-Err-clause-law
 returns-in-Err-clause-law c =
     let r = c.args.self.now in
-    let none : size_of c.args.hand ≡ 0 = omega (arith, c.size-size.ensures) in
-    bare_ended r c.args.world.now c.new_instance.new.world c.args.hand c.args.owner c.args.class c.args.lent (no_args c.args.hand r.machine.values none) c.without_hand.new.machine c.without_hand.result c.in-Err.end
+    let none = no_args c.args.hand r.machine.values c.count_plain-plain.result c.in_ok-named.named c.count_plain-plain.ensures c.in_ok-named.ensures (omega arith) (omega arith) in
+    bare_ended r c.args.world.now c.new_instance.new.world c.args.hand c.args.owner c.args.class c.args.lent none c.without_hand.new.machine c.without_hand.result c.in-Err.end
     (made_ends c.new_instance.result (state_of c.new_instance.new.world) _ c.in-Err.end c.in-Err.is c.new_instance.ensures.law) c.without_hand.ensures.law
 
 pub returns-in-Err-clause-ready : goal.returns-in-Err-clause-ready

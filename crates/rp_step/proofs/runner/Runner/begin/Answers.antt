@@ -1,26 +1,25 @@
-use Rattle.std.proofs.Common.{◌≡◌, ◌-◌, Ok, Err, Some, reverse, take, sym, ap, ◌∙◌}
+use Rattle.std.proofs.Common.{◌≡◌, ◌-◌, Ok, Err, sym, ◌∙◌}
 use Rattle.rp_access.specs.Moment.{state_of}
 use Rattle.rp_base.specs.declared.value.Oid.{Oid}
 use Rattle.rp_store.specs.Kept.{IsScopeOf}
 use Rattle.rp_engine.proofs.Doings.{always}
-use Rattle.rp_step.proofs.Entries.{coded_within, comes_end, comes_some, enters, enters_not, one_less, some_held}
+use Rattle.rp_step.proofs.Entries.{comes_end, comes_ok, enters, enters_not, ok_held, one_less}
 use Rattle.rp_step.proofs.Runs.{made_goes, waiting_goes}
 use Rattle.rp_engine.proofs.Worlds.{IsReady-goes}
 use Rattle.rp_step.specs.Callables.{before_all}
-use Rattle.rp_engine.specs.Moment.{program_at}
 use Rattle.rp_engine.specs.HandSteps.{held_by, size_of}
 use Rattle.rp_step.proofs.runner.Runner.begin.Goals as goal
 
-pub returns-in-Ok-Some-clause-law : goal.returns-in-Ok-Some-clause-law
-returns-in-Ok-Some-clause-law c =
+pub returns-in-Ok-clause-law : goal.returns-in-Ok-clause-law
+returns-in-Ok-clause-law c =
     let r = c.args.self.now in
     let m = r.machine in
     let e = c.args.callable.entry in
     let v = c.scope_of-entered.new.world in
-    let is : c.scope_of-entered.result ≡ Ok (Some c.in-Ok-Some.scope) = sym c.in_ok-scope.ensures.same ∙ c.in-Ok-Some.is ∙ ap Ok c.in-Ok-Some.field-0-is in
+    let is : c.scope_of-entered.result ≡ Ok c.in-Ok.scope = sym c.in_ok-scope.ensures.same ∙ c.in-Ok.is in
     enters m c.args.world.now r.callers.items e c.args.lent c.args.made (size_of c.args.hand) (before_all c.args.callable.receiver (held_by c.args.hand m.values)) c.requires.function
     (m.frame.calls - 1) (one_less m.frame.calls c.requires.calls) (c.requires.ready.machine.indexed e.side) c.args.code c.requires.code
-    c.switch.new.self v c.switch.result c.in-Ok-Some.scope (comes_some c.scope_of-entered.result (state_of v) _ c.in-Ok-Some.scope is c.scope_of-entered.ensures.law) c.switch.ensures.law
+    c.switch.new.self v c.switch.result c.in-Ok.scope (comes_ok c.scope_of-entered.result (state_of v) _ c.in-Ok.scope is c.scope_of-entered.ensures.law) c.switch.ensures.law
 
 pub returns-in-Err-clause-law : goal.returns-in-Err-clause-law
 returns-in-Err-clause-law c =
@@ -33,8 +32,8 @@ returns-in-Err-clause-law c =
     (m.frame.calls - 1) (one_less m.frame.calls c.requires.calls) (c.requires.ready.machine.indexed e.side) c.args.code c.requires.code
     c.without_hand.new.machine v c.without_hand.result c.in-Err.end (comes_end c.scope_of-entered.result (state_of v) _ c.in-Err.end is c.scope_of-entered.ensures.law) c.without_hand.ensures.law
 
-pub returns-in-Ok-Some-clause-ready : goal.returns-in-Ok-Some-clause-ready
-returns-in-Ok-Some-clause-ready c =
+pub returns-in-Ok-clause-ready : goal.returns-in-Ok-clause-ready
+returns-in-Ok-clause-ready c =
     let r = c.args.self.now in
     let m = r.machine in
     let e = c.args.callable.entry in
@@ -42,11 +41,10 @@ returns-in-Ok-Some-clause-ready c =
     let v = c.scope_of-entered.new.world in
     let shape = c.scope_of-entered.ensures.shape in
     let faithful = c.scope_of-entered.ensures.faithful c.in_ok-scope.ensures.known in
-    let is : c.scope_of-entered.result ≡ Ok (Some c.in-Ok-Some.scope) = sym c.in_ok-scope.ensures.same ∙ c.in-Ok-Some.is ∙ ap Ok c.in-Ok-Some.field-0-is in
+    let is : c.scope_of-entered.result ≡ Ok c.in-Ok.scope = sym c.in_ok-scope.ensures.same ∙ c.in-Ok.is in
     c.switch.ensures.ready v
     (record { machine = IsReady-goes _ _ _ w v c.requires.ready.machine shape faithful; callers = waiting_goes w v r.callers.items shape faithful c.requires.ready.callers })
-    (coded_within (program_at m.units.now e.side) e.block c.args.code (c.requires.ready.machine.indexed e.side) c.requires.code)
-    (some_held c.scope_of-entered.result (λ (at : Oid). IsScopeOf v.store.heap e.side at) c.in-Ok-Some.scope is c.scope_of-entered.ensures.scope)
+    (ok_held c.scope_of-entered.result (λ (at : Oid). IsScopeOf v.store.heap e.side at) c.in-Ok.scope is c.scope_of-entered.ensures.scope)
     (made_goes w v c.args.made shape c.requires.made)
 
 pub returns-in-Err-clause-ready : goal.returns-in-Err-clause-ready

@@ -1,5 +1,4 @@
-use Rattle.std.proofs.Common.{◌≡◌, ◌-◌, ap, sym, codes, ◌∙◌, arith}
-use Rattle.std.specs.Prelude.{reverse, take}
+use Rattle.std.proofs.Common.{◌-◌, ap, sym, codes, ◌∙◌, arith}
 use Rattle.std.specs.Str.{chars}
 use Rattle.rp_base.specs.declared.kind.Kind.TheVariants.{RecursionError, TypeError}
 use Rattle.rp_engine.proofs.Doings.{always}
@@ -7,6 +6,8 @@ use Rattle.rp_step.proofs.Entries.{asked, calls_refused, code_refused, one_less,
 use Rattle.rp_step.specs.Callables.{before_all}
 use Rattle.rp_engine.specs.Codes.{code_at}
 use Rattle.rp_engine.specs.HandSteps.{held_by, size_of}
+use Rattle.rp_engine.proofs.Moves.{on_ok}
+use Rattle.rp_step.specs.Running.{Enters}
 use Rattle.rp_step.proofs.runner.Runner.call_function.Goals as goal
 
 pub returns-then-self-eq0-clause-law : goal.returns-then-self-eq0-clause-law
@@ -45,3 +46,11 @@ begin-requires-clause-code c = ap (λ p. code_at p c.args.callable.entry.block) 
 
 pub begin-requires-clause-calls : goal.begin-requires-clause-calls
 begin-requires-clause-calls c = omega arith
+
+pub returns-in-Some-clause-law : goal.returns-in-Some-clause-law
+returns-in-Some-clause-law c =
+    let m = c.args.self.now.machine in
+    let vs = before_all c.args.callable.receiver (held_by c.args.hand m.values) in
+    on_ok c.begin.result (Enters c.args.hand c.args.callable.entry.function vs c.args.lent c.args.made c.args.self.now c.args.world.now c.begin.new.self c.begin.new.world)
+    (Enters c.args.hand c.args.callable.entry.function vs c.args.lent c.args.made c.args.self.now c.args.world.now c.begin.new.self c.begin.new.world)
+    (λ law base. law base) c.begin.ensures.law

@@ -1,8 +1,8 @@
 use Rattle.rp_step.proofs.Runs.{came_back, first_waits, last_waits, stays, stays_ready}
-use Rattle.std.proofs.Common.{sym, subst, ap, refl, ◌∙◌, []}
-use Rattle.rp_access.specs.Moment.{state_of}
+use Rattle.std.proofs.Common.{sym, subst, ap, ◌∙◌}
 use Rattle.rp_engine.specs.Ready.{IsReady}
 use Rattle.rp_engine.specs.declared.machine.Machine.{Machine}
+use Rattle.rp_step.specs.Left.{at_end}
 use Rattle.rp_step.proofs.runner.Runner.come_back.Goals as goal
 
 pub returns-in_ok-resume-in-Some-clause-law : goal.returns-in_ok-resume-in-Some-clause-law
@@ -22,6 +22,9 @@ resume-requires-clause-caller c =
 pub resume-requires-clause-tasks : goal.resume-requires-clause-tasks
 resume-requires-clause-tasks c = ap (λ (m : Machine). m.tasks) c.next_caller.ensures.machine ∙ c.requires.tasks
 
+pub resume-requires-clause-stands : goal.resume-requires-clause-stands
+resume-requires-clause-stands c = ap (λ (m : Machine). at_end m.control) c.next_caller.ensures.machine ∙ c.requires.stands
+
 pub returns-in-None-clause-law : goal.returns-in-None-clause-law
 returns-in-None-clause-law c =
     stays c.args.self.now c.next_caller.new.self c.args.world.now c.next_caller.ensures.machine (c.next_caller.ensures.same c.in-None.ensures.last) c.in-None.ensures.last
@@ -35,3 +38,6 @@ returns-in-None-clause-ended c = λ h. ap (λ (m : Machine). m.tasks) c.next_cal
 
 pub returns-in-None-clause-none : goal.returns-in-None-clause-none
 returns-in-None-clause-none c = λ h. c.next_caller.ensures.same c.in-None.ensures.last
+
+pub returns-in-None-clause-stands : goal.returns-in-None-clause-stands
+returns-in-None-clause-stands c = λ h. ap (λ (m : Machine). at_end m.control) c.next_caller.ensures.machine ∙ c.requires.stands

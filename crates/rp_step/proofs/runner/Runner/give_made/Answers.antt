@@ -1,5 +1,5 @@
 use Rattle.std.proofs.Common.{◌≡◌, sym, ap, ◌∙◌}
-use Rattle.std.specs.Prelude.{OnOk, codes}
+use Rattle.std.specs.Prelude.{codes}
 use Rattle.rp_base.specs.declared.kind.Kind.TheVariants.{TypeError}
 use Rattle.rp_base.specs.declared.value.Value.TheVariants as value
 use Rattle.rp_meaning.specs.Frame.{Run}
@@ -21,7 +21,7 @@ returns-then-is_none-clause-law c =
     on_ok c.give_value.result ((base : Run) → whole_of base c.give_value.new.self s ≡ unwound base cs (rest c.args.caller.tasks (got base c.args.caller (value.Ref c.args.at) s)))
     ((base : Run) → whole_of base c.give_value.new.self s ≡ unwound base cs (rest c.args.caller.tasks (given base c.args.caller (gives c.args.value s))))
     (λ law base. law base ∙ ap (λ h. unwound base cs (rest c.args.caller.tasks h))
-    (sym (gives_made base c.args.caller c.args.value s c.args.at c.requires.made (sym c.is_none.ensures ∙ c.if-is_none.true)))) c.give_value.ensures.law
+    (sym (gives_made base c.args.caller c.args.value s c.args.at c.requires.call c.requires.made (sym c.is_none.ensures ∙ c.if-is_none.true)))) c.give_value.ensures.law
 
 pub give_value-requires-clause-value : goal.give_value-requires-clause-value
 give_value-requires-clause-value c = made_sound c.args.world.now.store.heap c.args.caller.made c.args.at c.requires.made c.requires.caller.made
@@ -35,7 +35,7 @@ returns-clause-law c =
     ≡ unwound base cs (rest k.tasks (gave (frame_of (run_of base k.units.now) k.frame) k.values (raises TypeError (codes "init") s))))
     ((base : Run) → whole_of base c.refuse_init.new.self s ≡ unwound base cs (rest k.tasks (given base k (gives c.args.value s))))
     (λ law base. law base s ∙ ap (λ h. unwound base cs (rest k.tasks h))
-    (sym (gives_other base k c.args.value s c.args.at c.requires.made (sym c.is_none.ensures ∙ c.if-is_none.false)))) c.refuse_init.ensures.law
+    (sym (gives_other base k c.args.value s c.args.at c.requires.call c.requires.made (sym c.is_none.ensures ∙ c.if-is_none.false)))) c.refuse_init.ensures.law
 
 pub returns-clause-ready : goal.returns-clause-ready
 returns-clause-ready c = always c.refuse_init.result _ (c.refuse_init.ensures.ready c.args.world.now c.requires.ready c.requires.caller)

@@ -1,4 +1,4 @@
-use Rattle.rp_step.proofs.Runs.{gives_on, over_ready}
+use Rattle.rp_step.proofs.Runs.{gives_on}
 use Rattle.rp_step.proofs.runner.Runner.give_value.Goals as goal
 
 pub returns-clause-law : goal.returns-clause-law

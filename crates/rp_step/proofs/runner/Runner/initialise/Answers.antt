@@ -8,11 +8,11 @@ use Rattle.rp_step.proofs.runner.Runner.initialise.Goals as goal
 pub returns-in-Ok-clause-law : goal.returns-in-Ok-clause-law
 returns-in-Ok-clause-law c =
     let r = c.args.self.now in
-    init_given r c.args.world.now c.new_instance.new.world c.args.hand c.args.owner c.args.class c.args.function c.args.lent c.call_init.new.self c.call_init.new.world c.call_init.result c.in-Ok.at
-    (made_is c.new_instance.result (state_of c.new_instance.new.world) _ c.in-Ok.at c.in-Ok.is c.new_instance.ensures.law) c.call_init.ensures.law
+    init_given r c.args.world.now c.new_instance.new.world c.args.hand c.args.owner c.args.class c.args.function c.args.lent c.call_behind.new.self c.call_behind.new.world c.call_behind.result c.in-Ok.at
+    (made_is c.new_instance.result (state_of c.new_instance.new.world) _ c.in-Ok.at c.in-Ok.is c.new_instance.ensures.law) c.call_behind.ensures.law
 
-pub call_init-requires-clause-ready : goal.call_init-requires-clause-ready
-call_init-requires-clause-ready c =
+pub call_behind-requires-clause-ready : goal.call_behind-requires-clause-ready
+call_behind-requires-clause-ready c =
     let w = c.args.world.now in
     let u = c.new_instance.new.world in
     let r = c.args.self.now in
@@ -21,8 +21,8 @@ call_init-requires-clause-ready c =
       callers = waiting_goes w u r.callers.items c.new_instance.ensures.shape c.new_instance.ensures.faithful c.requires.ready.callers;
     }
 
-pub call_init-requires-clause-function : goal.call_init-requires-clause-function
-call_init-requires-clause-function c = c.new_instance.ensures.shape.function c.args.function c.requires.function
+pub call_behind-requires-clause-function : goal.call_behind-requires-clause-function
+call_behind-requires-clause-function c = c.new_instance.ensures.shape.function c.args.function c.requires.function
 
 pub returns-in-Err-clause-law : goal.returns-in-Err-clause-law
 returns-in-Err-clause-law c =

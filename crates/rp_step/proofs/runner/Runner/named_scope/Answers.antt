@@ -1,13 +1,12 @@
-use Rattle.std.proofs.Common.{◌<◌, length, sym, ap, ◌∙◌, subst, List}
+use Rattle.std.proofs.Common.{length, sym, ap, ◌∙◌, subst}
 use Rattle.rp_access.specs.Moment.{state_of}
-use Rattle.rp_base.specs.declared.value.Value.{Value}
 use Rattle.rp_calls.specs.Binding.{defaults_at}
 use Rattle.rp_codes.specs.Codes.{code_view}
 use Rattle.rp_meaning.specs.Running.{params_of}
 use Rattle.rp_scope.specs.Scopes.{locals_of}
 use Rattle.rp_store.specs.Kept.{AreSound}
 use Rattle.rp_enter.specs.Entering.{AreNamedSound}
-use Rattle.rp_step.proofs.Entries.{coded_within, enters_as, function_named}
+use Rattle.rp_step.proofs.Entries.{enters_as, function_named}
 use Rattle.rp_step.proofs.Hands.{args_are, held_named_sound, plain_sound}
 use Rattle.rp_step.specs.Callables.{before_all}
 use Rattle.rp_engine.specs.HandSteps.{held_by}
@@ -15,12 +14,6 @@ use Rattle.rp_engine.specs.Moment.{program_at}
 use Rattle.rp_engine.specs.declared.units.Program.{Program}
 use Rattle.rp_tree.specs.ExpressionViews.{view_params}
 use Rattle.rp_step.proofs.runner.Runner.named_scope.Goals as goal
-
-pub local_count-locals-requires : goal.local_count-locals-requires
-local_count-locals-requires c =
-    let m = c.args.self.now.machine in
-    subst (λ (p : Program). c.args.entry.block < length p.layouts) (sym c.program.ensures)
-    (coded_within (program_at m.units.now c.args.entry.side) c.args.entry.block c.args.code (c.requires.ready.machine.indexed c.args.entry.side) c.requires.code)
 
 pub enter_named-requires-clause-function : goal.enter_named-requires-clause-function
 enter_named-requires-clause-function c = function_named c.args.world.now.store.heap c.args.entry c.requires.function

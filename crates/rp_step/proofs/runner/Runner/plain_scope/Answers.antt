@@ -1,29 +1,21 @@
-use Rattle.std.proofs.Common.{◌<◌, length, reverse, take, sym, ap, ◌∙◌, subst, Option, Some, None}
+use Rattle.std.proofs.Common.{length, reverse, take, sym, ap, ◌∙◌, subst, Option, Some}
 use Rattle.std.specs.Prelude.{IfSome}
-use Rattle.rp_access.specs.Comes.{ComesIfAny}
 use Rattle.rp_access.specs.Moment.{state_of}
 use Rattle.rp_base.specs.declared.value.Value.{Value}
 use Rattle.rp_calls.specs.Binding.{defaults_at}
 use Rattle.rp_codes.specs.Codes.{code_view}
-use Rattle.rp_enter.specs.Entering.{entered}
 use Rattle.rp_meaning.specs.Binding.{only}
 use Rattle.rp_meaning.specs.Running.{params_of}
 use Rattle.rp_scope.specs.Scopes.{locals_of}
 use Rattle.rp_store.specs.Kept.{AreFit, AreSound, IsSound}
 use Rattle.rp_expressions.proofs.Callings.{sound_last}
-use Rattle.rp_step.proofs.Entries.{coded_within, enters_as, function_named}
+use Rattle.rp_step.proofs.Entries.{enters_as, function_named}
 use Rattle.rp_engine.proofs.Lasts.{last_fit}
 use Rattle.rp_step.specs.Callables.{before_all}
 use Rattle.rp_engine.specs.Moment.{program_at}
 use Rattle.rp_engine.specs.declared.units.Program.{Program}
 use Rattle.rp_tree.specs.ExpressionViews.{view_params}
 use Rattle.rp_step.proofs.runner.Runner.plain_scope.Goals as goal
-
-pub local_count-locals-requires : goal.local_count-locals-requires
-local_count-locals-requires c =
-    let m = c.args.self.now.machine in
-    subst (λ (p : Program). c.args.entry.block < length p.layouts) (sym c.program.ensures)
-    (coded_within (program_at m.units.now c.args.entry.side) c.args.entry.block c.args.code (c.requires.ready.machine.indexed c.args.entry.side) c.requires.code)
 
 pub enter-requires-clause-function : goal.enter-requires-clause-function
 enter-requires-clause-function c = function_named c.args.world.now.store.heap c.args.entry c.requires.function

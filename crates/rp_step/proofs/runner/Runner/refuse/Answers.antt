@@ -1,5 +1,3 @@
-use Rattle.std.proofs.Common.{ap}
-use Rattle.std.specs.Prelude.{OnOk}
 use Rattle.rp_step.proofs.Entries.{refuses}
 use Rattle.rp_engine.specs.HandSteps.{size_of}
 use Rattle.rp_step.proofs.runner.Runner.refuse.Goals as goal

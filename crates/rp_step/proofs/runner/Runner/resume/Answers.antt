@@ -4,9 +4,8 @@ use Rattle.rp_base.specs.declared.value.Value.TheVariants as value
 use Rattle.rp_frame.specs.declared.control.Control.TheVariants as control
 use Rattle.rp_ops.specs.Outcome.{ends, gives}
 use Rattle.rp_access.specs.Moment.{state_of}
-use Rattle.rp_engine.proofs.Moves.{on_ok}
 use Rattle.rp_engine.proofs.Doings.{always}
-use Rattle.rp_step.proofs.Runs.{cut_here, resumed_ok, wait_here}
+use Rattle.rp_step.proofs.Runs.{cut_here, resumed_ok}
 use Rattle.rp_engine.specs.Ends.{end_of}
 use Rattle.rp_step.specs.Running.{given, whole_of}
 use Rattle.rp_step.proofs.runner.Runner.resume.Goals as goal
@@ -77,7 +76,3 @@ returns-in-CutOff-clause-law c =
 
 pub returns-in-CutOff-clause-ready : goal.returns-in-CutOff-clause-ready
 returns-in-CutOff-clause-ready c = always c.cut-in-CutOff.result _ (c.cut-in-CutOff.ensures.ready c.args.world.now c.requires.ready c.requires.caller)
-
-pub returns-in_default-clause-law : goal.returns-in_default-clause-law
-returns-in_default-clause-law c =
-    wait_here c.wait.result c.wait.new.self c.args.self.now c.args.caller (state_of c.args.world.now) c.wait.ensures.law

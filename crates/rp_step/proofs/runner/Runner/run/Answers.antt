@@ -1,4 +1,4 @@
-use Rattle.rp_store.proofs.Shapes.{KeepsShape-trans}
+use Rattle.rp_store.proofs.CallerLemmas.{KeepsShape-trans}
 use Rattle.rp_step.proofs.Runs.{goes_trans}
 use Rattle.rp_step.proofs.runner.Runner.run.Goals as goal
 

@@ -1,5 +1,5 @@
 use Rattle.std.proofs.Common.{◌≡◌, ℕ, ap, length, subst, sym}
-use Rattle.rp_access.specs.Comes.{ComesIfAny}
+use Rattle.rp_access.specs.Comes.{Comes}
 use Rattle.rp_access.specs.Moment.{state_of}
 use Rattle.rp_calls.specs.Binding.{defaults_at}
 use Rattle.rp_codes.specs.Codes.{code_view}
@@ -17,6 +17,6 @@ returns-then-hand-eq0-clause-law c =
     let m = c.args.self.now.machine in
     let e = c.args.entry in
     let none : c.args.hand ≡ record c.args.hand { named = 0 } = ap (λ (k : ℕ). record c.args.hand { named = k }) c.if-hand-eq0.true in
-    subst (λ (h : Hand). ComesIfAny c.plain_scope.result (state_of c.plain_scope.new.world) (entered e.side e.block e.within (length (locals_of (program_at m.units.now e.side).layouts e.block))
+    subst (λ (h : Hand). Comes c.plain_scope.result (state_of c.plain_scope.new.world) (entered e.side e.block e.within (length (locals_of (program_at m.units.now e.side).layouts e.block))
     (params_of (code_view c.args.code)) (defaults_at c.args.world.now.store.heap e.function) (before_all c.args.receiver (held_by h m.values)) (state_of c.args.world.now))) (sym none)
     c.plain_scope.ensures.law

@@ -30,6 +30,9 @@ returns-in-Call-clause-ended c = λ h. absurd (c.enter.ensures.more h)
 pub returns-in-Call-clause-none : goal.returns-in-Call-clause-none
 returns-in-Call-clause-none c = λ h. absurd (c.enter.ensures.more h)
 
+pub returns-in-Call-clause-stands : goal.returns-in-Call-clause-stands
+returns-in-Call-clause-stands c = λ h. absurd (c.enter.ensures.more h)
+
 pub come_back-requires-clause-ready : goal.come_back-requires-clause-ready
 come_back-requires-clause-ready c = runnable_goes c.args.self.now c.step.new.machine c.args.world.now c.step.new.world c.requires.ready c.step.ensures.ready c.step.ensures.shape
 

@@ -16,11 +16,11 @@ returns-clause-law c =
     (c.keep.ensures.machine ∙ c.suspend-caller.ensures.left) c.in_ok-keep.ensures.kept c.begin_of.ensures c.go.ensures.law)
 
 pub returns-clause-ready : goal.returns-clause-ready
-returns-clause-ready c = λ w h block scope sound.
+returns-clause-ready c = λ w h scope sound.
     let r = c.args.self.now in
     let m = r.machine in
     let more : c.size.result + 1 ≡ suc (size_of c.args.hand) = omega (arith, c.size.ensures) in
     let both = switch_ready m c.forget.new.self c.keep.new.self.machine c.keep.new.self.callers.items r.callers.items c.suspend-caller.result (suc (size_of c.args.hand)) c.args.lent c.args.made c.args.frame w
     (c.forget.ensures ∙ ap (λ k. record m { values = drop k m.values }) more) c.suspend-caller.ensures.caller (c.keep.ensures.machine ∙ c.suspend-caller.ensures.left) c.in_ok-keep.ensures.kept
-    h.machine h.callers block scope sound in
+    h.machine h.callers scope sound in
     always c.go.result _ (record { machine = c.go.ensures.ready w both.0; callers = both.1 })

@@ -3,8 +3,9 @@ use Rattle.std.specs.List.{starts_with}
 use Rattle.rp_token.specs.Reading.{quotes_seen}
 use Rattle.std.proofs.lemmas.List.{length-drop, nil_from_length}
 use Rattle.rp_token.specs.Characters.{first}
-use Rattle.rp_token.proofs.Texts.{no_chars, some_chars}
+use Rattle.rp_token.proofs.Texts.{no_chars}
 use Rattle.rp_token.proofs.Literals.{literal-escape}
+use Rattle.rp_base.proofs.CallerLemmas.{some_chars}
 use Rattle.rp_token.proofs.literal.Quotes.piece.Goals as goal
 
 pub returns-then-is_empty-clause-meaning : goal.returns-then-is_empty-clause-meaning

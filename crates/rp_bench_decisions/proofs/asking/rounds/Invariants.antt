@@ -1,6 +1,0 @@
-use Rattle.std.proofs.Common.{◌≡◌}
-use Rattle.rp_proxy.specs.Faithful.{IsFaithful}
-use Rattle.rp_bench_decisions.proofs.asking.rounds.Given as goal
-
-abbrev pub invariant-loop : goal.invariant-loop
-invariant-loop l = record { faithful : IsFaithful l.world; names : l.world.names ≡ l.initial.world.names; heap : l.world.store.heap ≡ l.initial.world.store.heap }

@@ -1,0 +1,2 @@
+//! The law that code changes no tuple, no function and no bound method; no code.
+#![tactic(auto)]

@@ -1,4 +1,0 @@
-pub mod Apart
-pub mod Bound
-pub mod Loaded
-pub mod Sound

@@ -1,7 +1,0 @@
-use Rattle.std.proofs.Common.{append_assoc, rules}
-use Rattle.std.specs.Str.{chars}
-use Rattle.rp_machine.proofs.show.line_of.Goals as goal
-
-pub returns : goal.returns
-unfolding chars
-returns c = search (rules, append_assoc)

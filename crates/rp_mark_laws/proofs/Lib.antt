@@ -1,0 +1,9 @@
+pub mod Calling
+pub mod Codes
+pub mod Erased
+pub mod Parts
+pub mod Programs
+pub mod Sessions
+pub mod Statements
+pub mod Trees
+pub mod Values

@@ -1,0 +1,5 @@
+pub mod GlobalNames
+pub mod LaterWorlds
+mod LoadedWorlds
+pub mod ProgramsOn
+mod Staying

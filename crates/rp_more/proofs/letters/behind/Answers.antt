@@ -1,9 +1,0 @@
-use Rattle.std.proofs.Common.{◌∙◌, sym}
-use Rattle.rp_token.proofs.Texts.{chars-behind, chars-none}
-use Rattle.rp_more.proofs.letters.behind.Goals as goal
-
-pub returns-in-Some : goal.returns-in-Some
-returns-in-Some c = rw c.as_str.ensures (chars-behind _ _ _ c.utf8.text (sym c.chars-letters.ensures.rest ∙ c.in-Some.ensures.steps.0))
-
-pub returns-in-None : goal.returns-in-None
-returns-in-None c = chars-none _ (rw c.chars-letters.ensures.rest at c.in-None.ensures.steps.0.0)

@@ -1,0 +1,23 @@
+use Rattle.std.proofs.Common.{sym, subst}
+use Rattle.rp_access.specs.Spots.{cursor_at}
+use Rattle.rp_engine.specs.ComprehensionSteps.{comprehension_over, does_made}
+use Rattle.rp_engine.specs.Does as does
+use Rattle.rp_engine.specs.declared.machine.Machine.{Machine}
+use Rattle.rp_store.specs.Kept.{IsFit}
+use Rattle.rp_step.proofs.InnerTurns.{gets_top}
+use Rattle.rp_step.proofs.runner.Runner.comprehend.Goals as goal
+
+pub returns-clause-law : goal.returns-clause-law
+returns-clause-law c =
+    let p = c.args.parts in
+    gets_top c.args.self.now c.comprehend_over.new.self c.args.world.now c.comprehend_over.new.world c.comprehend_over.result c.at_hand-value.new.self c.at_hand-value.result
+    (λ v. comprehension_over p.block (does.clause p.first.now) (does.clauses p.behind.now) (does_made p.made) (cursor_at v c.args.spot))
+    c.at_hand-value.ensures.value c.at_hand-value.ensures.left c.comprehend_over.ensures.law
+
+pub comprehend_over-requires-clause-ready : goal.comprehend_over-requires-clause-ready
+comprehend_over-requires-clause-ready c = record { machine = c.at_hand-value.ensures.ready c.args.world.now c.requires.ready.machine; callers = c.requires.ready.callers }
+
+pub comprehend_over-requires-clause-value : goal.comprehend_over-requires-clause-value
+comprehend_over-requires-clause-value c =
+    let w = c.args.world.now in
+    subst (λ (m : Machine). IsFit w.store.heap m.frame.side c.at_hand-value.result) (sym c.at_hand-value.ensures.left) (c.at_hand-value.ensures.fit w c.requires.ready.machine)

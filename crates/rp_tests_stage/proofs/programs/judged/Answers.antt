@@ -1,0 +1,15 @@
+use Rattle.std.proofs.Common.{◌∙◌, [], ap, subst, sym}
+use Rattle.rp_play.specs.Programs.{source_of}
+use Rattle.rp_scope.specs.Numbers.{HasNumbers}
+use Rattle.rp_scope.specs.Scopes.{scopes}
+use Rattle.rp_tree.specs.StatementViews.{view_tree}
+use Rattle.rp_tree.specs.declared.stmt.Tree.{Tree}
+use Rattle.rp_tests_stage.proofs.programs.judged.Goals as goal
+
+pub returns-clause-resolved : goal.returns-clause-resolved
+returns-clause-resolved c =
+    let made = c.into_parts-parts.ensures in
+    record {
+      numbers = subst (λ (t : Tree). HasNumbers (view_tree t)) (sym made.tree) made.kept.numbers;
+      is = made.layouts ∙ made.kept.table ∙ ap (λ (t : Tree). scopes [] (source_of t)) (sym made.tree);
+    }
