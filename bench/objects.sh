@@ -1,6 +1,7 @@
 #!/usr/bin/env bash
 # Time and memory of `rpy run` of one line under declarations of as many classes as objects, each object of a class of its own
-# and exposed: 2,500 and 10,000 of each, the least of five runs, and the growth. With a word, that program is measured.
+# and exposed: 2,500 and 10,000 of each, the least of five runs, and the growth; then likewise where a `class` statement of the
+# module gives each class a method. With a word, that program is measured.
 cd "$(dirname "${BASH_SOURCE[0]}")/.." || exit 2
 [ -n "$1" ] || ./rpy run examples/title.toml bob:examples/title.py >/dev/null || exit 1
 RPY=${1:-crates/rpy/out/rpy} exec python3 - <<'PYTHON'
@@ -11,9 +12,12 @@ import time
 RPY = os.environ["RPY"]
 
 
-def declarations(count):
+def declarations(count, methods):
     exposed = ", ".join(f'"object{i}"' for i in range(count))
     lines = ["version = 1", 'permissions = ["p.View"]', f"expose = [{exposed}]"]
+    if methods:
+        module = "\n".join(f"class Class{i}:\n    def size(self):\n        return {i}" for i in range(count))
+        lines.append(f'module = """\n{module}\n"""')
     for i in range(count):
         lines.append(f'[class.Class{i}]\nget = {{ title = "zope.Public" }}')
     lines.append("[principal.bob]")
@@ -34,13 +38,14 @@ with tempfile.TemporaryDirectory() as folder:
     script = os.path.join(folder, "script.py")
     with open(script, "w") as out:
         out.write("print(object7.title)\n")
-    walls = []
-    for count in (2500, 10000):
-        path = os.path.join(folder, f"{count}.toml")
-        with open(path, "w") as out:
-            out.write(declarations(count))
-        wall, memory = min(run([RPY, "run", path, f"bob:{script}"]) for _ in range(5))
-        walls.append(wall)
-        print(f"{count} classes and objects: {wall:.2f} s, {memory / 1024:.0f} MB")
-    print(f"four times the file: {walls[1] / walls[0]:.1f} times the time")
+    for methods in (False, True):
+        walls = []
+        for count in (2500, 10000):
+            path = os.path.join(folder, f"{count}.toml")
+            with open(path, "w") as out:
+                out.write(declarations(count, methods))
+            wall, memory = min(run([RPY, "run", path, f"bob:{script}"]) for _ in range(5))
+            walls.append(wall)
+            print(f"{count} classes and objects{', with methods' * methods}: {wall:.2f} s, {memory / 1024:.0f} MB")
+        print(f"four times the file: {walls[1] / walls[0]:.1f} times the time")
 PYTHON

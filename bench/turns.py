@@ -3,7 +3,7 @@
 
     turns.py [PROGRAM]   runs both by `rpy run --turns` in each order, and tells in how many orders each prints what CPython prints where the
                          same statements run in that order; status 1 where it is not so in all
-    turns.py --cases     prints the orders as cases of a table: the words, the two scripts, and what CPython prints
+    turns.py --cases     prints the cases of the tests of turns: an order, and what CPython prints
 
 Each script has three statements at its top, each of which is a turn. What the sessions share belongs to the trusted module: a list and a dict,
 which its methods change, and a function that either session hands it for the other one to have called. Everybody may do all of that, so the
@@ -38,8 +38,13 @@ DECLARATIONS = f'''version = 1
 expose = ["board"]
 module = """
 {MODULE}"""
-[class.Board]
-get = {{ put = "zope.Public", take = "zope.Public", count = "zope.Public", keep = "zope.Public", ask = "zope.Public", told = "zope.Public" }}
+[class.Board.get]
+put = "zope.Public"
+take = "zope.Public"
+count = "zope.Public"
+keep = "zope.Public"
+ask = "zope.Public"
+told = "zope.Public"
 [principal.ann]
 [principal.bob]
 [object.board]
@@ -87,11 +92,18 @@ def words(order, files):
     return ["run", files[0], f"ann:{files[1]}", f"bob:{files[2]}", "--turns", ",".join(map(str, order))]
 
 
+def wrapped(row):
+    """A row of at most 116 columns a line."""
+    lines, width = [], 108
+    while len(row) > width:
+        lines.append(row[:width] + "\\")
+        row, width = row[width:], 112
+    return "\n    ".join(lines + [row])
+
+
 def cases():
-    shown = ["\n".join(script).replace("\n", "~") for script in SCRIPTS]
     for order in ORDERS:
-        line = " ".join(words(order, ["title.toml", "one.py", "two.py"]))
-        print(" => ".join([line, *shown, wanted(order).replace("\n", "~") + "0"]))
+        print(wrapped(",".join(map(str, order)) + " => " + wanted(order).replace("\n", "~") + "0"))
 
 
 def main(program):

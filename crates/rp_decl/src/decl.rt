@@ -1,7 +1,7 @@
 //! The records of a declaration file, whole.
 
 use crate::consistency::text_member;
-use crate::exposed::Exposed;
+use crate::exposure::Exposed;
 use crate::known_ids::Known;
 use crate::reading::{names_at, records_at};
 use crate::records::{ClassDecl, GroupDecl, ObjectDecl, PrincipalDecl, RoleDecl};

@@ -4,7 +4,7 @@
 mod consistency;
 mod decl;
 mod document;
-mod exposed;
+mod exposure;
 mod fault;
 mod field;
 mod known_ids;
@@ -26,7 +26,7 @@ mod word;
 pub use decl::Decl;
 // A crate can name the declarations in a contract only if the types of their fields are exported.
 #[doc(hidden)]
-pub use exposed::Exposed;
+pub use exposure::Exposed;
 pub use fault::{DeclFault, fault_line};
 pub use read::declarations;
 pub use records::{ClassDecl, Field, GroupDecl, ObjectDecl, Perm, PrincipalDecl, RoleDecl};

@@ -22,7 +22,7 @@ use Rattle.rp_store.specs.Object.{Content}
 use Rattle.rp_store.specs.Store.{Cells}
 use Rattle.rp_access.specs.Comes.{Comes, IsEnd}
 use Rattle.rp_engine.specs.DisplaySteps.{display, displayed, elements, makes_display, makes_of}
-use Rattle.rp_engine.specs.Gathering.{Gathers}
+use Rattle.rp_engine.specs.GatheringSteps.{Gathers}
 use Rattle.rp_engine.specs.Law.{Evaluates, frame_in, rest_of}
 use Rattle.rp_access.specs.Moment.{state_of}
 use Rattle.rp_access.specs.Parts.{step_end}

@@ -15,7 +15,7 @@ use Rattle.rp_meaning.specs.State.{State, Outcome, Flow}
 use Rattle.rp_ops.specs.Outcome.{End, ends}
 use Rattle.rp_proxy.specs.declared.world.World.{World}
 use Rattle.rp_engine.specs.Law.{Leaves, Takes, frame_in, rest_of}
-use Rattle.rp_engine.specs.Left.{at_hand, stmt_with}
+use Rattle.rp_engine.specs.WaitSteps.{at_hand, stmt_with}
 use Rattle.rp_access.specs.Moment.{state_of}
 use Rattle.rp_engine.specs.Ready.{IsReady}
 use Rattle.rp_engine.specs.Rest.{Held, after, begun, did, gave, rest}

@@ -31,7 +31,7 @@ use Rattle.rp_meaning.specs.Walks.{on_truth, on_turn, turns}
 use Rattle.rp_ops.specs.Outcome.{gives, ends, raises, on_value}
 use Rattle.rp_show.specs.Show.{show}
 use Rattle.rp_engine.specs.ArgumentSteps.{arguments_at, sum_of, with_all, with_arguments, with_spread, with_spread_behind, with_spread_named}
-use Rattle.rp_engine.specs.Augments.{attribute_augmented, attribute_from, item_augmented, item_from, key_from, name_augmented}
+use Rattle.rp_engine.specs.AugmentSteps.{attribute_augmented, attribute_from, item_augmented, item_from, key_from, name_augmented}
 use Rattle.rp_engine.specs.ClassSteps.{class_behind, held_methods}
 use Rattle.rp_engine.specs.Ends.{end_of}
 use Rattle.rp_engine.specs.ComparisonSteps.{with_test}
@@ -42,12 +42,12 @@ use Rattle.rp_engine.specs.ComprehensionSteps.{comprehension_of, comprehension_o
 use Rattle.rp_engine.specs.Does as does
 use Rattle.rp_engine.specs.Handling.{handling, left, thrown_of, tried, without_as}
 use Rattle.rp_engine.specs.JoinSteps.{later}
-use Rattle.rp_engine.specs.Raising.{raised_value}
+use Rattle.rp_engine.specs.RaisingSteps.{raised_value}
 use Rattle.rp_engine.specs.SliceSteps.{from_stride, from_upper, with_slice}
 use Rattle.rp_engine.specs.SpecialSteps.{from_got, special_called, with_contained, with_length}
 use Rattle.rp_engine.specs.TrailerSteps.{with_item}
-use Rattle.rp_engine.specs.Loops.{over, walked}
-use Rattle.rp_engine.specs.Unpackings.{store_from}
+use Rattle.rp_engine.specs.LoopSteps.{over, walked}
+use Rattle.rp_engine.specs.UnpackingSteps.{store_from}
 use Rattle.rp_access.specs.Spots.{cursor_at}
 
 -- how a part ends, in a frame with values at hand

@@ -15,7 +15,7 @@ use Rattle.rp_ops.specs.Operand.{truth_of}
 use Rattle.rp_ops.specs.Outcome.{on_value}
 use Rattle.rp_tree.specs.declared.parts.Test.{Test}
 use Rattle.rp_tree.specs.declared.parts.Test.TheVariants as test
-use Rattle.rp_engine.specs.Augments.{item_augmented}
+use Rattle.rp_engine.specs.AugmentSteps.{item_augmented}
 use Rattle.rp_engine.specs.ComparisonSteps.{by_test}
 
 -- a special method that was found, called behind the object, and what is got of it through the object

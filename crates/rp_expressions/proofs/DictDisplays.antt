@@ -17,7 +17,7 @@ use Rattle.rp_access.specs.Parts.{step_end}
 use Rattle.rp_access.proofs.Going.{IsEnd-same, IsEnd-then, gives-then, on_same}
 use Rattle.rp_store.specs.Object as object
 use Rattle.rp_engine.specs.DisplaySteps.{elements, parts}
-use Rattle.rp_engine.specs.Gathering.{Gathers}
+use Rattle.rp_engine.specs.GatheringSteps.{Gathers}
 use Rattle.rp_engine.specs.Law.{Evaluates, frame_in, rest_of}
 use Rattle.rp_engine.specs.Rest.{gave, rest}
 use Rattle.rp_engine.specs.declared.halt.Halt.{Halt}

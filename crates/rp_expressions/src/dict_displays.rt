@@ -7,7 +7,7 @@ ghost use Rattle.rp_store.specs.Kept.{IsFit};
 ghost use Rattle.rp_store.specs.Shape.{KeepsShape};
 ghost use Rattle.rp_engine.specs.DisplaySteps.{parts};
 ghost use Rattle.rp_engine.specs.Does as does;
-ghost use Rattle.rp_engine.specs.Gathering.{Gathers};
+ghost use Rattle.rp_engine.specs.GatheringSteps.{Gathers};
 ghost use Rattle.rp_engine.specs.Law.{Evaluates, Resumes};
 ghost use Rattle.rp_engine.specs.Ready.{IsReady};
 

@@ -11,7 +11,7 @@ ghost use Rattle.rp_store.specs.Shape.{KeepsShape};
 ghost use Rattle.rp_access.specs.Comes.{IsEnd};
 ghost use Rattle.rp_engine.specs.DisplaySteps.{display};
 ghost use Rattle.rp_engine.specs.Does as does;
-ghost use Rattle.rp_engine.specs.Gathering.{Gathers};
+ghost use Rattle.rp_engine.specs.GatheringSteps.{Gathers};
 ghost use Rattle.rp_engine.specs.Law.{Evaluates, Resumes, frame_in, rest_of};
 ghost use Rattle.rp_engine.specs.Ready.{IsReady};
 ghost use Rattle.rp_engine.specs.Rest.{gave, rest};

@@ -3,6 +3,7 @@ mod Building
 mod Playing
 mod Shop
 mod WithoutMonitor
+mod Variables
 mod Values
 mod Control
 mod Functions
@@ -11,3 +12,10 @@ mod Lent
 mod Refused
 mod Trusted
 mod Handed
+mod Arithmetic
+mod Comparisons
+mod Sequences
+mod Loops
+mod Exceptions
+mod Calls
+mod Instances

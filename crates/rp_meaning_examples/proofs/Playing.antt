@@ -1,6 +1,6 @@
 -- Whole runs: the module is loaded, the sessions play, and what is seen of them is told. A few built-in functions stand in for all.
 use Rattle.std.proofs.Common.{ℕ, zero, suc, pos, Bool, true, false, List, [], ◌∷◌, ◌++◌, codes, map, Option, Some, None, Result, Ok, Err}
-use Rattle.std.specs.Prelude.{slice_index_or, position, ◌==◌, if◌then◌else◌, unsigned_abs}
+use Rattle.std.specs.Prelude.{option_and_then, slice_index_or, position, ◌==◌, if◌then◌else◌, unsigned_abs}
 use Rattle.std.specs.List.{range_with_len}
 use Rattle.std.specs.Map.{lookup}
 use Rattle.std.specs.Option.{option_map_or}
@@ -25,14 +25,16 @@ use Rattle.rp_proxy.specs.Decide.{decide}
 use Rattle.rp_proxy.specs.Taken.{bare}
 use Rattle.rp_show.specs.Show.{show, printed}
 use Rattle.rp_store.specs.Key.{same_name}
+use Rattle.rp_store.specs.Heap.{Owned, content_at}
 use Rattle.rp_store.specs.Object as object
+use Rattle.rp_store.specs.Object.{Content}
 use Rattle.rp_store.specs.Writers.{pushed}
 use Rattle.rp_trail.specs.Entry.{Entry, Verdict, allowed}
 use Rattle.rp_tree.specs.Statements as stmt_tree
 use Rattle.rp_meaning.specs.Frame.{Run, Program, Natives, program_of}
 use Rattle.rp_meaning.specs.Load.{load, with_new_session, Refused}
-use Rattle.rp_meaning.specs.Scopes.{Place, local, global}
-use Rattle.rp_meaning.specs.Sessions.{World, SessionEnd, run_all}
+use Rattle.rp_meaning.specs.Scopes.{Place, local, global, held, slot_in}
+use Rattle.rp_meaning.specs.Sessions.{World, Session, SessionEnd, run_all}
 use Rattle.rp_meaning.specs.Unmonitored.{unmonitored}
 use Rattle.rp_meaning_examples.proofs.Building.{body}
 use Rattle.rp_meaning_examples.proofs.Words.{words}
@@ -89,7 +91,7 @@ needs id i count = None
 abbrev wrong : {A : Type 0} → List ℕ → plain.State → plain.Outcome A
 wrong word s = plain.raises TypeError word s
 
-abbrev number : ℕ → Value
+abbrev pub number : ℕ → Value
 number n = value.Rock (rock.Int (pos n))
 
 abbrev function : List (List ℕ) → Side → NativeId → List Value → plain.State → plain.Outcome Value
@@ -224,3 +226,61 @@ plays programs = played programs (codes "p" ∷ []) 100000 1000000 []
 -- the end by an exception
 abbrev pub raises_with : Kind → List ℕ → End
 raises_with kind word = plain.raised (record { kind = kind; text = word })
+
+-- what is left of a run
+
+abbrev left_in : Run → ℕ → List (List ℕ) → Result World Refused → Result World Refused
+left_in run steps who (Err r) = Err r
+left_in run steps who (Ok w) = Ok (run_all run [] (with_sessions run who steps w))
+
+-- the world behind the scripts, each with its principal, ample cells and, for each session, so many steps
+abbrev pub leaves : List Program → List (List ℕ) → ℕ → Result World Refused
+leaves programs who steps = left_in (run_of programs) steps who (load (run_of programs) words declared 100000)
+
+-- the world behind one script of the principal `p`, with ample steps
+abbrev pub left_by : List Program → Result World Refused
+left_by programs = leaves programs (codes "p" ∷ []) 1000000
+
+-- of each session what the variable of that number holds
+abbrev variable_in : List Owned → ℕ → Session → Option Value
+variable_in heap i k = held heap (Some (slot_in k.globals i))
+
+abbrev pub variable : ℕ → Result World Refused → List (Option Value)
+variable i (Err r) = []
+variable i (Ok w) = map (variable_in w.store.heap i) w.sessions
+
+-- and what the object holds that it refers to
+abbrev content_of : List Owned → Value → Option Content
+content_of heap (value.Ref at) = content_at heap at
+content_of heap v = None
+
+abbrev pub content : ℕ → Result World Refused → List (Option Content)
+content i (Err r) = []
+content i (Ok w) = map (λ k. option_and_then (content_of w.store.heap) (variable_in w.store.heap i k)) w.sessions
+
+-- how each session ended, the steps that are left to it, and what it printed
+abbrev pub ends : Result World Refused → List (Option SessionEnd)
+ends (Err r) = []
+ends (Ok w) = map (λ k. k.end) w.sessions
+
+abbrev pub steps_left : Result World Refused → List ℕ
+steps_left (Err r) = []
+steps_left (Ok w) = map (λ k. k.steps) w.sessions
+
+abbrev pub printed_by : Result World Refused → List (List ℕ)
+printed_by (Err r) = []
+printed_by (Ok w) = map (λ k. k.printed) w.sessions
+
+-- the cells used, and the whole trail
+abbrev pub cells_used : Result World Refused → Option ℕ
+cells_used (Err r) = None
+cells_used (Ok w) = Some w.store.used
+
+abbrev pub trail : Result World Refused → List Entry
+trail (Err r) = []
+trail (Ok w) = w.log
+
+-- how each session ended, and what it printed
+abbrev pub told : Result World Refused → List (Option SessionEnd × List ℕ)
+told (Err r) = []
+told (Ok w) = map (λ k. (k.end, k.printed)) w.sessions

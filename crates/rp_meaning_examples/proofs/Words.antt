@@ -16,7 +16,8 @@ words =
     codes "z" ∷ codes "r" ∷ codes "NameError" ∷ codes "rec" ∷ codes "RecursionError" ∷ codes "m" ∷ codes "q" ∷
     codes "j" ∷ codes "else_" ∷ codes "Unauthorized" ∷ codes "s" ∷ codes "bool" ∷ codes "str" ∷ codes "class_" ∷
     codes "z2" ∷ codes "ForbiddenAttribute" ∷ codes "A" ∷ codes "both" ∷ codes "Local" ∷ codes "thing" ∷
-    codes "removeSecurityProxy" ∷ codes "list" ∷ codes "kw" ∷ codes "Late" ∷ codes "l" ∷ codes "zz" ∷ []
+    codes "removeSecurityProxy" ∷ codes "list" ∷ codes "kw" ∷ codes "Late" ∷ codes "l" ∷ codes "zz" ∷
+    codes "ZeroDivisionError" ∷ codes "ArithmeticError" ∷ codes "AttributeError" ∷ codes "AssertionError" ∷ []
 
 -- the name of the word so many places behind them
 abbrev nth : ℕ → Name
@@ -246,3 +247,15 @@ l' = nth 132
 
 abbrev pub zz' : Name
 zz' = nth 133
+
+abbrev pub ZeroDivisionError' : Name
+ZeroDivisionError' = nth 134
+
+abbrev pub ArithmeticError' : Name
+ArithmeticError' = nth 135
+
+abbrev pub AttributeError' : Name
+AttributeError' = nth 136
+
+abbrev pub AssertionError' : Name
+AssertionError' = nth 137

@@ -103,8 +103,11 @@ pub fn load(
 fn layouts_of(units: Units<'_>) -> Layouts
     ensures { result ≡ units.entry.module.layouts }
 {
-    let Units { module, .. } = units;
-    let Program { layouts, .. } = module;
+    let Units {
+        module: program,
+        ..
+    } = units;
+    let Program { layouts, .. } = program;
     layouts
 }
 

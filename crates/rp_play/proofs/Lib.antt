@@ -1,6 +1,7 @@
 mod Answering
 mod Endings
 pub mod Finished
+mod Given
 mod Lists
 pub mod Placing
 pub mod Resolved

@@ -13,7 +13,7 @@ ghost use Rattle.rp_play.specs.Played.{Reaches, source_text, with_new_sessions};
 ghost use Rattle.rp_program.specs.Leaves.{IsTreeHeld};
 ghost use Rattle.rp_proxy.specs.Faithful.{IsFaithful};
 ghost use Rattle.rp_session.specs.Ready.{AnswersIn, AreLaidOut, AreReady};
-ghost use Rattle.rp_session.specs.View.{sessions_view};
+ghost use Rattle.rp_session.specs.View.{AddsUp, given_to, sessions_view};
 ghost use Rattle.rp_tree.specs.StatementViews.{view_tree};
 ghost use Rattle.rp_world.specs.Worlds.{world_view};
 
@@ -56,6 +56,7 @@ pub fn play(
         (map (λ who. who.ids) whos.items) listed.now steps (sessions_view sessions)) }
     ensures ended { IfOk result (λ sessions. All (λ session. IsSome session.end) sessions.list.items) }
     ensures count { IfOk result (λ sessions. length sessions.list.items ≡ length scripts.items) }
+    ensures used { IfOk result (λ sessions. All (AddsUp steps) sessions.list.items) }
     ensures ready { IfOk result AreReady }
 {
     let Loaded {
@@ -94,6 +95,8 @@ fn begin_all(
         (sessions_view sessions.old)) }
     ensures ready { OnOk result (AreReady sessions.new) }
     ensures count { OnOk result (length sessions.new.list.items ≡ length whos.items) }
+    ensures given { OnOk result (All (λ (n : ℕ). n ≡ steps) (given_to sessions.old)
+        → All (λ (n : ℕ). n ≡ steps) (given_to sessions.new)) }
 {
     for who in whos {
         sessions.begin(units, who, steps)?;

@@ -11,6 +11,7 @@ mod LaterTrees
 mod LoadedWorlds
 mod Passing
 mod Pieces
+mod PlayedSteps
 mod ReadAll
 mod Reasons
 mod Reached

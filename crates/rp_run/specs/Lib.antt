@@ -1,6 +1,7 @@
 pub mod Contents
 pub mod Headline
 pub mod Output
+pub mod Played
 pub mod Refusals
 pub mod SetUp
 pub mod Steps

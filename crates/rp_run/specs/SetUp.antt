@@ -11,9 +11,11 @@ use Rattle.rp_play.specs.Played.{Reaches, source_text}
 use Rattle.rp_program.specs.Leaves.{IsTreeHeld}
 use Rattle.rp_proxy.specs.Faithful.{IsFaithful}
 use Rattle.rp_proxy.specs.declared.world.World.{World}
+use Rattle.rp_run.specs.Played.{IsPlayed}
 use Rattle.rp_run.specs.Told.{IsReady, ToldPlayed, ToldUsed, read_into, scripts_of}
 use Rattle.rp_run.specs.View.{AnswersInAll}
 use Rattle.rp_run.specs.declared.ready.Ready.{Ready}
+use Rattle.rp_session.specs.declared.session.Session.{Session}
 use Rattle.rp_tree.specs.StatementTrees.{Stmts}
 use Rattle.rp_tree.specs.StatementViews.{view_tree}
 use Rattle.rp_words.specs.Command.{Pair, Run}
@@ -62,3 +64,9 @@ abbrev pub ToldReadyUsed : Run → ℕ → Ready → List ℕ → ℕ → Type 0
 ToldReadyUsed r n x text status =
     ToldUsed r n (view_tree x.loaded.module) (world_view x.loaded.world) (programs_in x.loaded.world x.scripts.items)
     text status
+
+-- the sessions of a run over what there is, and what is told of them behind a front
+abbrev pub PlayedReady : Run → Ready → (sessions.World → List ℕ) → List ℕ → ℕ → List Session → Type 0
+PlayedReady r x front text status played =
+    IsPlayed r (view_tree x.loaded.module) (world_view x.loaded.world) (programs_in x.loaded.world x.scripts.items)
+    front text status played

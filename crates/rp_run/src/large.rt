@@ -8,8 +8,9 @@ ghost use Rattle.rp_base.specs.InMemory.{bytes_at};
 ghost use Rattle.rp_meaning.specs.Sessions.{Session as MeantSession};
 ghost use Rattle.rp_meaning.specs.Unmonitored.{told_of};
 ghost use Rattle.rp_run.specs.Output.{Finished, as_told, input_lines, number_line, run_status, run_text, used_lines};
+ghost use Rattle.rp_run.specs.Played.{PlayedRun, used_front};
 ghost use Rattle.rp_run.specs.Refusals.{OnRefusal};
-ghost use Rattle.rp_run.specs.SetUp.{IsReadyWith, IsSetUp, ToldReadyUsed};
+ghost use Rattle.rp_run.specs.SetUp.{IsReadyWith, IsSetUp, PlayedReady, ToldReadyUsed};
 ghost use Rattle.rp_run.specs.Steps.{IsCommandStatus};
 ghost use Rattle.rp_run.specs.Told.{ToldLarge, ToldRefusedRun, large_contents, large_lines, large_pair, large_run};
 ghost use Rattle.rp_run.specs.Told.{texts_at};
@@ -30,12 +31,15 @@ use rp_words::{Pair, Run, USUAL_LIMIT};
 use std::alloc::Global;
 
 /// What the program says where the large input of a size is to be run: its size, the bytes of its texts, the steps, the
-/// cells and the decisions that its run took, and then what a run without options tells. It is refused only for want of
-/// memory.
-pub fn answer_large(alloc: Global, size: u32) -> Result<Answer, Memory>
+/// cells and the decisions that its run took, and then what a run without options tells. Its session is put into what
+/// is empty before. It is refused only for want of memory.
+pub fn answer_large(alloc: Global, size: u32, sessions: &mut Vec<Session>) -> Result<Answer, Memory>
     requires some { 1 ≤ size }
     requires most { size ≤ 10000 }
+    requires none { sessions.old.items ≡ [] }
     ensures told { IfOk result (λ a. ToldLarge large_run (large_contents size) size a.text a.status.0) }
+    ensures played { IfOk result (λ a. PlayedRun large_run (large_contents size)
+        (used_front (large_lines size) sessions.new.items) a.text a.status.0 sessions.new.items) }
     ensures status { IfOk result (λ a. IsCommandStatus a.status.0) }
 {
     let command = large_run(alloc)?;
@@ -43,7 +47,7 @@ pub fn answer_large(alloc: Global, size: u32) -> Result<Answer, Memory>
     let lines = input_lines(alloc, size, texts.0.as_str(), texts.1.as_str())?;
     let files = large_files(alloc, texts)?;
     match read_ready(alloc, &command, files) {
-        Ok(ready) => play_large(alloc, &command, lines, ready),
+        Ok(ready) => play_large(alloc, &command, lines, ready, sessions),
         Err(Stop::Refused(answer)) => Ok(answer),
         Err(Stop::Failed) => unreachable!(),
         Err(Stop::Memory) => Err(Memory),
@@ -141,17 +145,29 @@ fn read_ready(alloc: Global, command: &Run, files: SureFiles) -> Result<Ready, S
     make_ready(alloc, command, &mut files)
 }
 
-/// Runs the script of the large input, and tells behind these lines what it took and what it came to. It is refused
-/// only for want of memory, for which a machine is taken that made all the steps that it counts.
-fn play_large(alloc: Global, command: &Run, lines: Printed, ready: Ready) -> Result<Answer, Memory>
+/// Runs the script of the large input, tells behind these lines what it took and what it came to, and hands out its
+/// session. It is refused only for want of memory, for which a machine is taken that made all the steps that it counts.
+fn play_large(
+    alloc: Global,
+    command: &Run,
+    lines: Printed,
+    ready: Ready,
+    played: &mut Vec<Session>,
+) -> Result<Answer, Memory>
     requires ready { IsSetUp (run_view command.now) ready }
     requires alone { length command.now.pairs.items ≡ 1 }
     ensures told { IfOk result (λ a. (n : ℕ) → lines ≡ large_lines n
         → ToldReadyUsed (run_view command.now) n ready a.text a.status.0) }
+    ensures played { IfOk result (λ a. PlayedReady (run_view command.now) ready
+        (used_front lines played.new.items) a.text a.status.0 played.new.items) }
     ensures status { IfOk result (λ a. IsCommandStatus a.status.0) }
 {
     match play_ready(alloc, command, ready) {
-        Ok(sessions) => answer_used(alloc, command, lines, &sessions),
+        Ok(sessions) => {
+            let told = answer_used(alloc, command, lines, &sessions);
+            *played = sessions.into_list();
+            told
+        }
         Err(NoOutcome::TooLong | NoOutcome::Memory) => Err(Memory),
     }
 }

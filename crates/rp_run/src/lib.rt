@@ -19,4 +19,4 @@ mod stop;
 mod telling;
 mod writing;
 
-pub use program::run;
+pub use program::{Ran, run};

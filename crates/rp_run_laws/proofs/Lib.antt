@@ -2,7 +2,9 @@ mod Beginnings
 pub mod Complete
 mod Determined
 mod Endings
+pub mod Entries
 mod Numbered
 mod Numbering
 mod Once
 mod OneFault
+pub mod Unwatched

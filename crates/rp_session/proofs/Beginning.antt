@@ -111,20 +111,22 @@ faithful-more w n p faithful = record {
 
 ready-so : (x : Sessions) (n : ℕ) (p : Program) (at : Oid) (j : Session) (who : Interacting) (steps : ℕ) (alloc : Global) (list : Vec Session Global)
     → AreReady x → length x.list.items < 2 ^ 32 - 1 → n ≡ length x.list.items + 1 → at.0 ≡ length x.world.store.heap → list.items ≡ x.list.items ++ j ∷ []
-    → j.running ≡ first_running n who steps → j.globals ≡ at → AnswersIn x.world who
+    → j.running ≡ first_running n who steps → j.globals ≡ at → j.given ≡ steps → AnswersIn x.world who
     → KeepsShape x.world.store.heap (with_globals x.world n p).store.heap
     → AreReady (record { alloc = alloc; world = with_globals x.world n p; list = list })
-ready-so x n p at j who steps alloc list ready few number place items running globals grants shape =
+ready-so x n p at j who steps alloc list ready few number place items running globals given grants shape =
     let w = x.world in
     let v = with_globals w n p in
     let faithful : IsFaithful v = faithful-more w n p ready.faithful in
     let session : j.running.session ≡ 1 + length x.list.items = ap (λ (r : Running). r.session) running ∙ omega arith in
     let scope : IsScopeOf v.store.heap (record { 0 = n }) at =
     scope-last w.store.heap (record { owner = record { 0 = n }; content = globals_of p }) at place tt in
+    let left : j.running.meter.left ≡ steps = ap (λ (r : Running). r.meter.left) running in
     let own : IsAtHome v j = record {
       scope = subst (λ m. IsScopeOf v.store.heap (record { 0 = m }) j.globals) (sym (ap (λ (r : Running). r.session) running))
           (subst (IsScopeOf v.store.heap (record { 0 = n })) (sym globals) scope);
       grants = subst (AnswersIn v) (sym (ap (λ (r : Running). r.interaction) running)) grants;
+      steps = omega (arith, left, given);
     } in
     let others : All (IsAtHome v) x.list.items = λ i k inside.
     home-last w v _ ready.faithful faithful (record { declarations = refl; names = GrowsTo-refl w.names }) shape (ready.home i k inside) in
@@ -139,9 +141,16 @@ ready-so x n p at j who steps alloc list ready few number place items running gl
 pub ready-more : (x : Sessions) (n : ℕ) (p : Program) (at : Oid) (j : Session) (who : Interacting) (steps : ℕ) (v : World) (alloc : Global)
     (list : Vec Session Global)
     → AreReady x → length x.list.items < 2 ^ 32 - 1 → n ≡ length x.list.items + 1 → v ≡ with_globals x.world n p → at.0 ≡ length x.world.store.heap → list.items ≡ x.list.items ++ j ∷ []
-    → j.running ≡ first_running n who steps → j.globals ≡ at → AnswersIn x.world who → KeepsShape x.world.store.heap v.store.heap
+    → j.running ≡ first_running n who steps → j.globals ≡ at → j.given ≡ steps → AnswersIn x.world who → KeepsShape x.world.store.heap v.store.heap
     → AreReady (record { alloc = alloc; world = v; list = list })
-ready-more x n p at j who steps v alloc list ready few number world place items running globals grants shape =
+ready-more x n p at j who steps v alloc list ready few number world place items running globals given grants shape =
     subst (λ (v : World). AreReady (record { alloc = alloc; world = v; list = list })) (sym world)
-    (ready-so x n p at j who steps alloc list ready few number place items running globals grants
+    (ready-so x n p at j who steps alloc list ready few number place items running globals given grants
     (subst (λ (v : World). KeepsShape x.world.store.heap v.store.heap) world shape))
+
+-- the steps that each was given, with one more
+pub given-more : (ks js : List Session) (j : Session) (steps : ℕ) → js ≡ ks ++ j ∷ [] → j.given ≡ steps
+    → map (λ (k : Session). k.given) js ≡ map (λ (k : Session). k.given) ks ++ steps ∷ []
+given-more ks js j steps items given =
+    ap (map (λ (k : Session). k.given)) items ∙ map-append (λ (k : Session). k.given) ks (j ∷ [])
+    ∙ ap (λ (n : ℕ). map (λ (k : Session). k.given) ks ++ n ∷ []) given

@@ -86,6 +86,7 @@ pub home-last : (w v : World) (k : Session) → IsFaithful w → IsFaithful v �
 home-last w v k before after on shape home = record {
   scope = shape.scope (record { 0 = k.running.session }) k.globals home.scope;
   grants = answers-last w v k.running.interaction before after on home.grants;
+  steps = home.steps;
 }
 
 -- the world with what another session runs with

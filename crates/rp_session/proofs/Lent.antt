@@ -1,5 +1,5 @@
 -- A session ran statements in the world, to which it had lent what it runs with.
-use Rattle.std.proofs.Common.{◌≡◌, refl, sym, ap, subst, ◌∙◌, ◌+◌, Bool, List, Option, Result}
+use Rattle.std.proofs.Common.{◌≡◌, refl, sym, ap, subst, ◌∙◌, ◌+◌, ◌≤◌, Bool, List, Option, Result}
 use Rattle.rp_access.specs.Comes.{Comes}
 use Rattle.rp_access.specs.Moment.{state_of}
 use Rattle.rp_base.specs.declared.value.OpEnd.{OpEnd}
@@ -35,13 +35,13 @@ pub record Ran (units : Units) (xs : List Stmt) (is_last : Bool) (w : World) (k 
 
 -- the session behind it
 abbrev pub behind : Session → Running → Option SessionEnd → Session
-behind k running end = record { running = running; globals = k.globals; next = k.next + 1; end = end }
+behind k running end = record { running = running; globals = k.globals; next = k.next + 1; end = end; given = k.given }
 
 ran-so : (units : Units) (w : World) (k : Session) (xs : List Stmt) (is_last : Bool) (u : World) (end : Option SessionEnd)
     → ((base : Run) → EndsSo end is_last (state_of u) (comes_of (run_of base units) xs w k))
-    → IsFaithful w → IsAtHome w k → IsFaithful u → KeepsShape w.store.heap u.store.heap
+    → IsFaithful w → IsAtHome w k → IsFaithful u → KeepsShape w.store.heap u.store.heap → u.running.meter.left ≤ k.given
     → Ran units xs is_last w k (record u { running = w.running }) (behind k u.running end)
-ran-so units w k xs is_last u end ends before home after shape =
+ran-so units w k xs is_last u end ends before home after shape left =
     let stays : Stays (setting_of (moment w k)) (setting_of (state_of u)) =
     settled (run_of some_run units) xs is_last end w k (state_of u) (ends some_run) in
     let on : GoesOn w u = record { declarations = stays.declarations; names = stays.names } in
@@ -59,8 +59,9 @@ ran-so units w k xs is_last u end ends before home after shape =
         scope = subst (λ n. IsScopeOf u.store.heap (record { 0 = n }) k.globals) (sym stays.session)
             (shape.scope (record { 0 = k.running.session }) k.globals home.scope);
         grants = after.grants;
+        steps = left;
       };
-      others = λ o there. let h = home-last w u o before after on shape there in record { scope = h.scope; grants = h.grants };
+      others = λ o there. let h = home-last w u o before after on shape there in record { scope = h.scope; grants = h.grants; steps = h.steps };
     }
 
 -- What the session runs with was exchanged for what the world held, and back.
@@ -70,13 +71,14 @@ pub ran : (units : Units) (w : World) (k : Session) (xs : List Stmt) (is_last : 
     → ((base : Run) → Comes (flows came) (state_of u)
     (does.block xs (program_frame (run_of base units) (record { 0 = lent.session }) k.globals) (state_of (record w { running = lent }))))
     → ((s : State) (o : Outcome Flow) → Comes (flows came) s o → EndsSo end is_last s o)
-    → IsFaithful w → IsAtHome w k → IsFaithful u → KeepsShape w.store.heap u.store.heap
+    → IsFaithful w → IsAtHome w k → IsFaithful u → KeepsShape w.store.heap u.store.heap → kept.meter.left ≤ k.given
     → Ran units xs is_last w k (record u { running = back }) (behind k kept end)
-ran units w k xs is_last lent held u back kept came end p q r t law ended before home after shape =
+ran units w k xs is_last lent held u back kept came end p q r t law ended before home after shape left =
     let comes : (base : Run) → Comes (flows came) (state_of u) (comes_of (run_of base units) xs w k) = λ base.
     subst (λ (lent : Running). Comes (flows came) (state_of u)
     (does.block xs (program_frame (run_of base units) (record { 0 = lent.session }) k.globals) (state_of (record w { running = lent })))) p (law base) in
-    let so = ran-so units w k xs is_last u end (λ base. ended (state_of u) (comes_of (run_of base units) xs w k) (comes base)) before home after shape in
+    let so = ran-so units w k xs is_last u end (λ base. ended (state_of u) (comes_of (run_of base units) xs w k) (comes base)) before home after shape
+    (subst (λ (kept : Running). kept.meter.left ≤ k.given) t left) in
     let there = subst (λ (back : Running). Ran units xs is_last w k (record u { running = back }) (behind k u.running end)) (sym (r ∙ q)) so in
     subst (λ (kept : Running). Ran units xs is_last w k (record u { running = back }) (behind k kept end)) (sym t) there
 

@@ -128,6 +128,13 @@ ready-after x v i j list ready items number faithful home others =
       few = let before : length x.list.items < 2 ^ 32 = ready.few in omega arith;
     }
 
+-- and each was given as many steps
+pub given-set : (ks : List Session) (i : ℕ) (d j : Session) → j.given ≡ (get_or ks i d).given
+    → map (λ (k : Session). k.given) (set ks i j) ≡ map (λ (k : Session). k.given) ks
+given-set [] i d j e = refl
+given-set (k ∷ ks) zero d j e = ap (λ (n : ℕ). n ∷ map (λ (k : Session). k.given) ks) e
+given-set (k ∷ ks) (suc i) d j e = ap (λ (ns : List ℕ). k.given ∷ ns) (given-set ks i d j e)
+
 -- turns one after another
 
 pub turns-step : (run : Run) (xs : List ℕ) (i d : ℕ) (w v : meant.World) → i < length xs → v ≡ turn run (get_or xs i d) w

@@ -1,5 +1,5 @@
 -- When sessions may take turns in a world.
-use Rattle.std.specs.Prelude.{◌≡◌, ◌<◌, ◌^◌, ℕ, suc, List, [], ◌∷◌, length}
+use Rattle.std.specs.Prelude.{◌≡◌, ◌<◌, ◌≤◌, ◌^◌, ℕ, suc, List, [], ◌∷◌, length}
 use Rattle.std.specs.List.{All}
 use Rattle.rp_base.specs.declared.value.Side.{Side}
 use Rattle.rp_interact.specs.Answers.{AnswersAs}
@@ -18,10 +18,12 @@ use Rattle.rp_session.specs.declared.sessions.Sessions.{Sessions}
 abbrev pub AnswersIn : World → Interacting → Type 0
 AnswersIn w i = (later : List (List ℕ)) → MayGrowTo w.names later → AnswersAs later w.decl i
 
--- its global scope is one of its side, and its principals are granted and denied what the declarations say
+-- its global scope is one of its side, its principals are granted and denied what the declarations say, and no more
+-- steps are left to it than it was given
 pub record IsAtHome (w : World) (k : Session) : Type 0 where
   pub scope : IsScopeOf w.store.heap (record { 0 = k.running.session }) k.globals
   pub grants : AnswersIn w k.running.interaction
+  pub steps : k.running.meter.left ≤ k.given
 
 -- numbered one after another from there on
 abbrev pub AreNumberedFrom : ℕ → List Session → Type 0

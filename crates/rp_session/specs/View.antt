@@ -1,5 +1,5 @@
 -- The sessions as their meaning has them.
-use Rattle.std.specs.Prelude.{◌≡◌, ◌<◌, ◌≤◌, ℕ, List, map, Bool, if◌then◌else◌, Option, Some, None, Result, Ok, Err}
+use Rattle.std.specs.Prelude.{◌≡◌, ◌<◌, ◌≤◌, ◌+◌, ◌-◌, ℕ, List, map, Bool, if◌then◌else◌, Option, Some, None, Result, Ok, Err}
 use Rattle.std.specs.Option.{option_map}
 use Rattle.rp_decl.specs.View.{declarations_view}
 use Rattle.rp_ops.specs.Outcome.{End, raised, no_step, no_cell}
@@ -30,6 +30,15 @@ session_view k = record {
   end = option_map end_view k.end;
 }
 
+-- the steps that it has used
+abbrev pub played_of : Session → ℕ
+played_of k = k.given - k.running.meter.left
+
+-- it was given so many steps: those that it has used and those that are left to it
+pub record AddsUp (steps : ℕ) (k : Session) : Type 0 where
+  pub given : k.given ≡ steps
+  pub sum : played_of k + (session_view k).steps ≡ steps
+
 -- what sessions share, and some sessions
 abbrev pub shared : World → List meant.Session → meant.World
 shared w ks = record {
@@ -42,6 +51,10 @@ shared w ks = record {
 
 abbrev pub sessions_view : Sessions → meant.World
 sessions_view x = shared x.world (map session_view x.list.items)
+
+-- the steps that each was given, in order
+abbrev pub given_to : Sessions → List ℕ
+given_to x = map (λ (k : Session). k.given) x.list.items
 
 -- whether a session has ended with what a statement came to, which may be its last
 abbrev pub ended : Bool → Result Flow End → Option meant.SessionEnd

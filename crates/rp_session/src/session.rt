@@ -7,7 +7,7 @@ ghost use Rattle.rp_proxy.specs.Faithful.{IsFaithful};
 ghost use Rattle.rp_session.specs.Ready.{AreLaidOut, IsAtHome};
 ghost use Rattle.rp_session.specs.declared.session.Session.{Session as TheSession};
 ghost use Rattle.rp_session.specs.Turns.{Runs, TakesTurn};
-ghost use Rattle.rp_session.specs.View.{end_view, session_view};
+ghost use Rattle.rp_session.specs.View.{end_view, played_of, session_view};
 ghost use Rattle.rp_engine.specs.Moment.{program_view, run_of};
 
 use crate::session_end::SessionEnd;
@@ -29,6 +29,8 @@ pub struct Session {
     pub next: usize,
     /// How it ended, where it has.
     pub end: Option<SessionEnd>,
+    /// The steps that it was given.
+    pub given: u64,
 }
 
 impl Session {
@@ -38,12 +40,15 @@ impl Session {
         ensures globals { result.globals ≡ globals }
         ensures next { result.next ≡ 0 }
         ensures end { option_map end_view result.end ≡ first_end (program_view program.now).body }
+        ensures given { result.given ≡ running.meter.left }
     {
+        let given = running.meter.left;
         Session {
             running,
             globals,
             next: 0,
             end: SessionEnd::first(program),
+            given,
         }
     }
 
@@ -68,6 +73,13 @@ impl Session {
         self.running.meter.left
     }
 
+    /// The steps that it has used: those that it was given without those that are left to it (`AddsUp`).
+    pub fn played(&self) -> u64
+        ensures { result ≡ played_of self.now }
+    {
+        self.given.saturating_sub(self.running.meter.left)
+    }
+
     /// How it ended, None where it has not.
     pub fn end(&self) -> Option<&SessionEnd>
         ensures { option_map (λ end. end_view end.now) result ≡ (session_view self.now).end }
@@ -78,7 +90,7 @@ impl Session {
     /// Takes a turn: runs the next statement, where the session has not ended.
     ///
     /// # Errors
-    /// As those of `Runner::run_block`.
+    /// As those of `run`.
     pub(crate) fn turn<'u>(
         &mut self,
         alloc: Global,
@@ -91,6 +103,7 @@ impl Session {
         ensures turn { OnOk result ((base : Run)
             → TakesTurn (run_of base units.now) world.old self.old world.new self.new) }
         ensures number { OnOk result (self.new.running.session ≡ self.old.running.session) }
+        ensures given { OnOk result (self.new.given ≡ self.old.given) }
         ensures faithful { OnOk result (IsFaithful world.new) }
         ensures home { OnOk result (IsAtHome world.new self.new) }
         ensures others { OnOk result ((k : TheSession) → IsAtHome world.old k → IsAtHome world.new k) }
@@ -117,6 +130,10 @@ impl Session {
     }
 
     /// Runs statements of its program, which may be the last, in the world: it lends the world what it runs with.
+    ///
+    /// # Errors
+    /// As those of `Runner::run_block`, and `TooLong` where more steps were left than it was given. There is no such
+    /// statement, but that is no law of the meaning.
     fn run<'u>(
         &mut self,
         alloc: Global,
@@ -131,6 +148,7 @@ impl Session {
         requires room { self.old.next + 1 < 2 ^ 64 }
         ensures runs { OnOk result ((base : Run)
             → Runs (run_of base units.now) statements.now is_last world.old self.old world.new self.new) }
+        ensures given { OnOk result (self.new.given ≡ self.old.given) }
         ensures faithful { OnOk result (IsFaithful world.new) }
         ensures home { OnOk result (IsAtHome world.new self.new) }
         ensures others { OnOk result ((k : TheSession) → IsAtHome world.old k → IsAtHome world.new k) }
@@ -140,6 +158,9 @@ impl Session {
         let end = run_statements(alloc, units, world, side, self.globals, statements);
         mem::swap(&mut world.running, &mut self.running);
         self.end = SessionEnd::after(end?, is_last)?;
+        if self.running.meter.left > self.given {
+            return Err(Halt::TooLong);
+        }
         self.next += 1;
         Ok(())
     }

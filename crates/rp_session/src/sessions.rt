@@ -1,13 +1,13 @@
 //! Sessions that take turns.
 
-ghost use Rattle.std.specs.Prelude.{◌≡◌, ◌<◌, ◌≤◌, ◌+◌, ◌-◌, ◌^◌, [], length, IfErr, IfOk, OnErr, OnOk};
+ghost use Rattle.std.specs.Prelude.{◌≡◌, ◌<◌, ◌≤◌, ◌+◌, ◌-◌, ◌^◌, ◌∷◌, ◌++◌, [], length, IfErr, IfOk, OnErr, OnOk};
 ghost use Rattle.rp_meaning.specs.Frame.{Run};
 ghost use Rattle.rp_meaning.specs.Load.{with_new_session};
 ghost use Rattle.rp_meaning.specs.Sessions.{finished, run_all, turn, turns, turns_of};
 ghost use Rattle.rp_meaning.specs.Expressions.{empty_slots};
 ghost use Rattle.rp_proxy.specs.Faithful.{IsFaithful};
 ghost use Rattle.rp_session.specs.Ready.{AnswersIn, AreLaidOut, AreReady};
-ghost use Rattle.rp_session.specs.View.{IsHaltOf, sessions_view};
+ghost use Rattle.rp_session.specs.View.{IsHaltOf, given_to, sessions_view};
 ghost use Rattle.rp_session.specs.Begun.{globals_of};
 ghost use Rattle.rp_engine.specs.Moment.{run_of};
 ghost use Rattle.rp_store.specs.Shape.{KeepsShape};
@@ -61,6 +61,7 @@ impl Sessions {
         ensures same { OnErr result (sessions_view self.new ≡ sessions_view self.old) }
         ensures ready { AreReady self.new }
         ensures count { OnOk result (length self.new.list.items ≡ length self.old.list.items + 1) }
+        ensures given { OnOk result (given_to self.new ≡ given_to self.old ++ steps ∷ []) }
         ensures names { OnOk result (self.new.world.names ≡ self.old.world.names) }
         ensures decl { OnOk result (self.new.world.decl ≡ self.old.world.decl) }
     {
@@ -107,7 +108,7 @@ impl Sessions {
     /// no such session, nothing changes.
     ///
     /// # Errors
-    /// Those of `Runner::run_block`, with the number.
+    /// Those of `Session::turn`, with the number.
     pub fn turn(&mut self, units: &Units<'_>, number: u32) -> Result<(), SessionHalt>
         requires ready { AreReady self.old }
         requires laid { AreLaidOut units.now }
@@ -115,6 +116,7 @@ impl Sessions {
             ≡ turn (run_of base units.now) number (sessions_view self.old)) }
         ensures ready { OnOk result (AreReady self.new) }
         ensures count { OnOk result (length self.new.list.items ≡ length self.old.list.items) }
+        ensures given { OnOk result (given_to self.new ≡ given_to self.old) }
         ensures halt { IfErr result (IsHaltOf (length self.old.list.items)) }
     {
         match self.take_turn(units, number) {
@@ -134,6 +136,7 @@ impl Sessions {
             ≡ turn (run_of base units.now) number (sessions_view self.old)) }
         ensures ready { OnOk result (AreReady self.new) }
         ensures count { OnOk result (length self.new.list.items ≡ length self.old.list.items) }
+        ensures given { OnOk result (given_to self.new ≡ given_to self.old) }
         ensures some { OnErr result (0 < number) }
         ensures within { OnErr result (number ≤ length self.old.list.items) }
     {
@@ -156,6 +159,7 @@ impl Sessions {
             ≡ turns (run_of base units.now) listed.now (sessions_view self.old)) }
         ensures ready { OnOk result (AreReady self.new) }
         ensures count { OnOk result (length self.new.list.items ≡ length self.old.list.items) }
+        ensures given { OnOk result (given_to self.new ≡ given_to self.old) }
         ensures halt { IfErr result (IsHaltOf (length self.old.list.items)) }
     {
         for number in listed {
@@ -172,6 +176,7 @@ impl Sessions {
             ≡ turns_of (run_of base units.now) count number (sessions_view self.old)) }
         ensures ready { OnOk result (AreReady self.new) }
         ensures count { OnOk result (length self.new.list.items ≡ length self.old.list.items) }
+        ensures given { OnOk result (given_to self.new ≡ given_to self.old) }
         ensures halt { IfErr result (IsHaltOf (length self.old.list.items)) }
     {
         let mut left = count;
@@ -193,6 +198,7 @@ impl Sessions {
             ≡ finished (run_of base units.now) (sessions_view self.old).sessions (sessions_view self.old)) }
         ensures ready { OnOk result (AreReady self.new) }
         ensures count { OnOk result (length self.new.list.items ≡ length self.old.list.items) }
+        ensures given { OnOk result (given_to self.new ≡ given_to self.old) }
         ensures halt { IfErr result (IsHaltOf (length self.old.list.items)) }
     {
         let count = self.list.len() as u32;
@@ -215,6 +221,7 @@ impl Sessions {
             ≡ run_all (run_of base units.now) listed.now (sessions_view self.old)) }
         ensures ready { OnOk result (AreReady self.new) }
         ensures count { OnOk result (length self.new.list.items ≡ length self.old.list.items) }
+        ensures given { OnOk result (given_to self.new ≡ given_to self.old) }
         ensures halt { IfErr result (IsHaltOf (length self.old.list.items)) }
     {
         self.turns(units, listed)?;
@@ -226,6 +233,13 @@ impl Sessions {
         ensures { result.now ≡ self.now.list.items }
     {
         self.list.as_slice()
+    }
+
+    /// The sessions alone.
+    pub fn into_list(self) -> Vec<Session>
+        ensures { result ≡ self.list }
+    {
+        self.list
     }
 
     /// What they share.

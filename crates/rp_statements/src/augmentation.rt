@@ -6,7 +6,7 @@ ghost use Rattle.rp_meaning.specs.Frame.{bind_name};
 ghost use Rattle.rp_meaning.specs.Statements as stmt_forms;
 ghost use Rattle.rp_store.specs.Kept.{IsFit};
 ghost use Rattle.rp_store.specs.Shape.{KeepsShape};
-ghost use Rattle.rp_engine.specs.Augments.{name_augmented};
+ghost use Rattle.rp_engine.specs.AugmentSteps.{name_augmented};
 ghost use Rattle.rp_engine.specs.Does as does;
 ghost use Rattle.rp_engine.specs.Law.{Executes, ResumesStmt};
 ghost use Rattle.rp_engine.specs.Ready.{IsReady};

@@ -10,7 +10,7 @@ ghost use Rattle.rp_ops.specs.Outcome.{on_value};
 ghost use Rattle.rp_proxy.specs.declared.world.World.{World as TheWorld};
 ghost use Rattle.rp_store.specs.Kept.{IsFit};
 ghost use Rattle.rp_store.specs.Shape.{KeepsShape};
-ghost use Rattle.rp_engine.specs.Augments.{attribute_augmented, attribute_from, item_augmented, item_from, key_from};
+ghost use Rattle.rp_engine.specs.AugmentSteps.{attribute_augmented, attribute_from, item_augmented, item_from, key_from};
 ghost use Rattle.rp_engine.specs.Does as does;
 ghost use Rattle.rp_engine.specs.Law.{Executes, ResumesStmt, frame_in, rest_of};
 ghost use Rattle.rp_engine.specs.Ready.{IsReady};

@@ -7,7 +7,7 @@ ghost use Rattle.rp_proxy.specs.declared.world.World.{World as TheWorld};
 ghost use Rattle.rp_store.specs.Shape.{KeepsShape};
 ghost use Rattle.rp_engine.specs.Does as does;
 ghost use Rattle.rp_engine.specs.Law.{Executes};
-ghost use Rattle.rp_engine.specs.Raising.{raised_value};
+ghost use Rattle.rp_engine.specs.RaisingSteps.{raised_value};
 ghost use Rattle.rp_engine.specs.Ready.{IsReady};
 
 use crate::handling::raise_handled;

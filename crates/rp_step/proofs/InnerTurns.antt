@@ -21,7 +21,7 @@ use Rattle.rp_access.specs.Comes.{IsEnd}
 use Rattle.rp_access.specs.Moment.{state_of}
 use Rattle.rp_engine.specs.ComprehensionSteps.{turns_within}
 use Rattle.rp_engine.specs.Law.{Evaluates, Executes, frame_in, rest_of}
-use Rattle.rp_engine.specs.Loops.{all_turns}
+use Rattle.rp_engine.specs.LoopSteps.{all_turns}
 use Rattle.rp_engine.specs.Ready.{IsReady}
 use Rattle.rp_engine.specs.Rest.{gave, rest}
 use Rattle.rp_engine.specs.declared.halt.Halt.{Halt}

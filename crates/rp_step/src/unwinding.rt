@@ -12,7 +12,7 @@ ghost use Rattle.rp_access.specs.Comes.{Comes, IsEnd};
 ghost use Rattle.rp_store.specs.Shape.{KeepsShape};
 ghost use Rattle.rp_engine.specs.Ends.{end_of};
 ghost use Rattle.rp_engine.specs.Law.{Takes, TakesUp, frame_in, rest_of};
-ghost use Rattle.rp_engine.specs.Left.{at_hand, stmt_with};
+ghost use Rattle.rp_engine.specs.WaitSteps.{at_hand, stmt_with};
 ghost use Rattle.rp_step.specs.Left.{at_end, flows, left_by};
 ghost use Rattle.rp_access.specs.Moment.{state_of};
 ghost use Rattle.rp_engine.specs.Ready.{IsReady};

@@ -26,7 +26,7 @@ use Rattle.rp_engine.specs.Does as does
 use Rattle.rp_engine.specs.Law.{Executes, frame_in, rest_of}
 use Rattle.rp_engine.specs.Ready.{IsReady}
 use Rattle.rp_engine.specs.Rest.{after, did, rest}
-use Rattle.rp_engine.specs.Unpackings.{each_stored, store_from}
+use Rattle.rp_engine.specs.UnpackingSteps.{each_stored, store_from}
 use Rattle.rp_engine.specs.declared.halt.Halt.{Halt}
 use Rattle.rp_engine.specs.declared.machine.Machine.{Machine}
 use Rattle.rp_engine.specs.declared.units.Units.{Units}

@@ -12,7 +12,7 @@ use Rattle.rp_ops.specs.Walk.{Cursor, walk_of}
 use Rattle.rp_proxy.specs.declared.world.World.{World}
 use Rattle.rp_access.specs.Comes.{IsEnd}
 use Rattle.rp_engine.specs.Law.{frame_in}
-use Rattle.rp_engine.specs.Loops.{all_turns, each_turn, over, turn_before, walked}
+use Rattle.rp_engine.specs.LoopSteps.{all_turns, each_turn, over, turn_before, walked}
 use Rattle.rp_access.specs.Moment.{state_of}
 use Rattle.rp_access.specs.Spots.{next_taken, walk_asked}
 use Rattle.rp_engine.specs.declared.machine.Machine.{Machine}

@@ -11,7 +11,7 @@ ghost use Rattle.rp_store.specs.Kept.{IsFit};
 ghost use Rattle.rp_store.specs.Shape.{KeepsShape};
 ghost use Rattle.rp_engine.specs.Does as does;
 ghost use Rattle.rp_engine.specs.Law.{Executes, frame_in, rest_of};
-ghost use Rattle.rp_engine.specs.Loops.{all_turns, each_turn, over, turn_before, walked};
+ghost use Rattle.rp_engine.specs.LoopSteps.{all_turns, each_turn, over, turn_before, walked};
 ghost use Rattle.rp_access.specs.Moment.{state_of};
 ghost use Rattle.rp_engine.specs.Ready.{IsReady};
 ghost use Rattle.rp_engine.specs.Rest.{after_flow, did, rest};

@@ -12,7 +12,7 @@ ghost use Rattle.rp_engine.specs.Does as does;
 ghost use Rattle.rp_engine.specs.Law.{Executes, frame_in, rest_of};
 ghost use Rattle.rp_engine.specs.Ready.{IsReady};
 ghost use Rattle.rp_engine.specs.Rest.{did, rest};
-ghost use Rattle.rp_engine.specs.Unpackings.{each_stored, store_from};
+ghost use Rattle.rp_engine.specs.UnpackingSteps.{each_stored, store_from};
 
 use crate::places::store;
 use rp_base::Value;

@@ -6,6 +6,8 @@ mod check_tests;
 #[cfg(test)]
 mod front_tests;
 #[cfg(test)]
+mod handed_tests;
+#[cfg(test)]
 mod module_tests;
 #[cfg(test)]
 mod object_tests;
@@ -23,5 +25,9 @@ mod report_tests;
 mod several_tests;
 #[cfg(test)]
 mod show_tests;
+#[cfg(test)]
+mod turn_tests;
+#[cfg(test)]
+mod walked_tests;
 #[cfg(test)]
 mod words_tests;

@@ -3,7 +3,7 @@
 ghost use Rattle.std.specs.Prelude.{◌≡◌};
 
 use rp_base::{Files, MemFiles, MemSink, Memory, Sink, Status, Text};
-use rp_run::run;
+use rp_run::{Ran, run};
 use rp_tests_cases::{FOLDER_FILE, Question, ROLES_FILE, is_told, part};
 use rp_words::USAGE;
 use std::alloc::{AllocError, Global};
@@ -110,6 +110,21 @@ fn word_list(alloc: Global, line: &str) -> Result<Vec<String>, AllocError> {
 }
 
 /// Runs the words of a line.
+pub fn ran_of<F: Files, K: Sink>(
+    alloc: Global,
+    line: &str,
+    files: &mut F,
+    out: &mut K,
+) -> Result<Ran, Fail>
+    requires unread { F.begun files.old ≡ 0 }
+    requires sound_files { F.faults files.old ≡ 0 }
+    requires sound_out { K.faults out.old ≡ 0 }
+{
+    let words = word_list(alloc, line)?;
+    Ok(run(alloc, words.as_slice(), files, out))
+}
+
+/// The status to which the words of a line come.
 pub fn status_of<F: Files, K: Sink>(
     alloc: Global,
     line: &str,
@@ -120,8 +135,8 @@ pub fn status_of<F: Files, K: Sink>(
     requires sound_files { F.faults files.old ≡ 0 }
     requires sound_out { K.faults out.old ≡ 0 }
 {
-    let words = word_list(alloc, line)?;
-    Ok(run(alloc, words.as_slice(), files, out))
+    let ran = ran_of(alloc, line, files, out)?;
+    Ok(ran.status)
 }
 
 /// What is written, and the status behind it.

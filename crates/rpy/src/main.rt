@@ -23,7 +23,8 @@ fn status(rt: HostRuntime) -> Status {
             let alloc = rt.alloc();
             let mut out = HostSink::new(rt.stdout());
             let mut files = HostFiles::new(rt);
-            run(alloc, words.as_slice(), &mut files, &mut out)
+            let ran = run(alloc, words.as_slice(), &mut files, &mut out);
+            ran.status
         }
         Err(status) => status,
     }

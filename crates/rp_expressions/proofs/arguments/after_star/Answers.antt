@@ -7,7 +7,7 @@ use Rattle.rp_engine.proofs.Worlds.{IsReady-goes}
 use Rattle.rp_engine.specs.ArgumentSteps.{with_arguments, with_spread}
 use Rattle.rp_engine.specs.Does as does
 use Rattle.rp_engine.specs.Law.{frame_in}
-use Rattle.rp_store.proofs.Shapes.{KeepsShape-trans}
+use Rattle.rp_store.proofs.CallerLemmas.{KeepsShape-trans}
 use Rattle.rp_expressions.proofs.arguments.after_star.Goals as goal
 
 pub returns-in-Ok-clause-law : goal.returns-in-Ok-clause-law

@@ -6,7 +6,7 @@ use Rattle.rp_engine.proofs.Moves.{on_ok}
 use Rattle.rp_expressions.proofs.Spreads.{key_waits, plain_calls, plain_hand, star_waits, stars_waits}
 use Rattle.rp_expressions.specs.Arguments.{NamedCalls}
 use Rattle.rp_engine.specs.Does as does
-use Rattle.rp_store.proofs.Shapes.{KeepsShape-same}
+use Rattle.rp_store.proofs.CallerLemmas.{KeepsShape-same}
 use Rattle.rp_expressions.proofs.arguments.argument.Goals as goal
 
 pub returns-in-Plain-clause-law : goal.returns-in-Plain-clause-law

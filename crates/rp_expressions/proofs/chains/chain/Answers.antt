@@ -1,5 +1,5 @@
 use Rattle.std.proofs.Common.{Ok, ap}
-use Rattle.rp_store.proofs.Shapes.{KeepsShape-trans}
+use Rattle.rp_store.proofs.CallerLemmas.{KeepsShape-trans}
 use Rattle.rp_engine.proofs.Answering.{put_ends, put_waits}
 use Rattle.rp_engine.specs.Does as does
 use Rattle.rp_meaning.specs.Expressions as forms

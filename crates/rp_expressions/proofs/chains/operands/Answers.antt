@@ -8,7 +8,7 @@ use Rattle.rp_engine.specs.Does as does
 use Rattle.rp_engine.specs.Law.{frame_in}
 use Rattle.rp_access.specs.Moment.{state_of}
 use Rattle.rp_expressions.proofs.Fronts.{operands_front}
-use Rattle.rp_store.proofs.Shapes.{KeepsShape-same}
+use Rattle.rp_store.proofs.CallerLemmas.{KeepsShape-same}
 use Rattle.rp_expressions.proofs.chains.operands.Goals as goal
 
 pub returns-in-len1-up-clause-law : goal.returns-in-len1-up-clause-law

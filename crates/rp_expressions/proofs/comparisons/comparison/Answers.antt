@@ -3,7 +3,7 @@ use Rattle.rp_engine.proofs.Answering.{put, put_ends, put_waits}
 use Rattle.rp_engine.specs.Does as does
 use Rattle.rp_meaning.specs.Expressions as forms
 use Rattle.rp_expressions.proofs.Found.{found_fit}
-use Rattle.rp_store.proofs.Shapes.{KeepsShape-trans}
+use Rattle.rp_store.proofs.CallerLemmas.{KeepsShape-trans}
 use Rattle.rp_expressions.proofs.comparisons.comparison.Goals as goal
 
 pub returns-in-Ok-Some-clause-law : goal.returns-in-Ok-Some-clause-law

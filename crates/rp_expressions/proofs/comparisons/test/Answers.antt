@@ -3,7 +3,7 @@ use Rattle.rp_engine.proofs.Answering.{step_put, step_ends, step_waits}
 use Rattle.rp_engine.specs.Does as does
 use Rattle.rp_engine.specs.ComparisonSteps.{with_test}
 use Rattle.rp_expressions.proofs.Found.{found_fit}
-use Rattle.rp_store.proofs.Shapes.{KeepsShape-trans}
+use Rattle.rp_store.proofs.CallerLemmas.{KeepsShape-trans}
 use Rattle.rp_expressions.proofs.comparisons.test.Goals as goal
 
 pub returns-in-Ok-Some-clause-law : goal.returns-in-Ok-Some-clause-law

@@ -4,7 +4,7 @@ use Rattle.rp_engine.proofs.Moves.{end_ok}
 use Rattle.rp_meaning.specs.Expressions as forms
 use Rattle.rp_engine.specs.Does as does
 use Rattle.rp_tree.specs.declared.expr.Params.{out-Params}
-use Rattle.rp_store.proofs.Shapes.{KeepsShape-trans}
+use Rattle.rp_store.proofs.CallerLemmas.{KeepsShape-trans}
 use Rattle.rp_engine.proofs.Worlds.{IsReady-stored, shape_stored}
 use Rattle.rp_expressions.proofs.definitions.lambda.Goals as goal
 

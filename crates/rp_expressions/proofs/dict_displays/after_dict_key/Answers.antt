@@ -4,7 +4,7 @@ use Rattle.rp_frame.specs.declared.display.Display.TheVariants.{Dict}
 use Rattle.rp_engine.proofs.Gatherings.{gathers_next}
 use Rattle.rp_engine.specs.DisplaySteps.{parts}
 use Rattle.rp_engine.specs.Does as does
-use Rattle.rp_engine.specs.Gathering.{Gathers}
+use Rattle.rp_engine.specs.GatheringSteps.{Gathers}
 use Rattle.rp_engine.specs.declared.machine.Machine.{Machine}
 use Rattle.rp_expressions.proofs.dict_displays.after_dict_key.Goals as goal
 

@@ -1,6 +1,6 @@
 use Rattle.rp_expressions.proofs.DictDisplays.{dict_ends, dict_goes}
 use Rattle.rp_engine.specs.Does as does
-use Rattle.rp_store.proofs.Shapes.{KeepsShape-trans}
+use Rattle.rp_store.proofs.CallerLemmas.{KeepsShape-trans}
 use Rattle.rp_engine.proofs.Worlds.{IsReady-stored, shape_stored}
 use Rattle.rp_expressions.proofs.dict_displays.dict_display.Goals as goal
 

@@ -2,7 +2,7 @@ use Rattle.std.proofs.Common.{subst}
 use Rattle.std.specs.Prelude.{OnOk}
 use Rattle.rp_engine.proofs.Gatherings.{gathers_next}
 use Rattle.rp_engine.specs.Does as does
-use Rattle.rp_engine.specs.Gathering.{Gathers}
+use Rattle.rp_engine.specs.GatheringSteps.{Gathers}
 use Rattle.rp_engine.specs.declared.machine.Machine.{Machine}
 use Rattle.rp_expressions.proofs.displays.after_item.Goals as goal
 

@@ -12,7 +12,7 @@ use Rattle.rp_engine.proofs.Moves.{end_ok}
 use Rattle.rp_engine.specs.DisplaySteps.{display, elements}
 use Rattle.rp_engine.specs.Does as does
 use Rattle.rp_engine.specs.Law.{frame_in}
-use Rattle.rp_store.proofs.Shapes.{KeepsShape-trans}
+use Rattle.rp_store.proofs.CallerLemmas.{KeepsShape-trans}
 use Rattle.rp_engine.proofs.Worlds.{IsReady-stored, shape_stored}
 use Rattle.rp_expressions.proofs.displays.display.Goals as goal
 

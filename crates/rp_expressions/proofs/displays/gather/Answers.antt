@@ -2,7 +2,7 @@ use Rattle.std.proofs.Common.{List, arith}
 use Rattle.rp_tree.specs.declared.expr.Expr.{Expr}
 use Rattle.rp_engine.proofs.Firsts.{of_first, of_none}
 use Rattle.rp_engine.specs.Does as does
-use Rattle.rp_engine.specs.Gathering.{Gathers}
+use Rattle.rp_engine.specs.GatheringSteps.{Gathers}
 use Rattle.rp_expressions.proofs.displays.gather.Goals as goal
 
 pub returns-in-len1-up-clause-law : goal.returns-in-len1-up-clause-law

@@ -4,7 +4,7 @@ use Rattle.rp_engine.proofs.Firsts.{gives_ok}
 use Rattle.rp_expressions.proofs.Settling.{no_settling, settled, unsettled}
 use Rattle.rp_engine.proofs.Worlds.{IsReady-goes}
 use Rattle.rp_engine.specs.Does as does
-use Rattle.rp_store.proofs.Shapes.{KeepsShape-trans}
+use Rattle.rp_store.proofs.CallerLemmas.{KeepsShape-trans}
 use Rattle.rp_expressions.proofs.joining.unless_settled.Goals as goal
 
 pub returns-then-truth-all-clause-law : goal.returns-then-truth-all-clause-law

@@ -8,7 +8,7 @@ use Rattle.rp_engine.specs.ArgumentSteps.{with_all, with_spread_named}
 use Rattle.rp_engine.specs.Does as does
 use Rattle.rp_engine.specs.HandSteps.{held_by, size_of}
 use Rattle.rp_engine.specs.Law.{frame_in}
-use Rattle.rp_store.proofs.Shapes.{KeepsShape-trans}
+use Rattle.rp_store.proofs.CallerLemmas.{KeepsShape-trans}
 use Rattle.rp_expressions.proofs.named_arguments.after_stars.Goals as goal
 
 pub returns-in-Ok-clause-law : goal.returns-in-Ok-clause-law

@@ -3,7 +3,7 @@ use Rattle.rp_engine.proofs.Answering.{put_ends, put_waits}
 use Rattle.rp_engine.specs.Does as does
 use Rattle.rp_base.specs.declared.operator.BinOp.TheVariants.{Pow}
 use Rattle.rp_meaning.specs.Operators.{operate}
-use Rattle.rp_store.proofs.Shapes.{KeepsShape-trans}
+use Rattle.rp_store.proofs.CallerLemmas.{KeepsShape-trans}
 use Rattle.rp_expressions.proofs.Found.{found_fit, put_found}
 use Rattle.rp_expressions.proofs.numbers.to_power.Goals as goal
 

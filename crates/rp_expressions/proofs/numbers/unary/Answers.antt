@@ -2,7 +2,7 @@ use Rattle.std.proofs.Common.{Ok, ap}
 use Rattle.rp_engine.proofs.Answering.{step_ends, step_waits}
 use Rattle.rp_engine.specs.Does as does
 use Rattle.rp_meaning.specs.Operators.{operate_unary}
-use Rattle.rp_store.proofs.Shapes.{KeepsShape-trans}
+use Rattle.rp_store.proofs.CallerLemmas.{KeepsShape-trans}
 use Rattle.rp_expressions.proofs.Found.{found_fit, step_found}
 use Rattle.rp_expressions.proofs.numbers.unary.Goals as goal
 

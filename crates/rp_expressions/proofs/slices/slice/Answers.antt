@@ -8,7 +8,7 @@ use Rattle.rp_engine.specs.Law.{frame_in}
 use Rattle.rp_access.specs.Moment.{state_of}
 use Rattle.rp_engine.specs.SliceSteps.{from_lower}
 use Rattle.rp_engine.specs.TrailerSteps.{next_trailer}
-use Rattle.rp_store.proofs.Shapes.{KeepsShape-trans}
+use Rattle.rp_store.proofs.CallerLemmas.{KeepsShape-trans}
 use Rattle.rp_engine.proofs.Worlds.{IsReady-stored, shape_stored}
 use Rattle.rp_expressions.proofs.slices.slice.Goals as goal
 

@@ -2,7 +2,7 @@ use Rattle.std.proofs.Common.{Ok, ap}
 use Rattle.rp_engine.proofs.Answering.{put_ends, put_waits}
 use Rattle.rp_engine.specs.Does as does
 use Rattle.rp_engine.specs.SliceSteps.{with_slice}
-use Rattle.rp_store.proofs.Shapes.{KeepsShape-trans}
+use Rattle.rp_store.proofs.CallerLemmas.{KeepsShape-trans}
 use Rattle.rp_expressions.proofs.Found.{put_found}
 use Rattle.rp_expressions.proofs.slices.stride_at.Goals as goal
 

@@ -11,6 +11,7 @@ use Rattle.rp_session.specs.View.{sessions_view}
 use Rattle.rp_engine.specs.Moment.{run_of}
 use Rattle.rp_play.specs.Played.{with_new_sessions}
 use Rattle.rp_play.proofs.Answering.{still-answer}
+use Rattle.rp_play.proofs.Given.{given-more}
 use Rattle.rp_play.proofs.playing.begin_all.Goals as goal
 
 pub begin-requires-clause-few : goal.begin-requires-clause-few
@@ -47,6 +48,8 @@ loop-who-preserved c =
           let more = made.count in
           let short = ap length steps in
           omega arith);
+      given = λ before.
+          given-more c.args.steps at.sessions c.begin.new.self made.given (at.invariant.given before);
       begun = λ base.
           let run = run_of base c.args.units.now in
           ap (with_new_sessions run (map (λ (who : Interacting). who.ids) rest) c.args.steps) (made.begun base)

@@ -12,6 +12,7 @@ use Rattle.rp_tree.specs.StatementViews.{view_tree}
 use Rattle.rp_tree.specs.declared.stmt.Tree.{Tree}
 use Rattle.rp_play.specs.Programs.{source_of}
 use Rattle.rp_play.proofs.Answering.{all-answer}
+use Rattle.rp_play.proofs.Given.{add-up, none-given}
 use Rattle.rp_play.proofs.Resolved.{module_blocks, module_is, sources_are}
 use Rattle.rp_play.proofs.Sessions.{all-end, reaches}
 use Rattle.rp_play.proofs.playing.play.Goals as goal
@@ -73,3 +74,8 @@ returns-in-Ok-clause-ended c =
 
 pub returns-in-Ok-clause-count : goal.returns-in-Ok-clause-count
 returns-in-Ok-clause-count c = c.in-Ok.ensures.count ∙ c.in_ok-begin_all.ensures.count ∙ c.requires.as_many
+
+pub returns-in-Ok-clause-used : goal.returns-in-Ok-clause-used
+returns-in-Ok-clause-used c =
+    add-up c.args.steps c.begin_all.new.sessions c.run_all.new.self c.in-Ok.ensures.ready c.in-Ok.ensures.given
+    (c.in_ok-begin_all.ensures.given (none-given c.args.steps c.new-sessions.result c.new-sessions.ensures.empty))

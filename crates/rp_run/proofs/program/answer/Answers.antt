@@ -6,6 +6,9 @@ use Rattle.rp_run.proofs.program.answer.Goals as goal
 pub returns-clause-told : goal.returns-clause-told
 returns-clause-told g c = rw c.said.ensures (says_ok c.obey.result _ c.obey.ensures.told)
 
+pub returns-clause-played : goal.returns-clause-played
+returns-clause-played g c = rw c.said.ensures (says_ok c.obey.result _ c.obey.ensures.played)
+
 pub returns-clause-status : goal.returns-clause-status
 returns-clause-status g c =
     rw c.said.ensures (status_ok (command_of (map string_bytes c.args.words.now)) c.obey.result c.obey.ensures.status)

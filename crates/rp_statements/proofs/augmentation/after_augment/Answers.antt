@@ -1,4 +1,4 @@
-use Rattle.rp_engine.specs.Augments.{name_augmented}
+use Rattle.rp_engine.specs.AugmentSteps.{name_augmented}
 use Rattle.rp_statements.proofs.Resumings.{one_taken}
 use Rattle.rp_statements.proofs.augmentation.after_augment.Goals as goal
 

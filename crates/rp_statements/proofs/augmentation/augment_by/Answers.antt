@@ -1,5 +1,5 @@
 use Rattle.std.proofs.Common.{Ok, ap, sym}
-use Rattle.rp_engine.specs.Augments.{name_augmented}
+use Rattle.rp_engine.specs.AugmentSteps.{name_augmented}
 use Rattle.rp_meaning.specs.Statements as forms
 use Rattle.rp_meaning.specs.Statements.{Store}
 use Rattle.rp_engine.proofs.Doings.{does_as, does_end, does_goes}

@@ -3,7 +3,7 @@ use Rattle.rp_meaning.specs.Statements as forms
 use Rattle.rp_meaning.specs.Statements.{Store}
 use Rattle.rp_engine.proofs.Doings.{does_as, does_end}
 use Rattle.rp_targets.proofs.Steps.{assign_ends, assign_gives}
-use Rattle.rp_engine.specs.Augments.{name_augmented}
+use Rattle.rp_engine.specs.AugmentSteps.{name_augmented}
 use Rattle.rp_engine.specs.Does as does
 use Rattle.rp_statements.proofs.augmentation.augment_name.Goals as goal
 

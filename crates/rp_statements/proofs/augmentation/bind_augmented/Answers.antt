@@ -2,7 +2,7 @@ use Rattle.rp_meaning.specs.Frame.{bind_name}
 use Rattle.rp_targets.proofs.Changed.{augment_ends, augment_gives}
 use Rattle.rp_engine.proofs.Doings.{does_as, does_end}
 use Rattle.rp_engine.proofs.Worlds.{IsReady-goes}
-use Rattle.rp_engine.specs.Augments.{name_augmented}
+use Rattle.rp_engine.specs.AugmentSteps.{name_augmented}
 use Rattle.rp_statements.proofs.augmentation.bind_augmented.Goals as goal
 
 pub returns-in-Ok-clause-law : goal.returns-in-Ok-clause-law

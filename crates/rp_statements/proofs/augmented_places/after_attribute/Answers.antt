@@ -1,4 +1,4 @@
-use Rattle.rp_engine.specs.Augments.{attribute_augmented}
+use Rattle.rp_engine.specs.AugmentSteps.{attribute_augmented}
 use Rattle.rp_statements.proofs.Resumings.{two_taken}
 use Rattle.rp_statements.proofs.augmented_places.after_attribute.Goals as goal
 

@@ -1,4 +1,4 @@
-use Rattle.rp_engine.specs.Augments.{item_augmented}
+use Rattle.rp_engine.specs.AugmentSteps.{item_augmented}
 use Rattle.rp_statements.proofs.Resumings.{three_taken}
 use Rattle.rp_statements.proofs.augmented_places.after_augmented_item.Goals as goal
 

@@ -1,4 +1,4 @@
-use Rattle.rp_engine.specs.Augments.{key_from}
+use Rattle.rp_engine.specs.AugmentSteps.{key_from}
 use Rattle.rp_engine.specs.Does as does
 use Rattle.rp_statements.proofs.Resumings.{one_taken}
 use Rattle.rp_statements.proofs.augmented_places.after_augmented_key.Goals as goal

@@ -1,7 +1,7 @@
 use Rattle.std.proofs.Common.{Ok, ap, sym}
 use Rattle.rp_meaning.specs.Statements as forms
 use Rattle.rp_meaning.specs.Statements.{Store}
-use Rattle.rp_engine.specs.Augments.{attribute_from}
+use Rattle.rp_engine.specs.AugmentSteps.{attribute_from}
 use Rattle.rp_engine.proofs.Doings.{does_as, does_end, does_goes}
 use Rattle.rp_targets.proofs.Steps.{assign_ends, assign_gives}
 use Rattle.rp_engine.specs.Does as does

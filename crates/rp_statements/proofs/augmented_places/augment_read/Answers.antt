@@ -8,7 +8,7 @@ use Rattle.rp_targets.proofs.Steps.{assign_ends, assign_gives}
 use Rattle.rp_engine.proofs.Worlds.{IsReady-goes}
 use Rattle.rp_access.proofs.Going.{IsEnd-same}
 use Rattle.rp_access.specs.Moment.{state_of}
-use Rattle.rp_engine.specs.Augments.{attribute_augmented}
+use Rattle.rp_engine.specs.AugmentSteps.{attribute_augmented}
 use Rattle.rp_engine.specs.Does as does
 use Rattle.rp_statements.proofs.augmented_places.augment_read.Goals as goal
 

@@ -4,7 +4,7 @@ use Rattle.rp_engine.proofs.Doings.{does_any, does_end, does_goes}
 use Rattle.rp_targets.proofs.Steps.{assign_ends, assign_gives}
 use Rattle.rp_engine.specs.Does as does
 use Rattle.rp_engine.specs.Law.{frame_in}
-use Rattle.rp_engine.specs.Raising.{raised_value}
+use Rattle.rp_engine.specs.RaisingSteps.{raised_value}
 use Rattle.rp_access.specs.Moment.{state_of}
 use Rattle.rp_statements.proofs.raising.raise_of.Goals as goal
 

@@ -1,5 +1,5 @@
 use Rattle.rp_statements.proofs.Raisings.{cut_any}
-use Rattle.rp_engine.specs.Raising.{raised_value}
+use Rattle.rp_engine.specs.RaisingSteps.{raised_value}
 use Rattle.rp_statements.proofs.raising.raised.Goals as goal
 
 pub returns-clause-law : goal.returns-clause-law

@@ -8,7 +8,7 @@ use Rattle.rp_engine.proofs.Doings.{held_as, held_by}
 use Rattle.rp_engine.proofs.Moves.{on_ok}
 use Rattle.rp_engine.specs.Does as does
 use Rattle.rp_engine.specs.Law.{Executes, ResumesStmt, frame_in, rest_of}
-use Rattle.rp_engine.specs.Raising.{raised_value}
+use Rattle.rp_engine.specs.RaisingSteps.{raised_value}
 use Rattle.rp_access.specs.Moment.{state_of}
 use Rattle.rp_engine.specs.Rest.{after_stmt, asserted, did, failed_with, rest, tested_turn}
 use Rattle.rp_frame.specs.declared.task.StmtTask.TheVariants as stmt

@@ -5,7 +5,7 @@ use Rattle.rp_engine.proofs.Firsts.{gives_ok, of_first, of_none}
 use Rattle.rp_engine.specs.ComprehensionSteps.{does_made}
 use Rattle.rp_engine.specs.Does as does
 use Rattle.rp_engine.specs.Law.{Evaluates}
-use Rattle.rp_store.proofs.Shapes.{KeepsShape-same}
+use Rattle.rp_store.proofs.CallerLemmas.{KeepsShape-same}
 use Rattle.rp_targets.proofs.comprehensions.comprehension.Goals as goal
 
 pub returns-in-len1-up-clause-law : goal.returns-in-len1-up-clause-law

@@ -12,7 +12,7 @@ use Rattle.rp_engine.proofs.Firsts.{of_first, of_none}
 use Rattle.rp_engine.proofs.Moves.{on_ok}
 use Rattle.rp_engine.specs.Does as does
 use Rattle.rp_engine.specs.Law.{Executes}
-use Rattle.rp_store.proofs.Shapes.{KeepsShape-same}
+use Rattle.rp_store.proofs.CallerLemmas.{KeepsShape-same}
 use Rattle.rp_targets.proofs.comprehensions.nest.Goals as goal
 
 pub returns-in-len1-up-clause-law : goal.returns-in-len1-up-clause-law

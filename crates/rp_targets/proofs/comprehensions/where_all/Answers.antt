@@ -6,7 +6,7 @@ use Rattle.rp_engine.proofs.Doings.{does_goes}
 use Rattle.rp_engine.proofs.Firsts.{of_first, of_none}
 use Rattle.rp_engine.specs.Does as does
 use Rattle.rp_engine.specs.Law.{Executes}
-use Rattle.rp_store.proofs.Shapes.{KeepsShape-same}
+use Rattle.rp_store.proofs.CallerLemmas.{KeepsShape-same}
 use Rattle.rp_targets.proofs.comprehensions.where_all.Goals as goal
 
 pub returns-in-len1-up-clause-law : goal.returns-in-len1-up-clause-law

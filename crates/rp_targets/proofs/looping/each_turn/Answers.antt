@@ -3,7 +3,7 @@ use Rattle.rp_access.specs.Moment.{state_of}
 use Rattle.rp_engine.specs.Law.{frame_in}
 use Rattle.rp_engine.proofs.Doings.{pushed}
 use Rattle.rp_engine.specs.Does as does
-use Rattle.rp_engine.specs.Loops.{each_turn}
+use Rattle.rp_engine.specs.LoopSteps.{each_turn}
 use Rattle.rp_targets.proofs.looping.each_turn.Goals as goal
 
 pub returns-clause-law : goal.returns-clause-law

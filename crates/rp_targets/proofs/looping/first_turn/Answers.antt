@@ -2,7 +2,7 @@ use Rattle.std.proofs.Common.{◌≡◌, ◌+◌, suc, ap, arith}
 use Rattle.rp_engine.proofs.Doings.{does_as}
 use Rattle.rp_engine.specs.Does as does
 use Rattle.rp_engine.specs.Law.{frame_in}
-use Rattle.rp_engine.specs.Loops.{all_turns, walked}
+use Rattle.rp_engine.specs.LoopSteps.{all_turns, walked}
 use Rattle.rp_access.specs.Moment.{state_of}
 use Rattle.rp_access.specs.Spots.{cursor_at}
 use Rattle.rp_targets.proofs.looping.first_turn.Goals as goal

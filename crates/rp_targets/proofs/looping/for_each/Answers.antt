@@ -5,10 +5,10 @@ use Rattle.rp_engine.proofs.Doings.{does_as, does_end, does_goes}
 use Rattle.rp_targets.proofs.Steps.{assign_ends, assign_gives}
 use Rattle.rp_engine.specs.Does as does
 use Rattle.rp_engine.specs.Law.{frame_in}
-use Rattle.rp_engine.specs.Loops.{over}
+use Rattle.rp_engine.specs.LoopSteps.{over}
 use Rattle.rp_access.specs.Moment.{state_of}
 use Rattle.rp_targets.proofs.Found.{found_fit}
-use Rattle.rp_store.proofs.Shapes.{KeepsShape-trans}
+use Rattle.rp_store.proofs.CallerLemmas.{KeepsShape-trans}
 use Rattle.rp_targets.proofs.looping.for_each.Goals as goal
 
 pub returns-in-Ok-Some-clause-law : goal.returns-in-Ok-Some-clause-law

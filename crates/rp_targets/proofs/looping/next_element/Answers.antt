@@ -5,9 +5,9 @@ use Rattle.rp_engine.proofs.Doings.{does_as, does_end, does_moves}
 use Rattle.rp_targets.proofs.Walked.{turn_ends, turn_gives, turn_none}
 use Rattle.rp_engine.proofs.Worlds.{IsReady-goes}
 use Rattle.rp_engine.specs.Does as does
-use Rattle.rp_engine.specs.Loops.{turn_before, walked}
+use Rattle.rp_engine.specs.LoopSteps.{turn_before, walked}
 use Rattle.rp_access.specs.Spots.{cursor_at}
-use Rattle.rp_store.proofs.Shapes.{KeepsShape-trans}
+use Rattle.rp_store.proofs.CallerLemmas.{KeepsShape-trans}
 use Rattle.rp_targets.proofs.looping.next_element.Goals as goal
 
 pub returns-in-Ok-Some-clause-law : goal.returns-in-Ok-Some-clause-law

@@ -1,7 +1,7 @@
 use Rattle.std.proofs.Common.{refl}
 use Rattle.rp_engine.proofs.Doings.{pushed_with}
 use Rattle.rp_engine.specs.Does as does
-use Rattle.rp_engine.specs.Loops.{each_turn, turn_before}
+use Rattle.rp_engine.specs.LoopSteps.{each_turn, turn_before}
 use Rattle.rp_access.specs.Spots.{cursor_at}
 use Rattle.rp_targets.proofs.looping.turn_with.Goals as goal
 

@@ -6,7 +6,7 @@ use Rattle.rp_engine.proofs.AtHand.{below_ready}
 use Rattle.rp_engine.proofs.Doings.{held_as}
 use Rattle.rp_engine.specs.Does as does
 use Rattle.rp_engine.specs.Law.{frame_in}
-use Rattle.rp_engine.specs.Loops.{walked}
+use Rattle.rp_engine.specs.LoopSteps.{walked}
 use Rattle.rp_access.specs.Moment.{state_of}
 use Rattle.rp_engine.specs.Ready.{IsReady}
 use Rattle.rp_engine.specs.Rest.{did}

@@ -2,9 +2,9 @@ use Rattle.rp_engine.proofs.Doings.{does_as, does_end}
 use Rattle.rp_targets.proofs.Walked.{over_ends, over_gives}
 use Rattle.rp_engine.proofs.Worlds.{IsReady-goes}
 use Rattle.rp_engine.specs.Does as does
-use Rattle.rp_engine.specs.Loops.{all_turns, over}
+use Rattle.rp_engine.specs.LoopSteps.{all_turns, over}
 use Rattle.rp_access.specs.Spots.{cursor_at}
-use Rattle.rp_store.proofs.Shapes.{KeepsShape-trans}
+use Rattle.rp_store.proofs.CallerLemmas.{KeepsShape-trans}
 use Rattle.rp_targets.proofs.looping.walk_over.Goals as goal
 
 pub returns-in-Ok-clause-law : goal.returns-in-Ok-clause-law

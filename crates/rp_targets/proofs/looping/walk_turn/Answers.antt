@@ -3,7 +3,7 @@ use Rattle.rp_base.specs.declared.value.OpEnd.TheVariants as end
 use Rattle.rp_engine.proofs.Doings.{does_as, does_end}
 use Rattle.rp_engine.specs.Does as does
 use Rattle.rp_engine.specs.Law.{frame_in}
-use Rattle.rp_engine.specs.Loops.{walked}
+use Rattle.rp_engine.specs.LoopSteps.{walked}
 use Rattle.rp_access.specs.Moment.{state_of}
 use Rattle.rp_access.specs.Spots.{cursor_at}
 use Rattle.rp_targets.proofs.looping.walk_turn.Goals as goal

@@ -8,7 +8,7 @@ use Rattle.rp_targets.proofs.Steps.{on_done}
 use Rattle.rp_engine.specs.Does as does
 use Rattle.rp_engine.specs.Law.{frame_in}
 use Rattle.rp_access.specs.Moment.{state_of}
-use Rattle.rp_store.proofs.Shapes.{KeepsShape-same}
+use Rattle.rp_store.proofs.CallerLemmas.{KeepsShape-same}
 use Rattle.rp_targets.proofs.places.store_all.Goals as goal
 
 pub returns-in-len1-clause-law : goal.returns-in-len1-clause-law

@@ -7,7 +7,7 @@ use Rattle.rp_engine.proofs.Firsts.{of_first, of_none}
 use Rattle.rp_engine.specs.Does as does
 use Rattle.rp_engine.specs.Law.{frame_in, rest_of}
 use Rattle.rp_engine.specs.Rest.{did, rest}
-use Rattle.rp_engine.specs.Unpackings.{store_from}
+use Rattle.rp_engine.specs.UnpackingSteps.{store_from}
 use Rattle.rp_targets.proofs.unpacking.store_each.Goals as goal
 
 pub returns-in-len1-up-clause-law : goal.returns-in-len1-up-clause-law

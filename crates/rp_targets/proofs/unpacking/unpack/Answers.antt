@@ -4,7 +4,7 @@ use Rattle.rp_targets.proofs.Unpacked.{unpack_ends, unpack_gives}
 use Rattle.rp_engine.proofs.Worlds.{IsReady-goes}
 use Rattle.rp_engine.specs.Does as does
 use Rattle.rp_engine.specs.Law.{frame_in}
-use Rattle.rp_engine.specs.Unpackings.{each_stored}
+use Rattle.rp_engine.specs.UnpackingSteps.{each_stored}
 use Rattle.std.proofs.Common.{refl}
 use Rattle.rp_targets.proofs.unpacking.unpack.Goals as goal
 

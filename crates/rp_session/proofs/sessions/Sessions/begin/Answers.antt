@@ -2,7 +2,7 @@
 use Rattle.std.proofs.Common.{◌≡◌, ◌<◌, ◌+◌, ◌++◌, ◌∷◌, [], ◌∙◌, ap, sym, subst, length, arith}
 use Rattle.rp_engine.specs.declared.units.Program.{Program}
 use Rattle.rp_session.specs.declared.sessions.Sessions.{Sessions}
-use Rattle.rp_session.proofs.Beginning.{begun, first_running, ready-more}
+use Rattle.rp_session.proofs.Beginning.{begun, first_running, given-more, ready-more}
 use Rattle.rp_session.proofs.sessions.Sessions.begin.Goals as goal
 
 pub add_globals-requires : goal.add_globals-requires
@@ -36,7 +36,11 @@ returns-clause-ready c =
     ready-more c.args.self.now (c.len.result + 1) c.program-program.result.now c.in_ok-globals.globals c.first-session.result c.args.who c.args.steps
     c.add_globals.new.self.world c.add_globals.new.self.alloc c.push_reserved.new.self c.requires.ready c.requires.few
     (number_of c) (ap (λ (s : Sessions). s.world) c.in_ok-globals.ensures.added) c.in_ok-globals.ensures.place (items_of c)
-    (running_of c) c.first-session.ensures.globals c.requires.grants c.in_ok-globals.ensures.shape
+    (running_of c) c.first-session.ensures.globals c.first-session.ensures.given c.requires.grants c.in_ok-globals.ensures.shape
+
+pub returns-clause-given : goal.returns-clause-given
+returns-clause-given c =
+    given-more c.args.self.now.list.items c.push_reserved.new.self.items c.first-session.result c.args.steps (items_of c) c.first-session.ensures.given
 
 pub returns-clause-names : goal.returns-clause-names
 returns-clause-names c = ap (λ (s : Sessions). s.world.names) c.in_ok-globals.ensures.added

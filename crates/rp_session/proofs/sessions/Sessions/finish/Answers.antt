@@ -21,6 +21,7 @@ loop-place-preserved c =
     record {
       ready = c.in_ok-turns_of.ensures.ready;
       count = c.in_ok-turns_of.ensures.count ∙ c.loop-place.invariant.count;
+      given = c.in_ok-turns_of.ensures.given ∙ c.loop-place.invariant.given;
       left = λ base.
           finished-step (run_of base c.args.units.now) list.items c.loop-place.place c.len-statements.result (first-of list.items (omega arith))
           (sessions_view c.loop-place.self) (sessions_view c.turns_of.new.self) c.requires.ready.numbered within (statements base)

@@ -1,8 +1,9 @@
 -- The session of a number stands one before it; there may be none.
 use Rattle.std.proofs.Common.{◌≡◌, refl, ap, ◌∙◌, ◌-◌, ◌+◌, ◌<◌, ◌≤◌, length, arith}
+use Rattle.std.proofs.lemmas.Result.{on_ok_weaker}
 use Rattle.rp_engine.specs.Moment.{run_of}
 use Rattle.rp_session.proofs.Numbered.{number-at}
-use Rattle.rp_session.proofs.Turning.{both, four, on-err, ready-after, turned, turned-nothing}
+use Rattle.rp_session.proofs.Turning.{both, four, given-set, on-err, ready-after, turned, turned-nothing}
 use Rattle.rp_session.proofs.sessions.Sessions.take_turn.Goals as goal
 use Rattle.rp_session.proofs.sessions.Sessions.take_turn.Goals.{then-number-eq0-via-then-number-eq0, then-number-eq0-via-else-number-eq0+then-number-len}
 
@@ -36,6 +37,13 @@ returns-clause-ready c =
     (number ∙ ap (λ k. k.running.session) c.index_mut-session.ensures.value ∙ number-at 1 c.args.self.now.list.items (c.args.number - 1) d c.requires.ready.numbered inside)
     faithful home others)
     c.turn.ensures.number c.turn.ensures.faithful c.turn.ensures.home c.turn.ensures.others
+
+pub returns-clause-given : goal.returns-clause-given
+returns-clause-given c =
+    let d = c.index_mut-session.result.now in
+    on_ok_weaker c.turn.result (λ same.
+    given-set c.args.self.now.list.items (c.args.number - 1) d c.turn.new.self (same ∙ ap (λ k. k.given) c.index_mut-session.ensures.value))
+    c.turn.ensures.given
 
 pub returns-clause-some : goal.returns-clause-some
 returns-clause-some c =

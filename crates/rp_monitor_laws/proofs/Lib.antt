@@ -1,0 +1,9 @@
+pub mod Calling
+pub mod Forms
+pub mod Going
+pub mod Loading
+pub mod Parts
+pub mod Programs
+pub mod Sessions
+pub mod Statements
+pub mod Trees
