@@ -13,7 +13,9 @@
 # 75 of them in `item`, which is not inlined; an append 88, 48 in `Store::push` and 10 in dropping what was handed in; a character or a
 # new text 540 to 800, of which 250 are its memory; copying a value some 30, so a slice or a walk of ten 340 to 520; a pair of elements
 # that is compared 77, so `==` of ten 872; a method of an instance 312, since an object is made for it; a key 360, the keyed hash, which
-# also puts the next of 1,000,000 keys elsewhere in memory. Showing a list and `in` were not counted. bench/README.md has all figures.
+# also puts the next of 1,000,000 keys elsewhere in memory; `in` a list of ten 707, 450 of them in telling whether two values are equal,
+# 45 each; showing 1,000 numbers 330,000, of which 74,000 write digits, 67,000 tell how an item is shown, 53,000 go through the printer and
+# 44,000 make the text. bench/README.md has all figures.
 . "$(dirname "${BASH_SOURCE[0]}")/loops.sh"
 exec python3 - "$@" <<'PYTHON'
 import collections
