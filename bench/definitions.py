@@ -3,7 +3,8 @@
 
     bench/definitions.py            the files, in the order in which they are reached
     bench/definitions.py --names    the same, with the names of the definitions
-    bench/definitions.py --check    fails where docs/DEFINITIONS.md does not name a file that is reached
+    bench/definitions.py --check    fails where the first two parts of docs/DEFINITIONS.md do not name a file that is reached, or name
+                                    one that is not
 
 It begins at the header of `rp_run::run` and follows names: those of definitions (`crates/*/specs/*.antt`) over the `use` lines of their
 modules, those of the code's types and traits (`crates/*/src/*.rt`) over `use` and `ghost use`. The field of a record is not followed, since the
@@ -18,6 +19,7 @@ from pathlib import Path
 TOP = Path(__file__).resolve().parent.parent
 CRATES = TOP / "crates"
 PAGE = TOP / "docs" / "DEFINITIONS.md"
+THIRD = "\n# What other public calls cite\n"
 START = (CRATES / "rp_run" / "src" / "program.rt", "run")
 WORD = re.compile(r"[^\W\d][\w'-]*(?:\.[^\W\d][\w'-]*)*")
 USE = re.compile(r"^\s*(?:pub )?(?:ghost )?use (Rattle\.[\w.-]+?)(?:\.\{([^}]*)\}| as ([\w'-]+)|);?\s*$")
@@ -25,6 +27,7 @@ RUST_USE = re.compile(r"^\s*(?:pub )?use ([\w:]+?)(?:::\{([^}]*)\})?;\s*$")
 HEAD = re.compile(r"^(?:abbrev|pub|data|record|mutual|opaque|unfoldable)\b")
 NAMED = re.compile(r"^\s*(?:abbrev |unfoldable |opaque )*pub (?:data |record )?([^\W\d][\w'-]*)")
 CONSTRUCTOR = re.compile(r"^\s+(?:pub )?([^\W\d][\w'-]*) :")
+BLOCK = re.compile(r"^module _ (.*) where$")
 RECORD = re.compile(r"^(?:pub )?record ")
 ITEM = re.compile(r"^(?:pub(?:\(crate\))? )?(?:struct|enum|trait|fn|const) (\w+)")
 
@@ -32,9 +35,9 @@ ITEM = re.compile(r"^(?:pub(?:\(crate\))? )?(?:struct|enum|trait|fn|const) (\w+)
 class Chunk:
     """A definition, or a group of those that speak of one another: where it stands, its text, and what it names."""
 
-    def __init__(self, path, names, lines, uses):
+    def __init__(self, path, names, lines, uses, parameters=""):
         self.path, self.names, self.lines, self.uses = path, names, lines, uses
-        self.words = set(WORD.findall("\n".join(line.split("--")[0].split("//")[0] for line in lines)))
+        self.words = set(WORD.findall("\n".join([parameters] + [line.split("--")[0].split("//")[0] for line in lines])))
 
 
 def imported(entry):
@@ -90,24 +93,38 @@ def rust_item(path, steps, name):
     return rust_uses(file, re.sub(r"pub use (\w+)::", r"pub use crate::\1::", file.read_text()).split("\n")).get(name)
 
 
+def flattened(lines):
+    """Each line with the parameters of the block `module _ PARAMETERS where` in which it stands, moved to the left there."""
+    parameters = ""
+    for line in lines:
+        match = BLOCK.match(line)
+        if match:
+            parameters = match.group(1)
+        elif parameters and (line.startswith("  ") or not line.strip()):
+            yield line[2:], parameters
+        else:
+            parameters = ""
+            yield line, parameters
+
+
 @lru_cache(maxsize=None)
 def antt(path):
     """The chunks of a module of definitions by name, and the names that it brings in."""
     lines = path.read_text().split("\n")
-    uses, by_name, open_chunk, front = uses_of(lines), {}, None, []
+    uses, by_name, open_chunk, front, around = uses_of(lines), {}, None, [], ""
 
     def close():
         if open_chunk:
             kept = [line for line in open_chunk if line.strip()]
             found = [m.group(1) for line in kept for m in [NAMED.match(line) or CONSTRUCTOR.match(line)] if m]
             names = set(found[:1] if any(RECORD.match(line) for line in kept) else found)
-            chunk = Chunk(path, names, kept, uses)
+            chunk = Chunk(path, names, kept, uses, around)
             by_name.update({name: chunk for name in names})
 
-    for line in lines:
+    for line, parameters in flattened(lines):
         if HEAD.match(line) and not USE.match(line):
             close()
-            open_chunk, front = front + [line], []
+            open_chunk, front, around = front + [line], [], parameters
         elif line.startswith("--") or USE.match(line) or not line.strip():
             front = front + [line] if line.startswith("--") else [] if USE.match(line) else front
             if open_chunk and not line.strip():
@@ -238,9 +255,9 @@ def name_of(path):
 
 
 def named_on_page():
-    """The files that the page names: `crate/specs/Name`, and behind it in the same paragraph `Name` alone."""
+    """The files that the page's first two parts name: `crate/specs/Name`, and behind it in the same paragraph `Name` alone."""
     found = set()
-    for paragraph in re.split(r"\n\s*\n|\n- ", PAGE.read_text()):
+    for paragraph in re.split(r"\n\s*\n|\n- ", PAGE.read_text().split(THIRD)[0]):
         folder = None
         for word in re.findall(r"`([^`]+)`", paragraph):
             match = re.fullmatch(r"(\w+/(?:specs|src))/(\w+)", word)
@@ -252,15 +269,28 @@ def named_on_page():
     return found
 
 
+def is_file(name):
+    """Whether it is a file of definitions or of the code, as the page names it, and not only a word that stands there."""
+    return (CRATES / f"{name}.antt").is_file() or (CRATES / f"{name}.rt").is_file()
+
+
+def check(files):
+    """Compares the files that are reached with those that the page names."""
+    named, reached = named_on_page(), {name_of(path) for path in files}
+    missing, more = sorted(reached - named), sorted(filter(is_file, named - reached))
+    for name in missing:
+        print(f"{PAGE.relative_to(TOP)} does not name {name}")
+    for name in more:
+        print(f"{PAGE.relative_to(TOP)} names {name}, which is not reached")
+    print(f"{len(reached)} files are reached, {len(missing)} of them are not named; {len(more)} more are named")
+    return 1 if missing or more else 0
+
+
 def main(words):
     found = walk()
     files = files_of(found)
     if words == ["--check"]:
-        missing = [name_of(path) for path in files if name_of(path) not in named_on_page()]
-        for name in missing:
-            print(f"{PAGE.relative_to(TOP)} does not name {name}")
-        print(f"{len(files)} files are reached, {len(missing)} of them are not named")
-        return 1 if missing else 0
+        return check(files)
     if words not in ([], ["--names"]):
         print(__doc__)
         return 2

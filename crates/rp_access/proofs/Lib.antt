@@ -10,6 +10,7 @@ mod Exposed
 mod FunctionLaws
 pub mod Going
 mod Growing
+mod HeldNames
 mod Inplaces
 mod KindNames
 pub mod Known

@@ -34,7 +34,7 @@ use Rattle.rp_access.specs.Calling.{CallComes}
 use Rattle.rp_access.specs.Changes.{asking_to_set, attribute_set}
 use Rattle.rp_access.specs.Comes.{Comes, IsEnd}
 use Rattle.rp_access.specs.Moment.{decided_frame, state_of}
-use Rattle.rp_access.specs.NamedAttributes.{FormTaken, ReadComes, StoreComes, text_in, text_named, value_named, word_named}
+use Rattle.rp_access.specs.NamedAttributes.{FormComes, FormTaken, ReadComes, StoreComes, text_in, text_named, value_named, word_named}
 use Rattle.rp_access.specs.Natives.{is_attribute_word, natives}
 use Rattle.rp_access.specs.Reading.{attribute_asked, got_by}
 use Rattle.rp_access.proofs.Going.{Comes-same, IsEnd-same, IsEnd-then, asked_then, decided_then, gives-then, raises_end}
@@ -165,6 +165,20 @@ module _ (o word v : Value) (w t u : World) where
     set_ends x same e is = λ code.
         IsEnd-same e (state_of u) _ _ (store_is code ∙ ap (λ x. on_value (attribute_set o name x (state_of t)) (λ _ s. last s)) (sym same))
         (IsEnd-then e (state_of u) (attribute_set o name x (state_of t)) (λ _ s. last s) is)
+
+-- a form's value, as it is taken
+
+module _ (side : Side) (id form : NativeId) (one : id ≡ form) (vs : List Value) (w u : World) where
+  pub taken_gives : (v x : Value) → FormComes side form vs (Ok v) w u → x ≡ taken u.store.heap side v → FormTaken side id vs (Ok x) w u
+  taken_gives v x is same =
+      subst (λ (id : NativeId). FormTaken side id vs (Ok x) w u) (sym one) (λ code sided.
+      gives-then v (state_of u) (function form vs (decided_frame code) (state_of w)) (λ v s. gives (taken (heap_of s) side v) s) (is code sided)
+      ∙ ap (λ x. gives x (state_of u)) (sym same))
+
+  pub taken_ends : (e : OpEnd) → FormComes side form vs (Err e) w u → FormTaken side id vs (Err e) w u
+  taken_ends e is =
+      subst (λ (id : NativeId). FormTaken side id vs (Err e) w u) (sym one) (λ code sided.
+      IsEnd-then e (state_of u) (function form vs (decided_frame code) (state_of w)) (λ v s. gives (taken (heap_of s) side v) s) (is code sided))
 
 -- what code gets of a form
 

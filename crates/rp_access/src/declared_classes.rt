@@ -7,12 +7,13 @@ ghost use Rattle.rp_base.specs.Same.{same_text};
 ghost use Rattle.rp_decl.specs.View.{declarations_view};
 ghost use Rattle.rp_meaning.specs.Classes.{declared_at, declared_place};
 ghost use Rattle.rp_meaning.specs.Frame.{Frame};
+ghost use Rattle.rp_proxy.specs.Faithful.{IsFaithful};
 ghost use Rattle.rp_store.specs.Heap.{IsHeld, Names as IsAt};
 ghost use Rattle.rp_store.specs.Parts.{IsClass};
 
-use crate::global_names::is_word_of;
+use crate::global_names::{is_held, is_word_of};
 use crate::standing::class_there;
-use rp_base::{Name, Names, Oid, Side, word_of};
+use rp_base::{Name, Names, Oid, Side};
 use rp_decl::ClassDecl;
 use rp_proxy::World;
 
@@ -20,6 +21,7 @@ use rp_proxy::World;
 /// name, for the module's own statements, which stand in no function; None for all other code, and where no class
 /// stands at its place. The declared classes stand behind the scope of the exposed values.
 pub fn declared_class(world: &World, side: Side, block: usize, name: Name) -> Option<Oid>
+    requires { IsFaithful world.now }
     ensures place { (frame : Frame) → frame.side ≡ side → frame.block ≡ block
         → result ≡ declared_at frame world.now.store.heap (word_of world.now.names name)
         (declarations_view world.now.names world.now.decl).classes }
@@ -35,6 +37,7 @@ pub fn declared_class(world: &World, side: Side, block: usize, name: Name) -> Op
 
 /// Its place.
 fn declared_place(world: &World, side: Side, block: usize, name: Name) -> Option<Oid>
+    requires { IsFaithful world.now }
     ensures place { (frame : Frame) → frame.side ≡ side → frame.block ≡ block
         → result ≡ declared_place frame (word_of world.now.names name)
         (declarations_view world.now.names world.now.decl).classes }
@@ -46,24 +49,37 @@ fn declared_place(world: &World, side: Side, block: usize, name: Name) -> Option
     if block != 0 {
         return None;
     }
-    class_among(
-        &world.names,
-        world.decl.classes(),
-        word_of(&world.names, name),
-    )
+    class_among(world, name)
 }
 
 /// The place in the store of the class of that name among the declared ones.
-fn class_among(names: &Names, classes: &[ClassDecl], word: &str) -> Option<Oid>
+fn class_among(world: &World, name: Name) -> Option<Oid>
+    requires { IsFaithful world.now }
     ensures { result ≡ option_map (λ i. record { 0 = 1 + i })
-        (position (λ class. same_text (chars word.now) (word_of names.now class.name)) classes.now) }
+        (position (λ class. same_text (word_of world.now.names name) (word_of world.now.names class.name))
+        world.now.decl.classes) }
 {
-    match place_in(names, classes, word) {
-        Some(place) => Some(behind_exposed(classes, place)),
+    match place_among(world, name) {
+        Some(place) => Some(behind_exposed(world.decl.classes(), place)),
         None => None,
     }
 }
 
+/// The place of the word of a name among the declared classes: that of the name, as each word has one name. A name that
+/// is not held has no word, and its place is that of the empty one.
+fn place_among(world: &World, name: Name) -> Option<usize>
+    requires { IsFaithful world.now }
+    ensures { result ≡ position
+        (λ class. same_text (word_of world.now.names name) (word_of world.now.names class.name))
+        world.now.decl.classes }
+{
+    if is_held(&world.names, name) {
+        return world.decl.class_place(name);
+    }
+    place_in(&world.names, world.decl.classes(), "")
+}
+
+/// The place of the class of a word.
 fn place_in(names: &Names, classes: &[ClassDecl], word: &str) -> Option<usize>
     ensures { result
         ≡ position (λ class. same_text (chars word.now) (word_of names.now class.name)) classes.now }

@@ -73,7 +73,7 @@ fn place_among(world: &World, name: Name) -> Option<usize>
 }
 
 /// Whether a name is one of the names.
-fn is_held(names: &Names, name: Name) -> bool
+pub(crate) fn is_held(names: &Names, name: Name) -> bool
     ensures { result ≡ nat_lt name.0 (length names.now) }
 {
     name.0 < names.len()

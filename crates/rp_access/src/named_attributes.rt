@@ -53,29 +53,15 @@ pub(crate) fn form(
     ensures shape { KeepsShape world.old.store.heap world.new.store.heap }
     ensures fit { IfOk result (IsFit world.new.store.heap side) }
 {
-    let value = form_value(alloc, world, side, id, args)?;
-    Ok(taken(world, value, side))
-}
-
-/// The same, before it is taken for the side.
-fn form_value(
-    alloc: Global,
-    world: &mut World,
-    side: Side,
-    id: NativeId,
-    args: &[Value],
-) -> Result<Value, OpEnd>
-    requires faithful { IsFaithful world.old }
-    requires args { AreSound world.old.store.heap args.now }
-    requires form { is_form id ≡ true }
-    ensures law { FormComes side id args.now result world.old world.new }
-    ensures faithful { IsFaithful world.new }
-    ensures shape { KeepsShape world.old.store.heap world.new.store.heap }
-    ensures sound { IfOk result (IsSound world.new.store.heap) }
-{
     match id {
-        NativeId::GetAttr => read(alloc, world, side, args),
-        _ => store(alloc, world, args),
+        NativeId::GetAttr => {
+            let value = read(alloc, world, side, args)?;
+            Ok(taken(world, value, side))
+        }
+        _ => {
+            let value = store(alloc, world, args)?;
+            Ok(taken(world, value, side))
+        }
     }
 }
 

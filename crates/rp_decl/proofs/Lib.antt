@@ -12,6 +12,7 @@ pub mod Growth
 pub mod Interned
 pub mod Fields
 pub mod FirstNoted
+pub mod Positions
 pub mod Shown
 pub mod Checked
 pub mod Placed

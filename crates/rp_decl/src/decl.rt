@@ -1,8 +1,9 @@
 //! The records of a declaration file, whole.
 
+use crate::classes::Classes;
 use crate::consistency::text_member;
-use crate::exposure::Exposed;
 use crate::known_ids::Known;
+use crate::name_table::NameTable;
 use crate::reading::{names_at, records_at};
 use crate::records::{ClassDecl, GroupDecl, ObjectDecl, PrincipalDecl, RoleDecl};
 use rp_base::{Memory, Name, Names, Text};
@@ -15,9 +16,9 @@ use toml::Table;
 /// that of a declared one.
 pub struct Decl {
     permissions: Vec<Text>,
-    expose: Exposed,
+    expose: NameTable,
     module_text: Text,
-    classes: Vec<ClassDecl>,
+    classes: Classes,
     roles: Vec<RoleDecl>,
     groups: Vec<GroupDecl>,
     principals: Vec<PrincipalDecl>,
@@ -54,7 +55,7 @@ impl Model for Decl {
       permissions = d.permissions.items;
       expose = d.expose;
       module_text = d.module_text;
-      classes = d.classes.items;
+      classes = d.classes;
       roles = d.roles.items;
       groups = d.groups.items;
       principals = d.principals.items;
@@ -65,7 +66,7 @@ impl Model for Decl {
       permissions = d.permissions.items;
       expose = d.expose;
       module_text = d.module_text;
-      classes = d.classes.items;
+      classes = d.classes;
       roles = d.roles.items;
       groups = d.groups.items;
       principals = d.principals.items;
@@ -102,9 +103,10 @@ impl Decl {
         ensures grown { GrowsTo names.old names.new }
     {
         let expose = names_at(alloc, names, document, "expose")?;
-        let exposed = Exposed::new(alloc, expose, names.len())?;
+        let exposed = NameTable::new(alloc, expose, names.len())?;
         let module_text = Text::new(alloc, text_member(document, "module"))?;
-        let classes = records_at(alloc, names, &known, document, "class")?;
+        let listed = records_at(alloc, names, &known, document, "class")?;
+        let classes = Classes::new(alloc, listed, names.len())?;
         let roles = records_at(alloc, names, &known, document, "role")?;
         let groups = records_at(alloc, names, &known, document, "group")?;
         let principals = records_at(alloc, names, &known, document, "principal")?;
@@ -154,7 +156,14 @@ impl Decl {
         ensures value { result.now ≡ self.now.classes }
         ensures within { All (IsClassWithin (length self.now.permissions)) result.now }
     {
-        self.classes.as_slice()
+        self.classes.list()
+    }
+
+    /// The place of the class of a name, by one look-up.
+    pub fn class_place(&self, name: Name) -> Option<usize>
+        ensures { result ≡ position (λ class. nat_eq name.0 class.name.0) self.now.classes }
+    {
+        self.classes.place(name)
     }
 
     /// The roles, none for version 1.

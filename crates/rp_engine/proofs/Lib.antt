@@ -18,4 +18,5 @@ pub mod Slots
 pub mod SpecialMoves
 pub mod Specials
 pub mod Unbinding
+mod WholeNumbers
 pub mod Worlds

@@ -16,6 +16,7 @@ pub mod JoinSteps
 pub mod Law
 pub mod LoopSteps
 pub mod Moment
+pub mod NumberSteps
 pub mod RaisingSteps
 pub mod Ready
 pub mod Rest

@@ -1,4 +1,4 @@
-//! Leaves: expressions that are evaluated where they are needed.
+//! Leaves: expressions that are evaluated where they are needed. So are operators and comparisons on whole numbers.
 #![tactic(auto, using(rp_store::proofs::CallerLemmas::goes_on, crate::proofs::Worlds::shape_stored))]
 
 ghost use Rattle.std.specs.Prelude.{◌≡◌, ◌≢◌, Some, None, Ok, IfOk, IfSome};
@@ -24,7 +24,8 @@ use rp_proxy::World;
 use rp_tree::{Const, Expr, ExprForm};
 
 impl<'u> Machine<'u> {
-    /// The value of a literal or a name, None where it is another expression; then nothing is done.
+    /// The value of a literal or a name, or of an operator or a comparison on two whole numbers; None where it is another
+    /// expression; then nothing is done.
     ///
     /// # Errors
     /// `StopSteps` where no step is left, and as `read`.
@@ -65,12 +66,14 @@ impl<'u> Machine<'u> {
                 Ok(Some(literal(world, Value::Rock(Rock::Text(text)))?))
             }
             ExprForm::Const(keyword) => Ok(Some(literal(world, value_of(*keyword))?)),
+            ExprForm::Chain(first, rest) => self.chain(world, first, rest),
+            ExprForm::Compare(first, rest) => self.comparison(world, first, rest),
             _ => Ok(None),
         }
     }
 
-    /// The step of a part, and its value where it is a name or a literal, None where it is another expression; then
-    /// the step alone is taken.
+    /// The step of a part, and its value where `leaf` gives one, None where it is another expression; then the step
+    /// alone is taken.
     ///
     /// # Errors
     /// As `leaf`.
@@ -149,8 +152,16 @@ fn value_of(keyword: Const) -> Value
 {
     match keyword {
         Const::Nil => Value::Rock(Rock::Nil),
-        Const::Truth(truth) => Value::Rock(Rock::Truth(truth)),
+        Const::Truth(truth) => truth_value(truth),
     }
+}
+
+/// True or False.
+#[inline(always)]
+pub(crate) fn truth_value(truth: bool) -> Value
+    ensures { result ≡ Value.Rock (Rock.Truth truth) }
+{
+    Value::Rock(Rock::Truth(truth))
 }
 
 /// The value of an integer literal.

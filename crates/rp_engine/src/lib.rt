@@ -9,6 +9,7 @@ mod hand;
 mod leaves;
 mod machine;
 mod names;
+mod numbers;
 mod standing;
 mod units;
 

@@ -118,7 +118,7 @@ impl<'u> Machine<'u> {
 
     /// Where the code finds a name.
     #[inline(always)]
-    fn place(&self, name: Name) -> Place2
+    pub(crate) fn place(&self, name: Name) -> Place2
         ensures { result ≡ found_from (program_at self.now.units.now self.now.frame.side).layouts
             self.now.frame.block name }
     {
@@ -127,7 +127,7 @@ impl<'u> Machine<'u> {
 
     /// The slot of a name that is found at a place.
     #[inline(always)]
-    fn slot(&self, store: &Store, place: Place2, name: Name) -> Option<Slot>
+    pub(crate) fn slot(&self, store: &Store, place: Place2, name: Name) -> Option<Slot>
         requires { IsScopeOf store.now.heap self.now.frame.side self.now.frame.scope }
         ensures slot { option_map slot_view result
             ≡ slot_found (program_at self.now.units.now self.now.frame.side).layouts store.now.heap
@@ -167,7 +167,7 @@ fn outwards(store: &Store, n: usize, at: Oid, side: Side) -> Oid
 
 /// What a slot holds, where it is bound.
 #[inline(always)]
-fn held(store: &Store, slot: Option<Slot>, side: Side) -> Option<&Value>
+pub(crate) fn held(store: &Store, slot: Option<Slot>, side: Side) -> Option<&Value>
     requires { IfSome slot (λ slot. IsScopeOf store.now.heap side slot.scope) }
     ensures value { option_copied result ≡ held store.now.heap (option_map slot_view slot) }
     ensures fit { IfSome (option_copied result) (IsFit store.now.heap side) }

@@ -77,20 +77,6 @@ module _ (m n : Machine) (w v : World) (r : Result (Unit {0}) Halt) (as' : List 
       on_ok r (Calls (suc i) as' ts (record m { values = a ∷ m.values }) w n v) (Next i a) (next_held i a)
       (subst (λ (k : ℕ). OnOk r (Calls k as' ts (record m { values = a ∷ m.values }) w n v)) next (subst (λ (z : Machine). OnOk r (Calls j as' ts z w n v)) is law))
 
--- an argument is waited for
-module _ (m n : Machine) (w : World) (r : Result (Unit {0}) Halt) (i : ℕ) (as' : List Argument) (ts : List (Value → Meaning)) where
-  abbrev Waits : Meaning → Type 0
-  Waits x = (base : Run) (s : State) → rest_of base n s ≡ rest m.tasks (gave (frame_in base m) (drop (suc i) m.values)
-      (on_value (x (frame_in base m) s) (λ v s. with_arguments as' ts (top (drop i m.values)) (reverse (take i m.values) ++ v ∷ []) (frame_in base m) s)))
-
-  waits_plain : (x : Meaning) → OnOk r (Waits x) → OnOk r (Calls i (plain_argument x ∷ as') ts m w n w)
-  waits_plain x h = on_ok r (Waits x) (Calls i (plain_argument x ∷ as') ts m w n w)
-      (λ law base. law base (state_of w) ∙ ap (λ o. rest m.tasks (gave (frame_in base m) (drop (suc i) m.values) o))
-      (sym (argument_more ts (top (drop i m.values)) (frame_in base m) x as' (reverse (take i m.values)) (state_of w)))) h
-
-  pub argument_waits : (x : Meaning) (a : Argument) → a ≡ plain_argument x → OnOk r (Waits x) → OnOk r (Calls i (a ∷ as') ts m w n w)
-  argument_waits x a is h = subst (λ (a : Argument). OnOk r (Calls i (a ∷ as') ts m w n w)) (sym is) (waits_plain x h)
-
 -- the callee and the arguments are dropped
 module _ (m h n : Machine) (r : Result (Unit {0}) Halt) (i j : ℕ) (dropped : h ≡ record m { values = drop j m.values }) (is : j ≡ suc i) where
   left : h ≡ record m { values = drop (suc i) m.values }

@@ -45,6 +45,7 @@ use Rattle.rp_engine.specs.declared.units.Units.{Units}
 use Rattle.rp_frame.specs.declared.activation.Activation.{Activation}
 use Rattle.rp_store.specs.Kept.{AreFit, IsFit}
 use Rattle.std.proofs.lemmas.List.Elements.{All-append, All-head, All-tail}
+use Rattle.rp_expressions.proofs.Callings.{argument_more}
 use Rattle.rp_engine.proofs.CodeCalls.{code_found}
 use Rattle.rp_engine.proofs.Going.{asked_then}
 use Rattle.rp_engine.proofs.Lasts.{fit_reversed}
@@ -133,19 +134,6 @@ module _ (base : Run) (m : Machine) where
 
 module _ (m : Machine) (w u : World) (as' : List Argument) (ts : List (Value → Meaning)) (f : Value) (v : Value) where
   -- over arguments without a name
-  pub spread_gives : (vs us : List Value) → spread m.frame.side v (state_of w) ≡ gives us (state_of u) → (base : Run)
-      → with_spread as' ts f vs v (frame_in base m) (state_of w) ≡ with_arguments as' ts f (vs ++ us) (frame_in base m) (state_of u)
-  spread_gives vs us is base =
-      added_then (star_argument (known v)) as' ts f (only vs) (frame_in base m) (state_of w) _
-      (star_is base m v (only vs) (state_of w) ∙ gives-then us (state_of u) _ (λ us s. gives (with_plain (only vs) us) s) is)
-
-  pub spread_ends : (vs : List Value) (e : OpEnd) → IsEnd e (state_of u) (spread m.frame.side v (state_of w)) → (base : Run)
-      → IsEnd e (state_of u) (with_spread as' ts f vs v (frame_in base m) (state_of w))
-  spread_ends vs e is base =
-      IsEnd-same e (state_of u) _ _ (added_then (star_argument (known v)) as' ts f (only vs) (frame_in base m) (state_of w) _ (star_is base m v (only vs) (state_of w)))
-      (IsEnd-then e (state_of u) _ (λ a s. with_all as' ts f a (frame_in base m) s) (IsEnd-then e (state_of u) _ (λ us s. gives (with_plain (only vs) us) s) is))
-
-  -- over arguments without a name, behind some with one
   pub behind_gives : (a : Arguments) (us : List Value) → spread m.frame.side v (state_of w) ≡ gives us (state_of u) → (base : Run)
       → with_spread_behind as' ts f a v (frame_in base m) (state_of w) ≡ with_all as' ts f (with_plain a us) (frame_in base m) (state_of u)
   behind_gives a us is base =
@@ -247,20 +235,15 @@ module _ (m n : Machine) (r : Result (Unit {0}) Halt) (as' : List Argument) (ts 
   abbrev pub Waits : ℕ → (Frame → State → Outcome Value) → Type 0
   Waits k o = (base : Run) (s : State) → rest_of base n s ≡ rest m.tasks (gave (frame_in base m) (drop (suc k) m.values) (o (frame_in base m) s))
 
-  -- an argument with a star
-  pub star_waits : (w : World) (i : ℕ) (x : Meaning) (a : Argument) → a ≡ star_argument x
-      → OnOk r (Waits i (λ f s. on_value (x f s) (λ v s. with_spread as' ts (top (drop i m.values)) (reverse (take i m.values)) v f s))) → OnOk r (Calls i (a ∷ as') ts m w n w)
-  star_waits w i x a is h = subst (λ (a : Argument). OnOk r (Calls i (a ∷ as') ts m w n w)) (sym is)
-      (on_ok r (Waits i (λ f s. on_value (x f s) (λ v s. with_spread as' ts (top (drop i m.values)) (reverse (take i m.values)) v f s))) (Calls i (star_argument x ∷ as') ts m w n w)
-      (λ law base. law base (state_of w) ∙ ap (λ o. rest m.tasks (gave (frame_in base m) (drop (suc i) m.values) o))
-      (sym (star_more as' ts (top (drop i m.values)) x (reverse (take i m.values)) (frame_in base m) (state_of w)))) h)
-
   module _ (h : Hand) where
     abbrev pub callee : Value
     callee = top (drop (size_of h) m.values)
 
     abbrev pub hand : Arguments
     hand = held_by h m.values
+
+    pub argument_is : (a b : Argument) → a ≡ b → OnOk r ((w : World) → NamedCalls h (b ∷ as') ts m w n w) → OnOk r ((w : World) → NamedCalls h (a ∷ as') ts m w n w)
+    argument_is a b is law = subst (λ (a : Argument). OnOk r ((w : World) → NamedCalls h (a ∷ as') ts m w n w)) (sym is) law
 
     -- one with a name
     pub key_waits : (name : Name) (x : Meaning) (a : Argument) → a ≡ named_argument name x
@@ -310,34 +293,59 @@ module _ (m : Machine) (i : ℕ) where
   pub plain_callee : top (drop (sum_of i 0) m.values) ≡ top (drop i m.values)
   plain_callee = ap (λ j. top (drop j m.values)) (size_plain i)
 
+module _ (m n : Machine) (w v : World) (as' : List Argument) (ts : List (Value → Meaning)) (i : ℕ) where
+  named_as_plain : NamedCalls (plain_hand i) as' ts m w n v → Calls i as' ts m w n v
+  named_as_plain law base = law base ∙ ap (λ j. rest m.tasks (gave (frame_in base m) (drop (suc j) m.values) (with_all as' ts (top (drop j m.values)) (only (reverse (take i m.values))) (frame_in base m) (state_of w))))
+      (size_plain i)
+
+  plain_as_named : Calls i as' ts m w n v → NamedCalls (plain_hand i) as' ts m w n v
+  plain_as_named law base = law base ∙ ap (λ j. rest m.tasks (gave (frame_in base m) (drop (suc j) m.values) (with_all as' ts (top (drop j m.values)) (only (reverse (take i m.values))) (frame_in base m) (state_of w))))
+      (sym (size_plain i))
+
 module _ (m n : Machine) (w v : World) (r : Result (Unit {0}) Halt) (as' : List Argument) (ts : List (Value → Meaning)) (i : ℕ) where
   pub plain_calls : OnOk r (NamedCalls (plain_hand i) as' ts m w n v) → OnOk r (Calls i as' ts m w n v)
-  plain_calls h = on_ok r (NamedCalls (plain_hand i) as' ts m w n v) (Calls i as' ts m w n v)
-      (λ law base. law base ∙ ap (λ j. rest m.tasks (gave (frame_in base m) (drop (suc j) m.values) (with_all as' ts (top (drop j m.values)) (only (reverse (take i m.values))) (frame_in base m) (state_of w))))
-      (size_plain i)) h
+  plain_calls h = on_ok r (NamedCalls (plain_hand i) as' ts m w n v) (Calls i as' ts m w n v) (named_as_plain m n w v as' ts i) h
 
   pub named_calls : OnOk r (Calls i as' ts m w n v) → OnOk r (NamedCalls (plain_hand i) as' ts m w n v)
-  named_calls h = on_ok r (Calls i as' ts m w n v) (NamedCalls (plain_hand i) as' ts m w n v)
-      (λ law base. law base ∙ ap (λ j. rest m.tasks (gave (frame_in base m) (drop (suc j) m.values) (with_all as' ts (top (drop j m.values)) (only (reverse (take i m.values))) (frame_in base m) (state_of w))))
-      (sym (size_plain i))) h
+  named_calls h = on_ok r (Calls i as' ts m w n v) (NamedCalls (plain_hand i) as' ts m w n v) (plain_as_named m n w v as' ts i) h
+
+-- a call has no value
+pub plain_ends : (m n : Machine) (r : Result (Unit {0}) Halt) (i : ℕ) (e : OpEnd)
+    → OnOk r ((base : Run) (s : State) (o : Outcome Value) → IsEnd e s o → rest_of base n s ≡ rest m.tasks (gave (frame_in base m) (drop (suc (sum_of i 0)) m.values) o))
+    → OnOk r ((base : Run) (s : State) (o : Outcome Value) → IsEnd e s o → rest_of base n s ≡ rest m.tasks (gave (frame_in base m) (drop (suc i) m.values) o))
+plain_ends m n r i e law =
+    subst (λ (j : ℕ). OnOk r ((base : Run) (s : State) (o : Outcome Value) → IsEnd e s o → rest_of base n s ≡ rest m.tasks (gave (frame_in base m) (drop (suc j) m.values) o))) (size_plain i) law
+
+-- a part is waited for
+module _ (m n : Machine) (r : Result (Unit {0}) Halt) (as' : List Argument) (ts : List (Value → Meaning)) (h : Hand) (none : h.named ≡ 0) where
+  abbrev under : Value
+  under = top (drop h.plain m.values)
+
+  abbrev held : List Value
+  held = reverse (take h.plain m.values)
+
+  as_hand : (a : Argument) (P : Type 0) → (P → (w : World) → Calls h.plain (a ∷ as') ts m w n w) → OnOk r P → OnOk r ((w : World) → NamedCalls h (a ∷ as') ts m w n w)
+  as_hand a P go law =
+      let same : h ≡ plain_hand h.plain = ap (λ k. record { plain = h.plain; named = k }) none in
+      subst (λ (h : Hand). OnOk r ((w : World) → NamedCalls h (a ∷ as') ts m w n w)) (sym same)
+      (on_ok r P ((w : World) → NamedCalls (plain_hand h.plain) (a ∷ as') ts m w n w) (λ law w. plain_as_named m n w w (a ∷ as') ts h.plain (go law w)) law)
+
+  -- one without a name
+  pub first_plain : (x : Meaning) → OnOk r (Waits m n r as' ts h.plain (λ f s. on_value (x f s) (λ v s. with_arguments as' ts under (held ++ v ∷ []) f s)))
+      → OnOk r ((w : World) → NamedCalls h (plain_argument x ∷ as') ts m w n w)
+  first_plain x law = as_hand (plain_argument x) (Waits m n r as' ts h.plain (λ f s. on_value (x f s) (λ v s. with_arguments as' ts under (held ++ v ∷ []) f s)))
+      (λ law w base. law base (state_of w) ∙ ap (λ o. rest m.tasks (gave (frame_in base m) (drop (suc h.plain) m.values) o))
+      (sym (argument_more ts under (frame_in base m) x as' held (state_of w)))) law
+
+  -- one with a star
+  pub first_star : (x : Meaning) → OnOk r (Waits m n r as' ts h.plain (λ f s. on_value (x f s) (λ v s. with_spread as' ts under held v f s)))
+      → OnOk r ((w : World) → NamedCalls h (star_argument x ∷ as') ts m w n w)
+  first_star x law = as_hand (star_argument x) (Waits m n r as' ts h.plain (λ f s. on_value (x f s) (λ v s. with_spread as' ts under held v f s)))
+      (λ law w base. law base (state_of w) ∙ ap (λ o. rest m.tasks (gave (frame_in base m) (drop (suc h.plain) m.values) o))
+      (sym (star_more as' ts under x held (frame_in base m) (state_of w)))) law
 
 -- more values are at hand
 module _ (m n : Machine) (w v : World) (r : Result (Unit {0}) Halt) (as' : List Argument) (ts : List (Value → Meaning)) where
-  -- those that were spread
-  pub spread_held : (i j : ℕ) (us zs : List Value) → j ≡ i + length us → zs ≡ reverse us ++ m.values → OnOk r (Calls j as' ts (record m { values = zs }) w n v)
-      → OnOk r (Left m n v r (suc i) (λ base. with_arguments as' ts (top (drop i m.values)) (reverse (take i m.values) ++ us) (frame_in base m) (state_of w)))
-  spread_held i j us zs counted held h =
-      on_ok r (Calls (i + length us) as' ts (record m { values = reverse us ++ m.values }) w n v)
-      (Left m n v r (suc i) (λ base. with_arguments as' ts (top (drop i m.values)) (reverse (take i m.values) ++ us) (frame_in base m) (state_of w)))
-      (λ law base. law base
-      ∙ ap (λ (xs : List Value). rest m.tasks (gave (frame_in base m) xs (with_arguments as' ts (top (drop (i + length us) (reverse us ++ m.values))) (reverse (take (i + length us) (reverse us ++ m.values))) (frame_in base m) (state_of w))))
-      (past (i + length us) (reverse us ++ m.values) ∙ ap (drop 1) (dropped_spread us m.values i) ∙ sym (past i m.values))
-      ∙ ap (λ (xs : List Value). rest m.tasks (gave (frame_in base m) (drop (suc i) m.values) (with_arguments as' ts (top xs) (reverse (take (i + length us) (reverse us ++ m.values))) (frame_in base m) (state_of w))))
-      (dropped_spread us m.values i)
-      ∙ ap (λ (xs : List Value). rest m.tasks (gave (frame_in base m) (drop (suc i) m.values) (with_arguments as' ts (top (drop i m.values)) xs (frame_in base m) (state_of w)))) (taken_spread us m.values i))
-      (subst (λ (k : ℕ). OnOk r (Calls k as' ts (record m { values = reverse us ++ m.values }) w n v)) counted
-      (subst (λ (zs : List Value). OnOk r (Calls j as' ts (record m { values = zs }) w n v)) held h))
-
   -- those with names
   module _ (h : Hand) where
     abbrev pub Behind : List (List ℕ × Value) → Type 0

@@ -2,20 +2,19 @@
 #![tactic(auto, using(rp_store::proofs::CallerLemmas::goes_on))]
 
 ghost use Rattle.std.specs.Prelude.{◌≡◌, ◌∷◌, [], suc, IfNone, IfOk, IfSome, OnOk};
-ghost use Rattle.std.specs.Prelude.{◌++◌, drop, is_some, not, reverse, take};
-ghost use Rattle.rp_base.specs.declared.value.Value.{Value as TheValue};
+ghost use Rattle.std.specs.Prelude.{drop, is_some, not, reverse, take};
 ghost use Rattle.rp_frame.specs.Top.{top};
+ghost use Rattle.rp_meaning.specs.Calls as calls;
 ghost use Rattle.rp_meaning.specs.Expressions as forms;
 ghost use Rattle.rp_meaning.specs.Frame.{Run};
-ghost use Rattle.rp_meaning.specs.State.{Outcome, State};
+ghost use Rattle.rp_meaning.specs.State.{State};
 ghost use Rattle.rp_proxy.specs.Faithful.{IsFaithful};
 ghost use Rattle.rp_proxy.specs.declared.world.World.{World as TheWorld};
-ghost use Rattle.rp_store.specs.Kept.{AreFit, IsFit};
+ghost use Rattle.rp_store.specs.Kept.{IsFit};
 ghost use Rattle.rp_store.specs.Shape.{KeepsShape};
 ghost use Rattle.rp_engine.specs.ArgumentSteps.{with_arguments};
-ghost use Rattle.rp_expressions.specs.Arguments.{AsksLeft, Calls};
+ghost use Rattle.rp_expressions.specs.Arguments.{AsksLeft, Calls, NamedCalls};
 ghost use Rattle.rp_access.specs.Calling.{CallComes, IsCallLeft};
-ghost use Rattle.rp_access.specs.Comes.{IsEnd};
 ghost use Rattle.rp_engine.specs.DefinitionSteps.{callee_of, with_called};
 ghost use Rattle.rp_engine.specs.Does as does;
 ghost use Rattle.rp_engine.specs.Law.{Evaluates, Resumes, frame_in, rest_of};
@@ -24,11 +23,13 @@ ghost use Rattle.rp_engine.specs.Ready.{IsReady};
 ghost use Rattle.rp_engine.specs.Rest.{gave, rest};
 ghost use Rattle.rp_engine.specs.TrailerSteps.{next_trailer};
 
+use crate::later_arguments::after_later_star;
+use crate::named_arguments::{call_hand, without_hand};
 use crate::primaries::more_trailers;
 use crate::special_methods::length_by_method;
-use rp_access::{call, spread, take_step};
+use rp_access::{call, take_step};
 use rp_base::{OpEnd, Rock, Value};
-use rp_engine::{Halt, Machine, more_by, one_more};
+use rp_engine::{Halt, Hand, Machine, one_more};
 use rp_frame::{Control, ExprTask, Task};
 use rp_proxy::World;
 use rp_tree::{Arg, Expr, Trailer};
@@ -76,27 +77,27 @@ fn first_argument<'u>(
     ensures shape { KeepsShape world.old.store.heap world.new.store.heap }
 {
     machine.hold(f)?;
-    arguments(machine, world, 0, args, rest)
+    arguments(machine, world, Hand { plain: 0, named: 0 }, args, rest)
 }
 
-/// Goes on with the arguments that are left; the callee and so many arguments before them are at hand.
+/// Goes on with the arguments that are left; the callee and these before them are at hand.
 #[inline(always)]
-fn arguments<'u>(
+pub(crate) fn arguments<'u>(
     machine: &mut Machine<'u>,
     world: &mut World,
-    count: u32,
+    hand: Hand,
     args: &'u [Arg],
     rest: &'u [Trailer],
 ) -> Result<(), Halt>
     requires ready { IsReady machine.old.units.now machine.old.frame machine.old.values world.old }
-    ensures law { OnOk result (Calls count (does.args args.now) (does.trailers rest.now)
+    ensures law { OnOk result (NamedCalls hand (does.args args.now) (does.trailers rest.now)
         machine.old world.old machine.new world.new) }
     ensures ready { IsReady machine.new.units.now machine.new.frame machine.new.values world.new }
     ensures shape { KeepsShape world.old.store.heap world.new.store.heap }
 {
     match args {
-        [] => call_at_hand(machine, world, count, rest),
-        [arg, args @ ..] => argument(machine, world, count, arg, args, rest),
+        [] => call_hand(machine, world, hand, rest),
+        [arg, args @ ..] => argument(machine, hand, arg, args, rest),
     }
 }
 
@@ -104,40 +105,86 @@ fn arguments<'u>(
 #[inline(always)]
 fn argument<'u>(
     machine: &mut Machine<'u>,
-    world: &mut World,
-    count: u32,
+    hand: Hand,
     arg: &'u Arg,
     args: &'u [Arg],
     rest: &'u [Trailer],
 ) -> Result<(), Halt>
-    requires ready { IsReady machine.old.units.now machine.old.frame machine.old.values world.old }
-    ensures law { OnOk result (Calls count (does.arg arg.now ∷ does.args args.now) (does.trailers rest.now)
-        machine.old world.old machine.new world.new) }
-    ensures ready { IsReady machine.new.units.now machine.new.frame machine.new.values world.new }
-    ensures shape { KeepsShape world.old.store.heap world.new.store.heap }
+    ensures law { OnOk result ((w : TheWorld) → NamedCalls hand (does.arg arg.now ∷ does.args args.now)
+        (does.trailers rest.now) machine.old w machine.new w) }
+    ensures ready { (w : TheWorld) → IsReady machine.old.units.now machine.old.frame machine.old.values w
+        → IsReady machine.new.units.now machine.new.frame machine.new.values w }
 {
     match arg {
-        Arg::Plain(x) => machine.wait(
-            Task::Expr(ExprTask::Argument(count, args, rest)),
-            Control::Expression(x),
-        ),
-        Arg::Star(x) => machine.wait(
-            Task::Expr(ExprTask::StarArgument(count, args, rest)),
-            Control::Expression(x),
-        ),
+        Arg::Plain(x) => unnamed(machine, hand, x, args, rest),
+        Arg::Star(x) => starred(machine, hand, x, args, rest),
         Arg::Key(name, x) => machine.wait(
-            Task::Expr(ExprTask::NamedArgument(count, 0, *name, args, rest)),
+            Task::Expr(ExprTask::NamedArgument(hand.plain, hand.named, *name, args, rest)),
             Control::Expression(x),
         ),
         Arg::Stars(x) => machine.wait(
-            Task::Expr(ExprTask::StarsArgument(count, 0, args, rest)),
+            Task::Expr(ExprTask::StarsArgument(hand.plain, hand.named, args, rest)),
             Control::Expression(x),
         ),
     }
 }
 
+/// Goes on with an argument without a name, which comes before those at hand that have one.
+#[inline(always)]
+fn unnamed<'u>(
+    machine: &mut Machine<'u>,
+    hand: Hand,
+    x: &'u Expr,
+    args: &'u [Arg],
+    rest: &'u [Trailer],
+) -> Result<(), Halt>
+    ensures law { OnOk result ((w : TheWorld)
+        → NamedCalls hand (calls.plain_argument (does.expr x.now) ∷ does.args args.now)
+        (does.trailers rest.now) machine.old w machine.new w) }
+    ensures ready { (w : TheWorld) → IsReady machine.old.units.now machine.old.frame machine.old.values w
+        → IsReady machine.new.units.now machine.new.frame machine.new.values w }
+{
+    if hand.named == 0 {
+        return machine.wait(
+            Task::Expr(ExprTask::Argument(hand.plain, args, rest)),
+            Control::Expression(x),
+        );
+    }
+    machine.wait(
+        Task::Expr(ExprTask::LaterArgument(hand.plain, hand.named, args, rest)),
+        Control::Expression(x),
+    )
+}
+
+/// Goes on with what is to be spread over arguments without a name, which come before those at hand that have one.
+#[inline(always)]
+fn starred<'u>(
+    machine: &mut Machine<'u>,
+    hand: Hand,
+    x: &'u Expr,
+    args: &'u [Arg],
+    rest: &'u [Trailer],
+) -> Result<(), Halt>
+    ensures law { OnOk result ((w : TheWorld)
+        → NamedCalls hand (calls.star_argument (does.expr x.now) ∷ does.args args.now)
+        (does.trailers rest.now) machine.old w machine.new w) }
+    ensures ready { (w : TheWorld) → IsReady machine.old.units.now machine.old.frame machine.old.values w
+        → IsReady machine.new.units.now machine.new.frame machine.new.values w }
+{
+    if hand.named == 0 {
+        return machine.wait(
+            Task::Expr(ExprTask::StarArgument(hand.plain, args, rest)),
+            Control::Expression(x),
+        );
+    }
+    machine.wait(
+        Task::Expr(ExprTask::LaterStar(hand.plain, hand.named, args, rest)),
+        Control::Expression(x),
+    )
+}
+
 /// With what is spread; the callee and so many arguments before it are at hand.
-#[inline(never)]
+#[inline(always)]
 pub fn after_star<'u>(
     machine: &mut Machine<'u>,
     world: &mut World,
@@ -153,34 +200,11 @@ pub fn after_star<'u>(
     ensures ready { IsReady machine.new.units.now machine.new.frame machine.new.values world.new }
     ensures shape { KeepsShape world.old.store.heap world.new.store.heap }
 {
-    match spread(machine.alloc, world, machine.frame.side, &value) {
-        Ok(values) => spread_over(machine, world, count, values, args, rest),
-        Err(end) => without_result(machine, count, end),
-    }
-}
-
-/// With the values that are spread.
-#[inline(always)]
-fn spread_over<'u>(
-    machine: &mut Machine<'u>,
-    world: &mut World,
-    count: u32,
-    values: Vec<Value>,
-    args: &'u [Arg],
-    trailers: &'u [Trailer],
-) -> Result<(), Halt>
-    requires ready { IsReady machine.old.units.now machine.old.frame machine.old.values world.old }
-    requires fit { AreFit world.old.store.heap machine.old.frame.side values.items }
-    ensures law { OnOk result ((base : Run) → rest_of base machine.new (state_of world.new)
-        ≡ rest machine.old.tasks (gave (frame_in base machine.old) (drop (suc count) machine.old.values)
-        (with_arguments (does.args args.now) (does.trailers trailers.now) (top (drop count machine.old.values))
-        (reverse (take count machine.old.values) ++ values.items) (frame_in base machine.old) (state_of world.old)))) }
-    ensures ready { IsReady machine.new.units.now machine.new.frame machine.new.values world.new }
-    ensures shape { KeepsShape world.old.store.heap world.new.store.heap }
-{
-    let count = more_by(count, values.len())?;
-    machine.values.add(values)?;
-    arguments(machine, world, count, args, trailers)
+    let hand = Hand {
+        plain: count,
+        named: 0,
+    };
+    after_later_star(machine, world, hand, value, args, rest)
 }
 
 /// With an argument; the callee and so many arguments before it are at hand.
@@ -201,8 +225,8 @@ pub fn after_argument<'u>(
     ensures shape { KeepsShape world.old.store.heap world.new.store.heap }
 {
     machine.hold(value)?;
-    let count = one_more(count)?;
-    arguments(machine, world, count, args, rest)
+    let plain = one_more(count)?;
+    arguments(machine, world, Hand { plain, named: 0 }, args, rest)
 }
 
 /// Calls what is at hand with the arguments upon it.
@@ -221,7 +245,14 @@ pub(crate) fn call_at_hand<'u>(
     match called(machine, world, count as usize) {
         Ok(Some(value)) => with_result(machine, count, value, rest),
         Ok(None) => ask_left(machine, count, rest),
-        Err(end) => without_result(machine, count, end),
+        Err(end) => without_hand(
+            machine,
+            Hand {
+                plain: count,
+                named: 0,
+            },
+            end,
+        ),
     }
 }
 
@@ -273,19 +304,6 @@ fn with_result<'u>(
 {
     machine.forget(count as usize + 1);
     more_trailers(machine, value, trailers)
-}
-
-/// A call has no value; the callee and the arguments are dropped.
-#[inline(never)]
-fn without_result<'u>(machine: &mut Machine<'u>, count: u32, end: OpEnd) -> Result<(), Halt>
-    ensures law { OnOk result ((base : Run) (s : State) (o : Outcome TheValue) → IsEnd end s o
-        → rest_of base machine.new s
-        ≡ rest machine.old.tasks (gave (frame_in base machine.old) (drop (suc count) machine.old.values) o)) }
-    ensures ready { (w : TheWorld) → IsReady machine.old.units.now machine.old.frame machine.old.values w
-        → IsReady machine.new.units.now machine.new.frame machine.new.values w }
-{
-    machine.forget(count as usize + 1);
-    machine.no_value(end)
 }
 
 /// What the call gives; the callee and the arguments stay at hand.

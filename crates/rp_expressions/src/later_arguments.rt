@@ -16,7 +16,8 @@ ghost use Rattle.rp_engine.specs.Law.{Resumes, frame_in, rest_of};
 ghost use Rattle.rp_engine.specs.Ready.{IsReady};
 ghost use Rattle.rp_engine.specs.Rest.{gave, rest};
 
-use crate::named_arguments::{hold_named, named_arguments, without_hand};
+use crate::arguments::arguments;
+use crate::named_arguments::{hold_named, without_hand};
 use crate::named_values::named_at_hand;
 use rp_access::spread;
 use rp_base::{Memory, Value};
@@ -94,7 +95,7 @@ fn plain_over<'u>(
     ensures shape { KeepsShape world.old.store.heap world.new.store.heap }
 {
     let all = hold_plain(machine, hand, values)?;
-    named_arguments(machine, world, all, args, trailers)
+    arguments(machine, world, all, args, trailers)
 }
 
 /// Keeps values at hand behind the arguments that have no name; those that have one stand upon them again. How many

@@ -21,7 +21,7 @@ ghost use Rattle.rp_engine.specs.Law.{Resumes, frame_in, rest_of};
 ghost use Rattle.rp_engine.specs.Ready.{IsReady};
 ghost use Rattle.rp_engine.specs.Rest.{gave, rest};
 
-use crate::arguments::call_at_hand;
+use crate::arguments::{arguments, call_at_hand};
 use rp_access::{ask_named, spread_named};
 use rp_attributes::word_text;
 use rp_base::{Kind, Memory, Name, OpEnd, Rock, Text, Value};
@@ -81,62 +81,7 @@ fn with_word<'u>(
     hold_pair(machine, word, value)?;
     let named = one_more(hand.named)?;
     let plain = hand.plain;
-    named_arguments(machine, world, Hand { plain, named }, args, trailers)
-}
-
-/// Goes on with the arguments that are left, behind one with a name.
-#[inline(always)]
-pub(crate) fn named_arguments<'u>(
-    machine: &mut Machine<'u>,
-    world: &mut World,
-    hand: Hand,
-    args: &'u [Arg],
-    rest: &'u [Trailer],
-) -> Result<(), Halt>
-    requires ready { IsReady machine.old.units.now machine.old.frame machine.old.values world.old }
-    ensures law { OnOk result (NamedCalls hand (does.args args.now) (does.trailers rest.now)
-        machine.old world.old machine.new world.new) }
-    ensures ready { IsReady machine.new.units.now machine.new.frame machine.new.values world.new }
-    ensures shape { KeepsShape world.old.store.heap world.new.store.heap }
-{
-    match args {
-        [] => call_hand(machine, world, hand, rest),
-        [arg, args @ ..] => named_argument(machine, hand, arg, args, rest),
-    }
-}
-
-/// Goes on with the next argument, which stands behind one with a name.
-#[inline(always)]
-fn named_argument<'u>(
-    machine: &mut Machine<'u>,
-    hand: Hand,
-    arg: &'u Arg,
-    args: &'u [Arg],
-    rest: &'u [Trailer],
-) -> Result<(), Halt>
-    ensures law { OnOk result ((w : TheWorld) → NamedCalls hand (does.arg arg.now ∷ does.args args.now)
-        (does.trailers rest.now) machine.old w machine.new w) }
-    ensures ready { (w : TheWorld) → IsReady machine.old.units.now machine.old.frame machine.old.values w
-        → IsReady machine.new.units.now machine.new.frame machine.new.values w }
-{
-    match arg {
-        Arg::Key(name, x) => machine.wait(
-            Task::Expr(ExprTask::NamedArgument(hand.plain, hand.named, *name, args, rest)),
-            Control::Expression(x),
-        ),
-        Arg::Stars(x) => machine.wait(
-            Task::Expr(ExprTask::StarsArgument(hand.plain, hand.named, args, rest)),
-            Control::Expression(x),
-        ),
-        Arg::Plain(x) => machine.wait(
-            Task::Expr(ExprTask::LaterArgument(hand.plain, hand.named, args, rest)),
-            Control::Expression(x),
-        ),
-        Arg::Star(x) => machine.wait(
-            Task::Expr(ExprTask::LaterStar(hand.plain, hand.named, args, rest)),
-            Control::Expression(x),
-        ),
-    }
+    arguments(machine, world, Hand { plain, named }, args, trailers)
 }
 
 /// With what is spread over arguments with names; the callee and these arguments before it are at hand.
@@ -184,7 +129,7 @@ fn named_over<'u>(
     let count = more_by(hand.named, named.len())?;
     hold_named(machine, named)?;
     let plain = hand.plain;
-    named_arguments(
+    arguments(
         machine,
         world,
         Hand {
@@ -235,7 +180,7 @@ fn hold_pair<'u>(machine: &mut Machine<'u>, word: Text, value: Value) -> Result<
 
 /// Calls what is at hand, with names or without; nothing is called where no name and value are at hand.
 #[inline(always)]
-fn call_hand<'u>(
+pub(crate) fn call_hand<'u>(
     machine: &mut Machine<'u>,
     world: &mut World,
     hand: Hand,

@@ -28,7 +28,7 @@ use Rattle.rp_order_laws.proofs.Forms.{function_called, method_called}
 use Rattle.rp_order_laws.proofs.Going.{Any, Anything, FitIn, Held, IsIn, Keeps, KeepsAt, ask_for, bind, by_option}
 use Rattle.rp_order_laws.proofs.Going.{gets_value, made, on_method, op, same, start, takes_value}
 use Rattle.rp_order_laws.proofs.Going as going
-use Rattle.rp_order_laws.proofs.Operations.{elements, show_leaves}
+use Rattle.rp_owner_laws.proofs.Operations.{elements, show_leaves}
 
 abbrev pub ArgumentKeeps : Argument → Type 0
 ArgumentKeeps a = (before : Arguments) → KeepsAt Any (a before)

@@ -1,6 +1,6 @@
 -- What code does with values keeps objects such as code of their owners makes them: names, decisions, operators,
 -- attributes and items.
-use Rattle.std.proofs.Common.{◌≡◌, refl, sym, subst, ℕ, zero, suc, ◌+◌, length, ℤ, pos, negsuc, List, []}
+use Rattle.std.proofs.Common.{◌≡◌, refl, subst, ℕ, zero, suc, ◌+◌, length, ℤ, pos, negsuc, List, []}
 use Rattle.std.proofs.Common.{◌∷◌, Option, Some, None, Result, Ok, Err}
 use Rattle.std.specs.Prelude.{find, option_map, position}
 use Rattle.std.specs.Option.{option_or}
@@ -39,7 +39,7 @@ use Rattle.rp_meaning.specs.Binding.{Arguments, only}
 use Rattle.rp_meaning.specs.BuiltIn.{allowed, applied, decided_and_applied, defaulted, function, function_call}
 use Rattle.rp_meaning.specs.BuiltIn.{get_named, given, getattr, length_given}
 use Rattle.rp_meaning.specs.BuiltIn.{length_of, method_call, name_of, set_named, setattr, unnamed, with_name}
-use Rattle.rp_meaning.specs.Frame.{Frame, Natives, Doing, asked_each, read_name, bind_name, unbind_name}
+use Rattle.rp_meaning.specs.Frame.{Frame, Doing, asked_each, read_name, bind_name, unbind_name}
 use Rattle.rp_meaning.specs.Frame.{without_name}
 use Rattle.rp_meaning.specs.Frame.{slot_of, place_of}
 use Rattle.rp_meaning.specs.Operators.{operate, operate_unary, augment, tested, left_name, right_name, unary_name}
@@ -50,7 +50,6 @@ use Rattle.rp_meaning.specs.Special.{special}
 use Rattle.rp_meaning.specs.State.{State, Outcome, heap_of, plainly}
 use Rattle.rp_meaning.specs.Walks.{walk, next_element, each, on_truth}
 use Rattle.rp_apart_laws.specs.Apart.{Each, OnSome}
-use Rattle.rp_fixed_laws.specs.Fixed.{AreBuiltIn}
 use Rattle.std.specs.Prelude.{nat_lt, slice_get}
 use Rattle.std.specs.Option.{option_map_or}
 use Rattle.std.specs.Map.{lookup}
@@ -75,14 +74,12 @@ use Rattle.rp_order_laws.proofs.Going.{chosen, forget, found, gets_value, moved,
 use Rattle.rp_order_laws.proofs.Going.{slot_own}
 use Rattle.rp_order_laws.proofs.Going.{made, slot_set, start, takes_value, turns_keep}
 use Rattle.rp_order_laws.proofs.Keeping.{owned_suits, read_on, read_suits, taken_held}
-use Rattle.rp_order_laws.proofs.Methods.{method_leaves}
-use Rattle.rp_order_laws.proofs.Mildly.{Keeper}
-use Rattle.rp_order_laws.proofs.Natives.{function_leaves, print_line_leaves}
-use Rattle.rp_order_laws.proofs.Objects.{item, slice}
-use Rattle.rp_order_laws.proofs.Objects.{del_attribute as del_attribute_leaves, del_item as del_item_leaves}
-use Rattle.rp_order_laws.proofs.Objects.{set_attribute as set_attribute_leaves, set_item as set_item_leaves}
-use Rattle.rp_order_laws.proofs.Operations.{binary_leaves, compare, contains, inplace_leaves, next_of}
-use Rattle.rp_order_laws.proofs.Plainly.{Leaves, There}
+use Rattle.rp_order_laws.proofs.Mildly.{any_bare}
+use Rattle.rp_owner_laws.proofs.BuiltIns.{function_done, line_printed, method_done}
+use Rattle.rp_owner_laws.proofs.Objects.{item, slice}
+use Rattle.rp_owner_laws.proofs.Objects.{del_attribute as del_attribute_leaves, del_item as del_item_leaves}
+use Rattle.rp_owner_laws.proofs.Objects.{set_attribute as set_attribute_leaves, set_item as set_item_leaves}
+use Rattle.rp_owner_laws.proofs.Operations.{binary_leaves, compare, contains, inplace_leaves, next_of}
 
 -- names
 
@@ -296,11 +293,13 @@ attribute_got o n f c s h = ask_for f c n o s h (λ s g h.
 
 pub attribute_set : (o : Value) (n : Name) (v : Value) → KeepsAt Any (set_attribute o n v)
 attribute_set o n v f c s h = ask_to_set f c n o s h (λ s g h.
-    bind (op s h (set_attribute_leaves o n (word_of s.names n) v tt s.plain (start s))) (λ _ s r g h. same h tt))
+    bind (op s h (set_attribute_leaves o n (word_of s.names n) v (any_bare (heap_of s) o) s.plain (start s)))
+    (λ _ s r g h. same h tt))
 
 pub attribute_deleted : (o : Value) (n : Name) → KeepsAt Any (del_attribute o n)
 attribute_deleted o n f c s h = ask_to_set f c n o s h (λ s g h.
-    bind (op s h (del_attribute_leaves o n (word_of s.names n) tt s.plain (start s))) (λ _ s r g h. same h tt))
+    bind (op s h (del_attribute_leaves o n (word_of s.names n) (any_bare (heap_of s) o) s.plain (start s)))
+    (λ _ s r g h. same h tt))
 
 pub item_got : (o i : Value) → KeepsAt Held (get_item o i)
 item_got o i f c s h = ask_for f c GET_ITEM o s h (λ s g h.
@@ -312,13 +311,13 @@ pub item_set : (o i v : Value) → KeepsAt Any (set_item o i v)
 item_set o i v f c s h = ask_for f c SET_ITEM o s h (λ s g h.
     on_method (special (heap_of s) o SET_ITEM) _ _ s
     (λ m. bind (calls f c m.function (only (m.of ∷ i ∷ v ∷ [])) s h) (λ v s _ g h. same h tt))
-    (bind (op s h (set_item_leaves o i v tt s.plain (start s))) (λ _ s l g h. same h tt)))
+    (bind (op s h (set_item_leaves o i v (any_bare (heap_of s) o) s.plain (start s))) (λ _ s l g h. same h tt)))
 
 pub item_deleted : (o i : Value) → KeepsAt Any (del_item o i)
 item_deleted o i f c s h = ask_for f c DEL_ITEM o s h (λ s g h.
     on_method (special (heap_of s) o DEL_ITEM) _ _ s
     (λ m. bind (calls f c m.function (only (m.of ∷ i ∷ [])) s h) (λ v s _ g h. same h tt))
-    (bind (op s h (del_item_leaves o i tt s.plain (start s))) (λ _ s l g h. same h tt)))
+    (bind (op s h (del_item_leaves o i (any_bare (heap_of s) o) s.plain (start s))) (λ _ s l g h. same h tt)))
 
 pub slice_got : (o x y z : Value) → KeepsAt Held (get_slice o x y z)
 slice_got o x y z f c s h = ask_for f c GET_ITEM o s h (λ s g h.
@@ -348,7 +347,8 @@ operated_once o a f c s h = ask_for f c (unary_name o) a s h (λ s g h.
 pub augmented : (o : BinOp) (a b : Value) → KeepsAt Held (augment o a b)
 augmented o a b f c s h =
     ask_for f c (in_place_name o) a s h (λ s g h. ask_for f c (augmented_name (heap_of s) o a) b s h (λ s g h.
-    bind (op s h (inplace_leaves f.side o a b tt s.plain (start s))) (λ v s _ g h. takes_value v f c s h)))
+    bind (op s h (inplace_leaves f.side o a b (any_bare (heap_of s) a) s.plain (start s)))
+    (λ v s _ g h. takes_value v f c s h)))
 
 pub test_keeps : (t : Test) (a b : Value) → KeepsAt Any (tested t a b)
 test_keeps (test.Order o) a b f c s h =
@@ -360,23 +360,6 @@ test_keeps test.Is a b f c s h = same h tt
 test_keeps test.IsNot a b f c s h = same h tt
 
 -- calls of built-in functions and methods
-
-function_done : {k : Keeper} {n : Natives} → AreBuiltIn n → (names : List (List ℕ)) (side : Side) (id : NativeId)
-    (vs : List Value) (s : plain.State) → There k s → Leaves k (n.function names side id vs s)
-function_done {k} b names side id vs s h =
-    subst (λ (o : plain.Outcome Value). Leaves k o) (sym (b.functions names side id vs s))
-    (function_leaves names side id vs s h)
-
-method_done : {k : Keeper} {n : Natives} → AreBuiltIn n → (names : List (List ℕ)) (side : Side) (v : Value)
-    (id : NativeId) (vs : List Value) (s : plain.State) → There k s → Leaves k (n.method names side v id vs s)
-method_done {k} b names side v id vs s h =
-    subst (λ (o : plain.Outcome Value). Leaves k o) (sym (b.methods names side v id vs s))
-    (method_leaves side v id vs tt s h)
-
-line_printed : {k : Keeper} {n : Natives} → AreBuiltIn n → (names : List (List ℕ)) (vs : List Value) (s : plain.State)
-    → There k s → Leaves k (n.print_line names vs s)
-line_printed {k} b names vs s h =
-    subst (λ (o : plain.Outcome (List ℕ)). Leaves k o) (sym (b.lines names vs s)) (print_line_leaves names vs s h)
 
 given_keeps : (id : NativeId) (vs : List Value) → KeepsAt Any (given id vs)
 given_keeps id vs f c s h = op s h (function_done c.quiet.natives s.names f.side id vs s.plain (start s))
@@ -474,5 +457,6 @@ method_called owner receiver id a f c s h = chosen (f.run.natives.is_method (hea
     (λ vs s. asked_each f (λ i. f.run.natives.needs id i (length vs)) 0 vs s
     (λ s. plainly (f.run.natives.method s.names owner receiver id vs) s)) h
     (λ vs. ask_each f c (λ i. f.run.natives.needs id i (length vs)) 0 vs s h
-    (λ s h. op s h (method_done c.quiet.natives s.names owner receiver id vs s.plain (start s)))))
+    (λ s h. op s h (method_done c.quiet.natives s.names owner receiver id vs (any_bare (heap_of s) receiver) s.plain
+    (start s)))))
     (same h tt)

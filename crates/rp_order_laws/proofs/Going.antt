@@ -38,10 +38,9 @@ use Rattle.rp_order_laws.specs.Ordered.{AreOrdered, ClassesAreTrusted, IsHeldBy,
 use Rattle.rp_order_laws.proofs.Keeping.{Grows, SparesIn, appended_grows, appended_ordered, changed_grows}
 use Rattle.rp_order_laws.proofs.Keeping.{changed_ordered, classes_later, grows_not, grows_on, last_owner, mildly_grows}
 use Rattle.rp_order_laws.proofs.Keeping.{mildly_ordered, read_on, read_suits, spares_of, taken_held}
-use Rattle.rp_order_laws.proofs.Mildly as mildly
-use Rattle.rp_order_laws.proofs.Mildly.{begun}
-use Rattle.rp_order_laws.proofs.Plainly as plainly
-use Rattle.rp_order_laws.proofs.Plainly.{Leaves}
+use Rattle.rp_order_laws.proofs.Mildly.{StayFrom, begun, mildly}
+use Rattle.rp_owner_laws.proofs.Plainly as plainly
+use Rattle.rp_owner_laws.proofs.Plainly.{Leaves}
 
 -- ---- states, and what something comes to
 
@@ -104,7 +103,7 @@ pub said_nothing : {A : Type 0} (r : Result A End) → OnValue Nothing r
 said_nothing (Ok x) = tt
 said_nothing (Err e) = tt
 
-pub start : (s : State) → mildly.Kept (mildly.mildly (heap_of s)) (heap_of s)
+pub start : (s : State) → StayFrom (heap_of s) (heap_of s)
 start s = begun (heap_of s)
 
 pub same : {A : Type 0} {f : Frame} {P : Saying A} {o : Outcome A} → IsIn f o.state
@@ -146,7 +145,7 @@ led {f = f} {o = o} s h l = record {
 }
 
 -- a plain operation
-plain_leads : {A : Type 0} {o : plain.Outcome A} (s : State) → IsOrderly s → Leaves (mildly.mildly (heap_of s)) o
+plain_leads : {A : Type 0} {o : plain.Outcome A} (s : State) → IsOrderly s → Leaves (mildly (heap_of s)) o
     → Leads (heap_of s) (lifted o s)
 plain_leads {o = o} s h l =
     let g : Grows (heap_of s) o.state.store.heap = mildly_grows (heap_of s) o.state.store.heap l.there in
@@ -159,7 +158,7 @@ plain_leads {o = o} s h l =
     }
 
 pub op : {A : Type 0} {f : Frame} {o : plain.Outcome A} (s : State) → IsIn f s
-    → Leaves (mildly.mildly (heap_of s)) o → Keeps f (heap_of s) Anything (lifted o s)
+    → Leaves (mildly (heap_of s)) o → Keeps f (heap_of s) Anything (lifted o s)
 op s h l = led s h (plain_leads s h.0 l)
 
 -- the state, changed
@@ -216,13 +215,13 @@ chosen {A} {f} {P} b this other {s} h i = by b where
 pub step : {A : Type 0} {f : Frame} {P : Saying A} (s : State) {go : State → Outcome A} → IsIn f s
     → DoesBehind f (heap_of s) P go → Keeps f (heap_of s) P (stepped s go)
 step s h more = bind (op s h
-    (plainly.step {k = mildly.mildly (heap_of s)} {go = gives (tt {0})} s.plain (start s) (λ s h. plainly.kept h)))
+    (plainly.step {k = mildly (heap_of s)} {go = gives (tt {0})} s.plain (start s) (λ s h. plainly.kept h)))
     (λ _ s p g h. more s g h)
 
 pub charge : {A : Type 0} {f : Frame} {P : Saying A} (cells : ℕ) (s : State) {go : State → Outcome A} → IsIn f s
     → DoesBehind f (heap_of s) P go → Keeps f (heap_of s) P (charged cells s go)
 charge cells s h more = bind (op s h
-    (plainly.charge {k = mildly.mildly (heap_of s)} {go = gives (tt {0})} cells s.plain (start s)
+    (plainly.charge {k = mildly (heap_of s)} {go = gives (tt {0})} cells s.plain (start s)
     (λ s h. plainly.kept h))) (λ _ s p g h. more s g h)
 
 -- flows
@@ -453,7 +452,3 @@ slot_set f (Some slot) v s p q h =
 pub by_option : {X P : Type 0} (x : Option X) → (x ≡ None → P) → ((y : X) → x ≡ Some y → P) → P
 by_option None none some = none refl
 by_option (Some y) none some = some y refl
-
-pub by_result : {X E P : Type 0} (x : Result X E) → ((y : X) → x ≡ Ok y → P) → ((e : E) → x ≡ Err e → P) → P
-by_result (Ok y) ok err = ok y refl
-by_result (Err e) ok err = err e refl

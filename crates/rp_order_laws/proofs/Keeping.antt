@@ -21,9 +21,10 @@ use Rattle.rp_apart_laws.proofs.Lists.{each_append, each_get}
 use Rattle.rp_apart_laws.specs.Apart.{Each, OnSome}
 use Rattle.rp_owner_laws.specs.Kept as kept
 use Rattle.rp_owner_laws.specs.Kept.{own}
+use Rattle.rp_owner_laws.proofs.PlainKeepers.{Mild, rest}
 use Rattle.rp_order_laws.specs.Ordered.{AllAreOrdered, AreOrdered, ClassesAreTrusted, IsCallee, IsHeldBy, IsOf}
 use Rattle.rp_order_laws.specs.Ordered.{IsReceiver, Suits, place_of}
-use Rattle.rp_order_laws.proofs.Mildly as mildly
+use Rattle.rp_order_laws.proofs.Mildly.{IsMade, StayFrom, Stays}
 
 -- ---- owners stay
 
@@ -156,18 +157,18 @@ last_owner (x ∷ xs) side c = last_owner xs side c
 
 -- ---- plain operations
 
-mildly_owner : (k : mildly.Keeper) (olds heap : List Owned) (j : ℕ) (side : Side) → mildly.StayFrom k olds heap
+mildly_owner : (olds heap : List Owned) (j : ℕ) (side : Side) → StayFrom olds heap
     → option_map (λ (o : Owned). o.owner) (slice_get olds j) ≡ Some side
     → option_map (λ (o : Owned). o.owner) (slice_get heap j) ≡ Some side
-mildly_owner k [] heap j side h e = absurd (cc)
-mildly_owner k (o ∷ os) [] j side h e = absurd h
-mildly_owner k (o ∷ os) (x ∷ xs) zero side h e = ap Some h.0.0 ∙ e
-mildly_owner k (o ∷ os) (x ∷ xs) (suc j) side h e = mildly_owner k os xs j side h.1 e
+mildly_owner [] heap j side h e = absurd (cc)
+mildly_owner (o ∷ os) [] j side h e = absurd h
+mildly_owner (o ∷ os) (x ∷ xs) zero side h e = ap Some h.0.0 ∙ e
+mildly_owner (o ∷ os) (x ∷ xs) (suc j) side h e = mildly_owner os xs j side h.1 e
 
-pub mildly_grows : (old heap : List Owned) → mildly.Kept (mildly.mildly old) heap → Grows old heap
-mildly_grows old heap h at side e = mildly_owner (mildly.mildly old) old heap at.0 side h e
+pub mildly_grows : (old heap : List Owned) → StayFrom old heap → Grows old heap
+mildly_grows old heap h at side e = mildly_owner old heap at.0 side h e
 
-suits_rest : (heap : List Owned) (side : Side) (c : Content) → Suits heap side c → Suits heap side (mildly.rest c)
+suits_rest : (heap : List Owned) (side : Side) (c : Content) → Suits heap side c → Suits heap side (rest c)
 suits_rest heap side (object.list xs) h = tt
 suits_rest heap side (object.tuple xs) h = tt
 suits_rest heap side (object.dict es) h = tt
@@ -177,7 +178,7 @@ suits_rest heap side (object.function name unit block within ds) h = h
 suits_rest heap side (object.method v called) h = h
 suits_rest heap side (object.scope block parent vs) h = h
 
-rest_suits : (heap : List Owned) (side : Side) (c : Content) → Suits heap side (mildly.rest c) → Suits heap side c
+rest_suits : (heap : List Owned) (side : Side) (c : Content) → Suits heap side (rest c) → Suits heap side c
 rest_suits heap side (object.list xs) h = tt
 rest_suits heap side (object.tuple xs) h = tt
 rest_suits heap side (object.dict es) h = tt
@@ -187,39 +188,39 @@ rest_suits heap side (object.function name unit block within ds) h = h
 rest_suits heap side (object.method v called) h = h
 rest_suits heap side (object.scope block parent vs) h = h
 
-pub suits_mild : (heap : List Owned) (side : Side) (f : Content → Content) → mildly.Mild f → (c : Content)
+pub suits_mild : (heap : List Owned) (side : Side) (f : Content → Content) → Mild f → (c : Content)
     → Suits heap side c → Suits heap side (f c)
 suits_mild heap side f m c p = rest_suits heap side (f c)
     (subst (Suits heap side) (sym (m c)) (suits_rest heap side c p))
 
-stays_suit : (heap : List Owned) (o new : Owned) (k : mildly.Keeper) → mildly.Stays k o new
+stays_suit : (heap : List Owned) (o new : Owned) → Stays o new
     → Suits heap o.owner o.content → Suits heap new.owner new.content
-stays_suit heap o new k h p =
+stays_suit heap o new h p =
     rest_suits heap new.owner new.content
     (subst (λ (c : Content). Suits heap new.owner c) (sym h.1)
     (suits_rest heap new.owner o.content (subst (λ (s : Side). Suits heap s o.content) (sym h.0) p)))
 
-pub made_suits : (heap : List Owned) (side : Side) (k : mildly.Keeper) (c : Content) → mildly.Fits k c
+pub made_suits : (heap : List Owned) (side : Side) (c : Content) → IsMade c
     → Suits heap side c
-made_suits heap side k (object.list xs) h = tt
-made_suits heap side k (object.tuple xs) h = tt
-made_suits heap side k (object.dict es) h = tt
-made_suits heap side k (object.instance of fs) h = absurd h
-made_suits heap side k (object.class name declared ms) h = absurd h
-made_suits heap side k (object.function name unit block within ds) h = absurd h
-made_suits heap side k (object.method v called) h = absurd h
-made_suits heap side k (object.scope block parent vs) h = absurd h
+made_suits heap side (object.list xs) h = tt
+made_suits heap side (object.tuple xs) h = tt
+made_suits heap side (object.dict es) h = tt
+made_suits heap side (object.instance of fs) h = absurd h
+made_suits heap side (object.class name declared ms) h = absurd h
+made_suits heap side (object.function name unit block within ds) h = absurd h
+made_suits heap side (object.method v called) h = absurd h
+made_suits heap side (object.scope block parent vs) h = absurd h
 
-mildly_each : (heap : List Owned) (k : mildly.Keeper) (olds news : List Owned) → mildly.StayFrom k olds news
+mildly_each : (heap : List Owned) (olds news : List Owned) → StayFrom olds news
     → Each (λ (o : Owned). Suits heap o.owner o.content) olds → Each (λ (o : Owned). Suits heap o.owner o.content) news
-mildly_each heap k [] news h p = each_more (mildly.OwnedFits k) (λ (o : Owned). Suits heap o.owner o.content)
-    (λ o q. made_suits heap o.owner k o.content q) news h
-mildly_each heap k (o ∷ os) [] h p = absurd h
-mildly_each heap k (o ∷ os) (x ∷ xs) h p = (stays_suit heap o x k h.0 p.0, mildly_each heap k os xs h.1 p.1)
+mildly_each heap [] news h p = each_more (λ (o : Owned). IsMade o.content) (λ (o : Owned). Suits heap o.owner o.content)
+    (λ o q. made_suits heap o.owner o.content q) news h
+mildly_each heap (o ∷ os) [] h p = absurd h
+mildly_each heap (o ∷ os) (x ∷ xs) h p = (stays_suit heap o x h.0 p.0, mildly_each heap os xs h.1 p.1)
 
-pub mildly_ordered : (old heap : List Owned) → mildly.Kept (mildly.mildly old) heap → AreOrdered old → AreOrdered heap
+pub mildly_ordered : (old heap : List Owned) → StayFrom old heap → AreOrdered old → AreOrdered heap
 mildly_ordered old heap h p =
-    mildly_each heap (mildly.mildly old) old heap h (all_later old heap (mildly_grows old heap h) old p)
+    mildly_each heap old heap h (all_later old heap (mildly_grows old heap h) old p)
 
 -- ---- what is read of objects
 

@@ -1,10 +1,5 @@
 pub mod Mildly
 pub mod Keeping
-pub mod Plainly
-pub mod Operations
-pub mod Objects
-pub mod Natives
-pub mod Methods
 pub mod Going
 pub mod Forms
 pub mod Calling

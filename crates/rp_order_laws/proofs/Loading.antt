@@ -36,8 +36,8 @@ use Rattle.rp_order_laws.specs.Worlds.{IsOrderlyWorld, WorldsAreLoadedOrderly}
 use Rattle.rp_order_laws.proofs.Going.{Anything, IsOrderly, Keeps, by_option}
 use Rattle.rp_order_laws.proofs.Keeping.{any_held, changed_grows, changed_ordered, classes_later, each_more, some_more}
 use Rattle.rp_order_laws.proofs.Keeping.{spares_of}
-use Rattle.rp_order_laws.proofs.Mildly.{Fits, Keeper, fits_mild, mildly}
-use Rattle.rp_order_laws.proofs.Plainly.{rock_spares}
+use Rattle.rp_order_laws.proofs.Mildly.{IsMade, made_mild}
+use Rattle.rp_owner_laws.proofs.Plainly.{rock_spares}
 use Rattle.rp_order_laws.proofs.Programs.{frame_fits}
 use Rattle.rp_order_laws.proofs.Trees.{block}
 
@@ -91,15 +91,15 @@ module _ (last : ℕ) where
   good_added m cells c p h =
       let more = good_more m cells c p h in let l = more.1 in (more.0, omega (arith, l))
 
-  simple_made : (k : Keeper) (c : Content) → Fits k c → Simple c
-  simple_made k (object.list xs) p = tt
-  simple_made k (object.tuple xs) p = tt
-  simple_made k (object.dict es) p = tt
-  simple_made k (object.instance of fs) p = absurd p
-  simple_made k (object.class name declared ms) p = absurd p
-  simple_made k (object.function name unit number within ds) p = absurd p
-  simple_made k (object.method v called) p = absurd p
-  simple_made k (object.scope number parent vs) p = absurd p
+  simple_made : (c : Content) → IsMade c → Simple c
+  simple_made (object.list xs) p = tt
+  simple_made (object.tuple xs) p = tt
+  simple_made (object.dict es) p = tt
+  simple_made (object.instance of fs) p = absurd p
+  simple_made (object.class name declared ms) p = absurd p
+  simple_made (object.function name unit number within ds) p = absurd p
+  simple_made (object.method v called) p = absurd p
+  simple_made (object.scope number parent vs) p = absurd p
 
   mutual
     field_good : (m : ℕ) (x : Field) (cells : Cells) → Good m cells → Good m (field_made x cells).1
@@ -115,12 +115,12 @@ module _ (last : ℕ) where
     list_good m vs (records.field x xs) cells h =
         list_good m (vs ++ (field_made x cells).0 ∷ []) xs (field_made x cells).1 (field_good m x cells h)
 
-    table_good : (m : ℕ) (c : Content) (es : Entries) (cells : Cells) → Fits (mildly []) c → Good m cells
+    table_good : (m : ℕ) (c : Content) (es : Entries) (cells : Cells) → IsMade c → Good m cells
         → Good m (table_made c es cells).1
-    table_good m c records.no_entries cells p h = good_added m cells c (simple_made (mildly []) c p) h
+    table_good m c records.no_entries cells p h = good_added m cells c (simple_made c p) h
     table_good m c (records.entry key x es) cells p h =
         table_good m (with_rock (rock.Text key) (field_made x cells).0 c) es (field_made x cells).1
-        (fits_mild (mildly []) (with_rock (rock.Text key) (field_made x cells).0)
+        (made_mild (with_rock (rock.Text key) (field_made x cells).0)
         (rock_spares (rock.Text key) (field_made x cells).0) c p) (field_good m x cells h)
 
   module _ (names : List (List ℕ)) (d : Declarations) where

@@ -1,23 +1,21 @@
 -- Expressions keep objects such as code of their owners makes them where their parts do.
-use Rattle.std.proofs.Common.{refl, subst, slice_get, Result, Ok, Err, ℕ, false, List, [], ◌∷◌, length, Option, Some}
+use Rattle.std.proofs.Common.{refl, subst, slice_get, ℕ, false, List, [], ◌∷◌, length, Option, Some}
 use Rattle.std.proofs.Common.{None}
 use Rattle.rp_base.specs.declared.operator.BinOp.{BinOp}
 use Rattle.rp_base.specs.declared.operator.BinOp.TheVariants.{Pow}
 use Rattle.rp_base.specs.declared.operator.UnOp.{UnOp}
 use Rattle.rp_base.specs.declared.value.Name.{Name}
 use Rattle.rp_base.specs.declared.value.Oid.{Oid}
-use Rattle.rp_base.specs.declared.value.Raised.{Raised}
 use Rattle.rp_base.specs.declared.value.Side.{Side}
 use Rattle.rp_ops.specs.Walk.{Cursor}
 use Rattle.rp_store.specs.Heap.{Owned}
 use Rattle.rp_meaning.specs.Walks.{each}
 use Rattle.rp_base.specs.declared.value.Value.{Value}
 use Rattle.rp_base.specs.declared.value.Value.TheVariants as value
-use Rattle.rp_ops.specs.Keys.{key_named}
 use Rattle.rp_ops.specs.Outcome.{gives}
 use Rattle.rp_store.specs.Object as object
 use Rattle.rp_store.specs.Object.{Content}
-use Rattle.rp_store.specs.Writers.{pushed, with_rock}
+use Rattle.rp_store.specs.Writers.{pushed}
 use Rattle.rp_tree.specs.declared.parts.Test.{Test}
 use Rattle.rp_meaning.specs.Binding.{none}
 use Rattle.rp_meaning.specs.Calls.{Argument}
@@ -31,18 +29,15 @@ use Rattle.rp_order_laws.specs.Ordered.{IsHeldBy, Suits}
 use Rattle.rp_order_laws.proofs.Calling.{ArgumentsKeep, arguments_keep, call_keeps}
 use Rattle.rp_order_laws.proofs.Forms as form
 use Rattle.rp_order_laws.proofs.Going.{Any, Anything, Does, FitIn, Held, IsIn, Keeps, KeepsAt, Made, andthen, bind}
-use Rattle.rp_order_laws.proofs.Going.{by_result}
 use Rattle.rp_order_laws.proofs.Going.{charge, found, led, leads, made, moved, op, same, start, step, there_behind}
 use Rattle.rp_order_laws.proofs.Going.{chosen}
 use Rattle.rp_order_laws.proofs.Keeping.{SparesIn, held_later, made_suits, suits_mild}
-use Rattle.rp_order_laws.proofs.Objects.{set_item}
-use Rattle.rp_order_laws.proofs.Plainly.{pushed_spares, rock_spares}
-use Rattle.rp_order_laws.proofs.Mildly.{Fits, Keeper, Mild, fits_mild, mildly}
-
--- what is found, where it is
-abbrev OnFound : {A : Type 0} → (A → Type 0) → Result A Raised → Type 0
-OnFound P (Ok x) = P x
-OnFound P (Err e) = Unit {0}
+use Rattle.rp_owner_laws.proofs.Objects.{set_item}
+use Rattle.rp_owner_laws.proofs.Plainly.{pushed_spares}
+use Rattle.rp_order_laws.proofs.Mildly.{IsMade, made_mild}
+use Rattle.rp_owner_laws.proofs.Going.{OnFound}
+use Rattle.rp_owner_laws.proofs.Parts.{dict_with_fits}
+use Rattle.rp_owner_laws.proofs.PlainKeepers.{Mild}
 
 -- an expression keeps objects so, and gives a value as the code holds it
 abbrev pub Means : Meaning → Type 0
@@ -79,20 +74,11 @@ pairs [] i f c s h = same h tt
 pairs (p ∷ ps) i f c s h = bind (i.0.0 f c s h) (λ x s q g h. bind (i.0.1 f c s h) (λ v s r g h.
     bind (pairs ps i.1 f c s h) (λ kvs s m g h. same h tt)))
 
--- a dict stays one
-dict_with_fits : (k : Keeper) (content : Content) (ps : List (Value × Value)) → Fits k content
-    → OnFound (Fits k) (forms.dict_with content ps)
-dict_with_fits k content [] p = p
-dict_with_fits k content (x ∷ ps) p = by_result (key_named x.0)
-    (λ r e. rw e (dict_with_fits k (with_rock r x.1 content) ps
-    (fits_mild k (with_rock r x.1) (rock_spares r x.1) content p)))
-    (λ r e. rw e tt)
-
 pub dict : (ps : List (Meaning × Meaning)) → Each PairKeeps ps → Means (forms.dict ps)
 dict ps i f c s h = step s h (λ s g h. bind (pairs ps i f c s h) (λ kvs s p g h.
     found (forms.dict_with (object.dict []) kvs) s h (λ content e s h.
-    makes_own content f s (made_suits (heap_of s) f.side (mildly []) content
-    (subst (OnFound (Fits (mildly []))) e (dict_with_fits (mildly []) (object.dict []) kvs tt))) h)))
+    makes_own content f s (made_suits (heap_of s) f.side content
+    (subst (OnFound IsMade) e (dict_with_fits IsMade made_mild (object.dict []) kvs tt))) h)))
 
 pub cond : (x a b : Meaning) → Means x → Means a → Means b → Means (forms.cond x a b)
 cond x a b i j l f c s h =

@@ -23,10 +23,10 @@ use Rattle.rp_meaning.specs.Binding.{Arguments}
 use Rattle.rp_meaning.specs.State.{Outcome, State}
 use Rattle.rp_order_laws.specs.Ordered.{IsHeldBy, IsOf, Suits}
 use Rattle.rp_order_laws.proofs.Going as going
-use Rattle.rp_order_laws.proofs.Going.{Any, CallsKeep, FitIn, IsIn, IsOrderly, KeepsAt, Leads, leads, made, op, same}
+use Rattle.rp_order_laws.proofs.Going.{Any, CallsKeep, FitIn, IsOrderly, KeepsAt, Leads, leads, made, op, same}
 use Rattle.rp_order_laws.proofs.Going.{start}
 use Rattle.rp_order_laws.proofs.Keeping.{grows_not, owned_suits, taken_held}
-use Rattle.rp_order_laws.proofs.Objects.{binds}
+use Rattle.rp_owner_laws.proofs.Objects.{binds}
 use Rattle.rp_order_laws.proofs.Trees.{block, expression}
 
 code_keeps : (code : Code) → KeepsAt Any (value_of_code code)

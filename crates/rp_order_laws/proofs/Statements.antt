@@ -41,7 +41,7 @@ use Rattle.rp_order_laws.proofs.Going.{Moved, andthen, ask_for, behind, bind, by
 use Rattle.rp_order_laws.proofs.Going.{made}
 use Rattle.rp_order_laws.proofs.Going.{moved, op, same, start, step, there_behind, turns_keep}
 use Rattle.rp_order_laws.proofs.Keeping.{Grows, each_more, grows_on, held_later, spares_of}
-use Rattle.rp_order_laws.proofs.Operations.{show_leaves}
+use Rattle.rp_owner_laws.proofs.Operations.{show_leaves}
 use Rattle.rp_order_laws.proofs.Parts.{MakesObject, Means, OptionKeeps, StoreKeeps, makes_function}
 
 -- a statement keeps objects so

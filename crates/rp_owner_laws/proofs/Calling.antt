@@ -32,7 +32,7 @@ use Rattle.rp_owner_laws.proofs.Going.{KeepsAt, ask_any, ask_for, bind, by_optio
 use Rattle.rp_owner_laws.proofs.Going.{same}
 use Rattle.rp_owner_laws.proofs.Going.{special_fits, takes_value}
 use Rattle.rp_owner_laws.proofs.Keeping.{OwnedFits, owned_fits, taken_held}
-use Rattle.rp_owner_laws.proofs.Objects.{method_usable}
+use Rattle.rp_owner_laws.proofs.Attributes.{method_usable}
 use Rattle.rp_owner_laws.proofs.Operations.{elements, show_leaves}
 
 abbrev pub ArgumentKeeps : Argument → Type 0

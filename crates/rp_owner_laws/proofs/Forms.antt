@@ -24,7 +24,6 @@ use Rattle.rp_base.specs.declared.word.TheConstants.{BOOL, CONTAINS, DEL_ITEM, G
 use Rattle.rp_ops.specs.Binary as binary
 use Rattle.rp_ops.specs.Keys.{index_number}
 use Rattle.rp_ops.specs.Operand.{truth_of}
-use Rattle.rp_ops.specs.Outcome as plain
 use Rattle.rp_ops.specs.Outcome.{End, raised, no_step, no_cell, gives, on_value}
 use Rattle.rp_ops.specs.Walk.{Cursor, walk_of}
 use Rattle.rp_proxy.specs.Taken.{taken}
@@ -37,7 +36,7 @@ use Rattle.rp_meaning.specs.Binding.{Arguments, only}
 use Rattle.rp_meaning.specs.BuiltIn.{allowed, applied, decided_and_applied, defaulted, function, function_call}
 use Rattle.rp_meaning.specs.BuiltIn.{get_named, given, getattr, length_given}
 use Rattle.rp_meaning.specs.BuiltIn.{length_of, method_call, name_of, set_named, setattr, unnamed, with_name}
-use Rattle.rp_meaning.specs.Frame.{Frame, Natives, Doing, asked_each, asked_if, read_name, bind_name, unbind_name}
+use Rattle.rp_meaning.specs.Frame.{Frame, Doing, asked_each, asked_if, read_name, bind_name, unbind_name}
 use Rattle.rp_meaning.specs.Frame.{without_name}
 use Rattle.rp_meaning.specs.Frame.{slot_of, place_of}
 use Rattle.rp_meaning.specs.Operators.{operate, operate_unary, augment, tested, left_name, right_name, unary_name}
@@ -48,7 +47,6 @@ use Rattle.rp_meaning.specs.Special.{special}
 use Rattle.rp_meaning.specs.State.{State, Outcome, heap_of, plainly}
 use Rattle.rp_meaning.specs.Walks.{walk, next_element, each, on_truth}
 use Rattle.rp_apart_laws.specs.Apart.{Each, OnSome}
-use Rattle.rp_fixed_laws.specs.Fixed.{AreBuiltIn}
 use Rattle.rp_owner_laws.specs.Code.{FitIn, FlowHolds, IsIn, Keeps}
 use Rattle.rp_owner_laws.specs.Kept.{Acts, Bare, Holds, Keeper, Kept, own, shapes}
 use Rattle.rp_owner_laws.proofs.Going.{Anything, Does, KeepsAt, MoreHolds, OnFound, ask_any, ask_each, ask_for}
@@ -56,13 +54,12 @@ use Rattle.rp_owner_laws.proofs.Going.{ask_to_set}
 use Rattle.rp_owner_laws.proofs.Going.{bind, by_option, chosen, forget, found, gets_value, on_method, op, same}
 use Rattle.rp_owner_laws.proofs.Going.{slot_held, slot_set, slot_usable, special_fits, takes_value, turns_keep}
 use Rattle.rp_owner_laws.proofs.Keeping.{any_bare, taken_held}
-use Rattle.rp_owner_laws.proofs.Methods.{method_leaves}
-use Rattle.rp_owner_laws.proofs.Natives.{function_leaves, print_line_leaves}
-use Rattle.rp_owner_laws.proofs.Objects.{attribute, item, slice}
+use Rattle.rp_owner_laws.proofs.Attributes.{attribute}
+use Rattle.rp_owner_laws.proofs.BuiltIns.{function_done, line_printed, method_done}
+use Rattle.rp_owner_laws.proofs.Objects.{item, slice}
 use Rattle.rp_owner_laws.proofs.Objects.{del_attribute as del_attribute_leaves, del_item as del_item_leaves}
 use Rattle.rp_owner_laws.proofs.Objects.{set_attribute as set_attribute_leaves, set_item as set_item_leaves}
 use Rattle.rp_owner_laws.proofs.Operations.{binary_leaves, compare, contains, inplace_leaves, next_of}
-use Rattle.rp_owner_laws.proofs.Plainly.{Leaves, There}
 
 -- names
 
@@ -154,8 +151,8 @@ each_keeps body f c b w s h = turns_keep (s.plain.steps + 1) (λ w s h. element 
 -- attributes and items
 
 pub attribute_got : {k : Keeper} (o : Value) (n : Name) → Holds k o → KeepsAt k (Holds k) (get_attribute o n)
-attribute_got o n p f c s h = ask_for f c n o s p h (λ b s h.
-    bind (op s (attribute f.side o n (word_of s.names n) b s.plain h)) (λ v _ s h. gets_value o v f c s h))
+attribute_got {k} o n p f c s h = ask_for f c n o s p h (λ b s h.
+    bind (op s (attribute k f.side o n (word_of s.names n) b s.plain h)) (λ v _ s h. gets_value o v f c s h))
 
 pub attribute_set : {k : Keeper} (o : Value) (n : Name) (v : Value) → Holds k o
     → KeepsAt k (FlowHolds k) (set_attribute o n v)
@@ -224,24 +221,6 @@ test_keeps test.Is a b q f c s h = same h tt
 test_keeps test.IsNot a b q f c s h = same h tt
 
 -- calls of built-in functions and methods
-
-function_done : {k : Keeper} {n : Natives} → AreBuiltIn n → (names : List (List ℕ)) (side : Side) (id : NativeId)
-    (vs : List Value) (s : plain.State) → There k s → Leaves k (n.function names side id vs s)
-function_done {k} b names side id vs s h =
-    subst (λ (o : plain.Outcome Value). Leaves k o) (sym (b.functions names side id vs s))
-    (function_leaves names side id vs s h)
-
-method_done : {k : Keeper} {n : Natives} → AreBuiltIn n → (names : List (List ℕ)) (side : Side) (v : Value)
-    (id : NativeId) (vs : List Value) → Bare k v → (s : plain.State) → There k s
-    → Leaves k (n.method names side v id vs s)
-method_done {k} b names side v id vs p s h =
-    subst (λ (o : plain.Outcome Value). Leaves k o) (sym (b.methods names side v id vs s))
-    (method_leaves side v id vs p s h)
-
-line_printed : {k : Keeper} {n : Natives} → AreBuiltIn n → (names : List (List ℕ)) (vs : List Value) (s : plain.State)
-    → There k s → Leaves k (n.print_line names vs s)
-line_printed {k} b names vs s h =
-    subst (λ (o : plain.Outcome (List ℕ)). Leaves k o) (sym (b.lines names vs s)) (print_line_leaves names vs s h)
 
 -- what code gets of arguments
 abbrev pub Values : Keeper → List Value → Type 0

@@ -35,9 +35,9 @@ use Rattle.rp_apart_laws.proofs.Lists.{each_get, each_set}
 use Rattle.rp_apart_laws.specs.Apart.{Each, Nothing, OnSome, OnValue}
 use Rattle.rp_owner_laws.specs.Code.{FitIn, FlowHolds, IsEnd, IsIn, Keeps, IsTight}
 use Rattle.rp_owner_laws.specs.Kept.{Bare, Fits, Holds, Keeper, Kept, Usable, old_of, own, shapes}
-use Rattle.rp_owner_laws.proofs.Keeping.{Spares, appended, changed, next_usable, read_fits, read_on}
+use Rattle.rp_owner_laws.proofs.Keeping.{Spares, appended, changed, next_usable, plain_keeper, read_fits, read_on}
 use Rattle.rp_owner_laws.proofs.Keeping.{taken_held}
-use Rattle.rp_owner_laws.proofs.Objects.{method_usable}
+use Rattle.rp_owner_laws.proofs.Attributes.{method_usable}
 use Rattle.rp_owner_laws.proofs.Plainly as plainly
 use Rattle.rp_owner_laws.proofs.Plainly.{Leaves}
 
@@ -79,7 +79,8 @@ pub forget : {A : Type 0} {k : Keeper} {P : A → Type 0} {o : Outcome A} → Ke
 forget {o = o} h = record { there = h.there; gives = said_nothing o.answer }
 
 -- a plain operation
-pub op : {A : Type 0} {k : Keeper} {o : plain.Outcome A} (s : State) → Leaves k o → Keeps k Nothing (lifted o s)
+pub op : {A : Type 0} {k : Keeper} {o : plain.Outcome A} (s : State) → Leaves (plain_keeper k) o
+    → Keeps k Nothing (lifted o s)
 op {o = o} s l = record { there = l.there; gives = said_nothing o.answer }
 
 -- an object is made
@@ -112,12 +113,13 @@ chosen {A} {k} {P} b this other {s} h i = by b where
 pub step : {A : Type 0} {k : Keeper} {P : A → Type 0} (s : State) {go : State → Outcome A} → IsIn k s → Does k P go
     → Keeps k P (stepped s go)
 step {k = k} s h more = bind (op s
-    (plainly.step {k = k} {go = gives (tt {0})} s.plain h (λ s h. plainly.kept h))) (λ _ p s h. more s h)
+    (plainly.step {k = plain_keeper k} {go = gives (tt {0})} s.plain h (λ s h. plainly.kept h))) (λ _ p s h. more s h)
 
 pub charge : {A : Type 0} {k : Keeper} {P : A → Type 0} (cells : ℕ) (s : State) {go : State → Outcome A}
     → IsIn k s → Does k P go → Keeps k P (charged cells s go)
 charge {k = k} cells s h more = bind (op s
-    (plainly.charge {k = k} {go = gives (tt {0})} cells s.plain h (λ s h. plainly.kept h))) (λ _ p s h. more s h)
+    (plainly.charge {k = plain_keeper k} {go = gives (tt {0})} cells s.plain h (λ s h. plainly.kept h)))
+    (λ _ p s h. more s h)
 
 -- flows
 

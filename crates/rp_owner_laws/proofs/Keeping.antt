@@ -23,6 +23,7 @@ use Rattle.rp_apart_laws.specs.Apart.{Each, OnSome}
 use Rattle.rp_owner_laws.specs.Kept.{Acts, Bare, CalleeFits, Fits, Holds, IsNew, IsOwn, Keeper, Kept}
 use Rattle.rp_owner_laws.specs.Kept.{StayFrom, Stays, StaysBy}
 use Rattle.rp_owner_laws.specs.Kept.{Usable, old_of, own, shapes}
+use Rattle.rp_owner_laws.proofs.PlainKeepers.{AllFit, Mild, PlainKeeper, rest}
 
 -- ---- lists
 
@@ -68,17 +69,6 @@ any_fits old (object.scope block parent vs) = (
 abbrev pub Spares : Keeper → (Content → Content) → Type 0
 Spares (shapes old) f = (c : Content) → shape (f c) ≡ shape c
 Spares (own n old) f = (c : Content) → Fits (own n old) c → Fits (own n old) (f c)
-
--- an object without what lists, dicts and fields hold
-abbrev pub rest : Content → Content
-rest (object.list xs) = object.list []
-rest (object.dict es) = object.dict []
-rest (object.instance of fs) = object.instance of []
-rest c = c
-
--- a change of what a list, a dict or fields hold
-abbrev pub Mild : (Content → Content) → Type 0
-Mild f = (c : Content) → rest (f c) ≡ rest c
 
 shape_rest : (c : Content) → shape c ≡ shape (rest c)
 shape_rest (object.list xs) = refl
@@ -161,21 +151,31 @@ is_new : (k : Keeper) (new : Owned) → Fits k new.content → IsNew k new
 is_new (shapes old) new h = tt
 is_new (own n old) new h = h
 
-abbrev pub OwnedFits : Keeper → Owned → Type 0
-OwnedFits k o = Fits k o.content
-
-all_new : (k : Keeper) (news : List Owned) → Each (OwnedFits k) news → Each (IsNew k) news
+all_new : (k : Keeper) (news : List Owned) → AllFit (Fits k) news → Each (IsNew k) news
 all_new k [] p = tt
 all_new k (x ∷ xs) p = (is_new k x p.0, all_new k xs p.1)
 
-appended_from : (k : Keeper) (olds heap news : List Owned) → Each (OwnedFits k) news → StayFrom k olds heap
+appended_from : (k : Keeper) (olds heap news : List Owned) → AllFit (Fits k) news → StayFrom k olds heap
     → StayFrom k olds (heap ++ news)
 appended_from k [] heap news p h = each_append (IsNew k) heap news h (all_new k news p)
 appended_from k (o ∷ os) [] news p h = absurd h
 appended_from k (o ∷ os) (x ∷ xs) news p h = (h.0, appended_from k os xs news p h.1)
 
-pub appended : (k : Keeper) (heap news : List Owned) → Each (OwnedFits k) news → Kept k heap → Kept k (heap ++ news)
+pub appended : (k : Keeper) (heap news : List Owned) → AllFit (Fits k) news → Kept k heap → Kept k (heap ++ news)
 appended k heap news p h = appended_from k (old_of k) heap news p h
+
+-- so plain operations keep it
+abbrev pub plain_keeper : Keeper → PlainKeeper
+plain_keeper k = record {
+  Kept = λ heap. Kept k heap;
+  Usable = λ at. Usable k at;
+  Fits = λ c. Fits k c;
+  list = λ xs. tt;
+  tuple = λ xs. tt;
+  dict = λ es. tt;
+  changed = λ heap at f m usable h. changed k (old_of k) heap at.0 f (mild k f m) usable h;
+  appended = λ heap news p h. appended k heap news p h;
+}
 
 next_from : (n : ℕ) (old olds heap : List Owned) → StayFrom (own n old) olds heap
     → IsOwn (own n old) (slice_get olds (length heap))
@@ -189,6 +189,9 @@ next_usable (shapes old) heap h = tt
 next_usable (own n old) heap h = next_from n old old heap h
 
 -- ---- what is read of objects
+
+abbrev pub OwnedFits : Keeper → Owned → Type 0
+OwnedFits k o = Fits k o.content
 
 fits_by : (n : ℕ) (old : List Owned) (b : Bool) (o new : Owned) → b ≡ true → StaysBy (own n old) b o new
     → Fits (own n old) new.content

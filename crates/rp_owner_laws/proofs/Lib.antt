@@ -1,9 +1,12 @@
+pub mod PlainKeepers
 pub mod Keeping
 pub mod Plainly
 pub mod Operations
 pub mod Objects
 pub mod Natives
 pub mod Methods
+pub mod BuiltIns
+pub mod Attributes
 pub mod Going
 pub mod Forms
 pub mod Calling

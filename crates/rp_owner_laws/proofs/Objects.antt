@@ -1,13 +1,9 @@
--- Items, slices, attributes and the binding of arguments keep what is kept of objects.
+-- Items, slices, stores to attributes and the binding of arguments keep what is kept of objects.
 use Rattle.std.proofs.Common.{ℕ, List, [], ◌∷◌, length, map, slice_get, Bool, true, false, Option, Some}
 use Rattle.std.proofs.Common.{None}
 use Rattle.std.proofs.Common.{Result}
 use Rattle.std.specs.Prelude.{is_some}
-use Rattle.std.proofs.Common.{cond}
-use Rattle.std.specs.Option.{option_map, option_map_or}
-use Rattle.std.specs.Map.{lookup}
 use Rattle.rp_attributes.specs.Attributes as attributes
-use Rattle.rp_base.specs.declared.native.NativeId.{NativeId}
 use Rattle.rp_base.specs.declared.value.Name.{Name}
 use Rattle.rp_base.specs.declared.value.Oid.{Oid}
 use Rattle.rp_base.specs.declared.value.Raised.{Raised}
@@ -23,78 +19,72 @@ use Rattle.rp_items.specs.Slices.{Span}
 use Rattle.rp_ops.specs.Keys.{entry_in, key_named}
 use Rattle.rp_ops.specs.Outcome as plain
 use Rattle.rp_store.specs.Cost.{cell_if_new}
-use Rattle.rp_store.specs.Heap.{Owned, content_at, entry_of, field_at, method_at}
-use Rattle.rp_store.specs.Key.{same_name}
+use Rattle.rp_store.specs.Heap.{content_at, entry_of, field_at}
 use Rattle.rp_store.specs.Object as object
 use Rattle.rp_store.specs.Object.{Content}
-use Rattle.rp_store.specs.Parts.{fields, methods}
 use Rattle.rp_store.specs.Writers.{with_element, with_field, with_rock, without_element, without_field}
-use Rattle.rp_store.specs.declared.object.Callee.{Callee}
-use Rattle.rp_store.specs.declared.object.Callee.TheVariants as callee
 use Rattle.rp_tree.specs.Expressions as tree
 use Rattle.rp_meaning.specs.Binding as binding
 use Rattle.rp_meaning.specs.Binding.{Arguments}
-use Rattle.rp_apart_laws.specs.Apart.{Each, OnSome}
-use Rattle.rp_owner_laws.proofs.Keeping.{Mild, OwnedFits, owned_fits, read_fits, read_on}
-use Rattle.rp_owner_laws.specs.Kept.{Bare, CalleeFits, Fits, Keeper, Kept, Usable}
+use Rattle.rp_owner_laws.proofs.PlainKeepers.{Bare, Mild, PlainKeeper}
 use Rattle.rp_owner_laws.proofs.Plainly.{Does, Leaves, There, bind, change, charge, element_spares}
 use Rattle.rp_owner_laws.proofs.Plainly.{field_removal_spares}
 use Rattle.rp_owner_laws.proofs.Plainly.{field_spares, found, kept, maybe, removal_spares, rock_removal_spares}
 use Rattle.rp_owner_laws.proofs.Plainly.{rock_spares}
-use Rattle.rp_owner_laws.proofs.Operations.{Entry, new_object, new_text}
+use Rattle.rp_owner_laws.proofs.Operations.{Entry, new_list, new_object, new_text, new_tuple}
 
 -- ---- items
 
-at_content : {A : Type 0} {k : Keeper} {go : Content → plain.Outcome A} (at : Oid) (s : plain.State) → There k s
+at_content : {A : Type 0} {k : PlainKeeper} {go : Content → plain.Outcome A} (at : Oid) (s : plain.State) → There k s
     → ((c : Content) → Leaves k (go c)) → Leaves k (items.at_content at s go)
 at_content at s h more = maybe (content_at s.store.heap at) more (kept h)
 
-lent_out : {k : Keeper} {o : plain.Outcome Value} → Leaves k o → Leaves k (items.lent_out o)
+lent_out : {k : PlainKeeper} {o : plain.Outcome Value} → Leaves k o → Leaves k (items.lent_out o)
 lent_out h = bind h (λ v s h. kept h)
 
-element_at : {k : Keeper} (xs : List Value) (p : ℕ) → Does k (items.element_at xs p)
+element_at : {k : PlainKeeper} (xs : List Value) (p : ℕ) → Does k (items.element_at xs p)
 element_at xs p s h = maybe (slice_get xs p) (λ v. kept h) (kept h)
 
-character_at : {k : Keeper} (t : List ℕ) (p : ℕ) → Does k (items.character_at t p)
+character_at : {k : PlainKeeper} (t : List ℕ) (p : ℕ) → Does k (items.character_at t p)
 character_at t p s h = maybe (slice_get t p) (λ c. new_text (c ∷ []) s h) (kept h)
 
-elements_item : {k : Keeper} (xs : List Value) (i : Value) → Does k (items.elements_item xs i)
+elements_item : {k : PlainKeeper} (xs : List Value) (i : Value) → Does k (items.elements_item xs i)
 elements_item xs i s h = found (items.place_named (length xs) i) s h (λ p s h. element_at xs p s h)
 
-entries_item : {k : Keeper} (es : List Entry) (i : Value) → Does k (items.entries_item es i)
+entries_item : {k : PlainKeeper} (es : List Entry) (i : Value) → Does k (items.entries_item es i)
 entries_item es i s h = found (key_named i) s h (λ r s h. maybe (entry_in es r) (λ e. kept h) (kept h))
 
-content_item : {k : Keeper} (c : Content) (i : Value) → Does k (items.content_item c i)
+content_item : {k : PlainKeeper} (c : Content) (i : Value) → Does k (items.content_item c i)
 content_item (object.list xs) i s h = elements_item xs i s h
 content_item (object.tuple xs) i s h = elements_item xs i s h
 content_item (object.dict es) i s h = entries_item es i s h
 content_item c i s h = kept h
 
-rock_item : {k : Keeper} (r : Rock) (i : Value) → Does k (items.rock_item r i)
+rock_item : {k : PlainKeeper} (r : Rock) (i : Value) → Does k (items.rock_item r i)
 rock_item (rock.Text t) i s h = found (items.place_named (length t) i) s h (λ p s h. character_at t p s h)
 rock_item r i s h = kept h
 
-pub item : {k : Keeper} (o i : Value) → Does k (items.item o i)
+pub item : {k : PlainKeeper} (o i : Value) → Does k (items.item o i)
 item (value.Rock r) i s h = rock_item r i s h
 item (value.Ref at) i s h = at_content at s h (λ c. content_item c i s h)
 item (value.Prox at) i s h = lent_out (at_content at s h (λ c. content_item c i s h))
 
-pub changes : {k : Keeper} → (at : Oid) (f : Content → Content) → Mild f → Usable k at → Does k
+pub changes : {k : PlainKeeper} → (at : Oid) (f : Content → Content) → Mild f → k.Usable at → Does k
     (items.changed at f)
 changes at f spares usable s h = change at usable tt s f spares h
 
-entry_put : {k : Keeper} → (at : Oid) (r : Rock) (v : Value) → Usable k at → Does k (items.entry_put at r v)
+entry_put : {k : PlainKeeper} → (at : Oid) (r : Rock) (v : Value) → k.Usable at → Does k (items.entry_put at r v)
 entry_put at r v usable s h = charge (cell_if_new (entry_of s.store.heap at r)) s h
     (λ s h. changes at (with_rock r v) (rock_spares r v) usable s h)
 
-content_set : {k : Keeper} → (at : Oid) (c : Content) (i v : Value) → Usable k at → Does k
+content_set : {k : PlainKeeper} → (at : Oid) (c : Content) (i v : Value) → k.Usable at → Does k
     (items.content_set at c i v)
 content_set at (object.list xs) i v usable s h = found (items.place_named (length xs) i) s h
     (λ p s h. changes at (with_element p v) (element_spares p v) usable s h)
 content_set at (object.dict es) i v usable s h = found (key_named i) s h (λ r s h. entry_put at r v usable s h)
 content_set at c i v usable s h = kept h
 
-content_del : {k : Keeper} → (at : Oid) (c : Content) (i : Value) → Usable k at → Does k
+content_del : {k : PlainKeeper} → (at : Oid) (c : Content) (i : Value) → k.Usable at → Does k
     (items.content_del at c i)
 content_del at (object.list xs) i usable s h = found (items.place_named (length xs) i) s h
     (λ p s h. changes at (without_element p) (removal_spares p) usable s h)
@@ -102,148 +92,74 @@ content_del at (object.dict es) i usable s h = found (key_named i) s h (λ r s h
     (λ e. changes at (items.without_rock r) (rock_removal_spares r) usable s h) (kept h))
 content_del at c i usable s h = kept h
 
-pub set_item : {k : Keeper} → (o i v : Value) → Bare k o → Does k (items.set_item o i v)
+pub set_item : {k : PlainKeeper} → (o i v : Value) → Bare k o → Does k (items.set_item o i v)
 set_item (value.Rock r) i v usable s h = kept h
 set_item (value.Ref at) i v usable s h = at_content at s h (λ c. content_set at c i v usable s h)
 set_item (value.Prox at) i v usable s h = at_content at s h (λ c. content_set at c i v usable s h)
 
-pub del_item : {k : Keeper} → (o i : Value) → Bare k o → Does k (items.del_item o i)
+pub del_item : {k : PlainKeeper} → (o i : Value) → Bare k o → Does k (items.del_item o i)
 del_item (value.Rock r) i usable s h = kept h
 del_item (value.Ref at) i usable s h = at_content at s h (λ c. content_del at c i usable s h)
 del_item (value.Prox at) i usable s h = at_content at s h (λ c. content_del at c i usable s h)
 
 -- ---- slices
 
-rock_slice : {k : Keeper} (r : Rock) (parts : Result Span Raised) → Does k (slices.rock_slice r parts)
+rock_slice : {k : PlainKeeper} (r : Rock) (parts : Result Span Raised) → Does k (slices.rock_slice r parts)
 rock_slice (rock.Text t) parts s h = found parts s h (λ p s h. new_text (slices.sliced p t) s h)
 rock_slice r parts s h = kept h
 
-content_slice : {k : Keeper} (owner : Side) (c : Content) (parts : Result Span Raised)
+content_slice : {k : PlainKeeper} (owner : Side) (c : Content) (parts : Result Span Raised)
     → Does k (slices.content_slice owner c parts)
 content_slice owner (object.list xs) parts s h =
-    found parts s h (λ p s h. new_object owner (object.list (slices.sliced p xs)) tt s h)
+    found parts s h (λ p s h. new_list owner (slices.sliced p xs) s h)
 content_slice owner (object.tuple xs) parts s h =
-    found parts s h (λ p s h. new_object owner (object.tuple (slices.sliced p xs)) tt s h)
+    found parts s h (λ p s h. new_tuple owner (slices.sliced p xs) s h)
 content_slice owner c parts s h = kept h
 
-object_slice : {k : Keeper} (at : Oid) (parts : Result Span Raised) → Does k (slices.object_slice at parts)
+object_slice : {k : PlainKeeper} (at : Oid) (parts : Result Span Raised) → Does k (slices.object_slice at parts)
 object_slice at parts s h = at_content at s h (λ c. content_slice (slices.owner_of at s) c parts s h)
 
-pub slice : {k : Keeper} (o from to by : Value) → Does k (slices.slice o from to by)
+pub slice : {k : PlainKeeper} (o from to by : Value) → Does k (slices.slice o from to by)
 slice (value.Rock r) from to by s h = rock_slice r (slices.span_named from to by) s h
 slice (value.Ref at) from to by s h = object_slice at (slices.span_named from to by) s h
 slice (value.Prox at) from to by s h = lent_out (object_slice at (slices.span_named from to by) s h)
 
 -- ---- attributes
 
-bound : {k : Keeper} (owner : Side) (v : Value) (called : Option Callee) (word : List ℕ) → Bare k v
-    → OnSome (CalleeFits k) called → Does k (attributes.bound owner v called word)
-bound owner v (Some called) word p q s h = new_object owner (object.method v called) (p, q) s h
-bound owner v None word p q s h = kept h
-
-field_or_method : {k : Keeper} (owner : Side) (at : Oid) (field : Option Value) (called : Option Callee) (word : List ℕ)
-    → Usable k at → OnSome (CalleeFits k) called → Does k (attributes.field_or_method owner at field called word)
-field_or_method owner at (Some v) called word p q s h = kept h
-field_or_method owner at None called word p q s h = bound owner (value.Ref at) called word p q s h
-
-native_fits : (k : Keeper) (id : Option NativeId) → OnSome (CalleeFits k) (option_map callee.Native id)
-native_fits k None = tt
-native_fits k (Some id) = tt
-
-method_fits : (k : Keeper) (ms : List (Name × Oid)) (n : Name) → Each (λ (m : Name × Oid). Usable k m.1) ms
-    → OnSome (Usable k) (lookup (same_name n) ms)
-method_fits k [] n p = tt
-method_fits k (m ∷ ms) n p = by (same_name n m.0) (method_fits k ms n p.1)
-  where
-    by : (b : Bool) → OnSome (Usable k) (lookup (same_name n) ms)
-        → OnSome (Usable k) (cond b (Some m.1) (lookup (same_name n) ms))
-    by true q = p.0
-    by false q = q
-
-methods_of : (k : Keeper) (c : Content) (n : Name) → Fits k c → OnSome (Usable k) (lookup (same_name n) (methods c))
-methods_of k (object.class name declared ms) n p = method_fits k ms n p
-methods_of k c n p = tt
-
--- a method of a class that is the code's own
-pub method_usable : (k : Keeper) (heap : List Owned) (of : Oid) (n : Name) → Kept k heap → Usable k of
-    → OnSome (Usable k) (method_at heap of n)
-method_usable k heap of n h p =
-    read_on (Fits k) (OnSome (Usable k)) (λ (c : Content). lookup (same_name n) (methods c)) None (content_at heap of)
-    (read_fits k heap of h p) (λ c q. methods_of k c n q) tt
-
-function_fits : (k : Keeper) (at : Option Oid) → OnSome (Usable k) at
-    → OnSome (CalleeFits k) (option_map callee.Function at)
-function_fits k None p = tt
-function_fits k (Some at) p = p
-
-callee_fits : (k : Keeper) (c : Content) (n : Name) (word : List ℕ) (s : plain.State) → There k s → Fits k c
-    → OnSome (CalleeFits k) (attributes.method_of c n word s)
-callee_fits k (object.list xs) n word s h p = native_fits k _
-callee_fits k (object.tuple xs) n word s h p = native_fits k _
-callee_fits k (object.dict es) n word s h p = native_fits k _
-callee_fits k (object.instance of fs) n word s h p =
-    function_fits k (method_at s.store.heap of n) (method_usable k s.store.heap of n h p)
-callee_fits k c n word s h p = tt
-
-attribute_of : {k : Keeper} (at : Oid) (o : Option Owned) (n : Name) (word : List ℕ) (s : plain.State) → Usable k at
-    → There k s → OnSome (OwnedFits k) o
-    → Leaves k (option_map_or (λ (o : Owned). attributes.object_attribute at o n word s) o
-    (attributes.no_attribute word s))
-attribute_of at None n word s p h q = kept h
-attribute_of {k} at (Some o) n word s p h q =
-    field_or_method o.owner at (lookup (same_name n) (fields o.content)) (attributes.method_of o.content n word s) word
-    p (callee_fits k o.content n word s h q) s h
-
-attribute_at : {k : Keeper} (at : Oid) (n : Name) (word : List ℕ) → Usable k at
-    → Does k (attributes.attribute_at at n word)
-attribute_at {k} at n word p s h =
-    attribute_of at (slice_get s.store.heap at.0) n word s p h (owned_fits k s.store.heap at h p)
-
-rock_attribute : {k : Keeper} (side : Side) (r : Rock) (word : List ℕ) → Does k (attributes.rock_attribute side r word)
-rock_attribute {k} side (rock.Text t) word s h =
-    bound side (value.Rock (rock.Text t)) _ word tt (native_fits k _) s h
-rock_attribute side r word s h = kept h
-
-pub attribute : {k : Keeper} (side : Side) (o : Value) (n : Name) (word : List ℕ) → Bare k o
-    → Does k (attributes.attribute side o n word)
-attribute side (value.Rock r) n word p s h = rock_attribute side r word s h
-attribute side (value.Ref at) n word p s h = attribute_at at n word p s h
-attribute side (value.Prox at) n word p s h = bind (attribute_at at n word p s h) (λ v s h. kept h)
-
-attribute_changes : {k : Keeper} → (at : Oid) (f : Content → Content) → Mild f → Usable k at → Does k
+attribute_changes : {k : PlainKeeper} → (at : Oid) (f : Content → Content) → Mild f → k.Usable at → Does k
     (attributes.changes at f)
 attribute_changes at f spares usable s h = change at usable tt s f spares h
 
-field_set : {k : Keeper} → (at : Oid) (c : Content) (n : Name) (word : List ℕ) (v : Value)
-    → Usable k at → Does k (attributes.content_set at c n word v)
+field_set : {k : PlainKeeper} → (at : Oid) (c : Content) (n : Name) (word : List ℕ) (v : Value)
+    → k.Usable at → Does k (attributes.content_set at c n word v)
 field_set at (object.instance of fs) n word v usable s h = charge (cell_if_new (field_at s.store.heap at n)) s h
     (λ s h. attribute_changes at (with_field n v) (field_spares n v) usable s h)
 field_set at c n word v usable s h = kept h
 
-field_deleted : {k : Keeper} → (at : Oid) (v : Option Value) (n : Name) (word : List ℕ)
-    → Usable k at → Does k (attributes.field_deleted at v n word)
+field_deleted : {k : PlainKeeper} → (at : Oid) (v : Option Value) (n : Name) (word : List ℕ)
+    → k.Usable at → Does k (attributes.field_deleted at v n word)
 field_deleted at (Some v) n word usable s h = attribute_changes at (without_field n) (field_removal_spares n) usable s h
 field_deleted at None n word usable s h = kept h
 
-field_del : {k : Keeper} → (at : Oid) (c : Content) (n : Name) (word : List ℕ) → Usable k at → Does k
+field_del : {k : PlainKeeper} → (at : Oid) (c : Content) (n : Name) (word : List ℕ) → k.Usable at → Does k
     (attributes.content_del at c n word)
 field_del at (object.instance of fs) n word usable s h = field_deleted at (field_at s.store.heap at n) n word usable s h
 field_del at c n word usable s h = kept h
 
-set_at : {k : Keeper} → (at : Oid) (n : Name) (word : List ℕ) (v : Value) → Usable k at → Does k
+set_at : {k : PlainKeeper} → (at : Oid) (n : Name) (word : List ℕ) (v : Value) → k.Usable at → Does k
     (attributes.set_at at n word v)
 set_at at n word v usable s h = maybe (content_at s.store.heap at) (λ c. field_set at c n word v usable s h) (kept h)
 
-del_at : {k : Keeper} → (at : Oid) (n : Name) (word : List ℕ) → Usable k at → Does k (attributes.del_at at n word)
+del_at : {k : PlainKeeper} → (at : Oid) (n : Name) (word : List ℕ) → k.Usable at → Does k (attributes.del_at at n word)
 del_at at n word usable s h = maybe (content_at s.store.heap at) (λ c. field_del at c n word usable s h) (kept h)
 
-pub set_attribute : {k : Keeper} → (o : Value) (n : Name) (word : List ℕ) (v : Value)
+pub set_attribute : {k : PlainKeeper} → (o : Value) (n : Name) (word : List ℕ) (v : Value)
     → Bare k o → Does k (attributes.set_attribute o n word v)
 set_attribute (value.Rock r) n word v usable s h = kept h
 set_attribute (value.Ref at) n word v usable s h = set_at at n word v usable s h
 set_attribute (value.Prox at) n word v usable s h = set_at at n word v usable s h
 
-pub del_attribute : {k : Keeper} → (o : Value) (n : Name) (word : List ℕ) → Bare k o → Does k
+pub del_attribute : {k : PlainKeeper} → (o : Value) (n : Name) (word : List ℕ) → Bare k o → Does k
     (attributes.del_attribute o n word)
 del_attribute (value.Rock r) n word usable s h = kept h
 del_attribute (value.Ref at) n word usable s h = del_at at n word usable s h
@@ -251,18 +167,18 @@ del_attribute (value.Prox at) n word usable s h = del_at at n word usable s h
 
 -- ---- the binding of arguments
 
-slot_made : {k : Keeper} (b : Bool) (side : Side) (c : Content) (made : List (Option Value)) → Fits k c
+slot_made : {k : PlainKeeper} (b : Bool) (side : Side) (c : Content) (made : List (Option Value)) → k.Fits c
     → Does k (slots.slot_made b side c made)
 slot_made true side c made p s h = bind (new_object side c p s h) (λ v s h. kept h)
 slot_made false side c made p s h = kept h
 
-all_made : {k : Keeper} (side : Side) (has_list has_dict : Bool) (vs rest : List Value) (es : List Entry)
+all_made : {k : PlainKeeper} (side : Side) (has_list has_dict : Bool) (vs rest : List Value) (es : List Entry)
     → Does k (binding.all_made side has_list has_dict vs rest es)
-all_made side has_list has_dict vs rest es s h =
-    bind (slot_made has_list side (object.tuple rest) (map Some vs) tt s h)
-    (λ made s h. slot_made has_dict side (object.dict es) made tt s h)
+all_made {k} side has_list has_dict vs rest es s h =
+    bind (slot_made has_list side (object.tuple rest) (map Some vs) (k.tuple rest) s h)
+    (λ made s h. slot_made has_dict side (object.dict es) made (k.dict es) s h)
 
-pub binds : {k : Keeper} (side : Side) (names : List (List ℕ)) (ps : tree.Params) (defaults : List Value)
+pub binds : {k : PlainKeeper} (side : Side) (names : List (List ℕ)) (ps : tree.Params) (defaults : List Value)
     (a : Arguments)
     → Does k (binding.bind side names ps defaults a)
 binds side names (tree.params ps list dict) defaults a s h =

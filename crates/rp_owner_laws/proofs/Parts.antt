@@ -31,6 +31,7 @@ use Rattle.rp_owner_laws.proofs.Going.{same}
 use Rattle.rp_owner_laws.proofs.Going.{step, there_behind}
 use Rattle.rp_owner_laws.proofs.Keeping.{fits_mild, mild}
 use Rattle.rp_owner_laws.proofs.Objects.{set_item}
+use Rattle.rp_owner_laws.proofs.PlainKeepers.{Mild}
 use Rattle.rp_owner_laws.proofs.Plainly.{pushed_spares, rock_spares}
 
 -- an expression keeps it, and gives a value as the code holds it
@@ -68,18 +69,21 @@ pairs [] i f c s h = same h tt
 pairs {k} (p ∷ ps) i f c s h = bind (i.0.0 k f c s h) (λ x q s h. bind (i.0.1 k f c s h) (λ v r s h.
     bind (pairs ps i.1 f c s h) (λ kvs m s h. same h tt)))
 
-dict_with_fits : (k : Keeper) (content : Content) (ps : List (Value × Value)) → Fits k content
-    → OnFound (Fits k) (forms.dict_with content ps)
-dict_with_fits k content [] p = p
-dict_with_fits k content (x ∷ ps) p = by_result (key_named x.0)
-    (λ r e. rw e (dict_with_fits k (with_rock r x.1 content) ps
-    (fits_mild k (with_rock r x.1) (rock_spares r x.1) content p)))
+-- what mild changes leave such stays such while entries are put into it
+pub dict_with_fits : (fits : Content → Type 0)
+    → ((f : Content → Content) → Mild f → (c : Content) → fits c → fits (f c))
+    → (content : Content) (ps : List (Value × Value)) → fits content → OnFound fits (forms.dict_with content ps)
+dict_with_fits fits more content [] p = p
+dict_with_fits fits more content (x ∷ ps) p = by_result (key_named x.0)
+    (λ r e. rw e (dict_with_fits fits more (with_rock r x.1 content) ps
+    (more (with_rock r x.1) (rock_spares r x.1) content p)))
     (λ r e. rw e tt)
 
 pub dict : (ps : List (Meaning × Meaning)) → Each PairKeeps ps → Means (forms.dict ps)
 dict ps i k f c s h = step s h (λ s h. bind (pairs ps i f c s h) (λ kvs p s h.
     found (forms.dict_with (object.dict []) kvs) s h (λ content e s h.
-    makes_own content (subst (OnFound (Fits k)) e (dict_with_fits k (object.dict []) kvs tt)) f c s h)))
+    makes_own content (subst (OnFound (Fits k)) e (dict_with_fits (Fits k) (fits_mild k) (object.dict []) kvs tt))
+    f c s h)))
 
 pub cond : (x a b : Meaning) → Means x → Means a → Means b → Means (forms.cond x a b)
 cond x a b i j l k f c s h =

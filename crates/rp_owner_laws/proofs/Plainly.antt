@@ -22,8 +22,7 @@ use Rattle.rp_store.specs.Writers.{extended, inserted, pushed, with_element, wit
 use Rattle.rp_store.specs.Writers.{with_rock, without_element, without_entry, without_field}
 use Rattle.rp_store.specs.declared.key.Key.{Key}
 use Rattle.rp_apart_laws.specs.Apart.{OnSome}
-use Rattle.rp_owner_laws.specs.Kept.{Fits, Keeper, Kept, Usable, old_of}
-use Rattle.rp_owner_laws.proofs.Keeping.{Mild, appended, changed, mild, rest}
+use Rattle.rp_owner_laws.proofs.PlainKeepers.{Mild, PlainKeeper, rest}
 
 -- ---- writers
 
@@ -83,24 +82,24 @@ field_removal_spares n c = refl
 
 -- ---- plain operations
 
-abbrev pub There : Keeper → plain.State → Type 0
-There k s = Kept k s.store.heap
+abbrev pub There : PlainKeeper → plain.State → Type 0
+There k s = k.Kept s.store.heap
 
 -- it is kept behind an operation
-pub record Leaves {A : Type 0} (k : Keeper) (o : plain.Outcome A) : Type 0 where
+pub record Leaves {A : Type 0} (k : PlainKeeper) (o : plain.Outcome A) : Type 0 where
   pub there : There k o.state
 
-abbrev pub Does : {A : Type 0} → Keeper → (plain.State → plain.Outcome A) → Type 0
+abbrev pub Does : {A : Type 0} → PlainKeeper → (plain.State → plain.Outcome A) → Type 0
 Does k does = (s : plain.State) → There k s → Leaves k (does s)
 
-pub kept : {A : Type 0} {k : Keeper} {o : plain.Outcome A} → There k o.state → Leaves k o
+pub kept : {A : Type 0} {k : PlainKeeper} {o : plain.Outcome A} → There k o.state → Leaves k o
 kept h = record { there = h }
 
 -- what gives a value changes nothing
-pub kept_giving : {A : Type 0} {k : Keeper} (a : A) → Does k (gives a)
+pub kept_giving : {A : Type 0} {k : PlainKeeper} (a : A) → Does k (gives a)
 kept_giving a s h = kept h
 
-pub bind : {A B : Type 0} {k : Keeper} {o : plain.Outcome A} {go : A → plain.State → plain.Outcome B}
+pub bind : {A B : Type 0} {k : PlainKeeper} {o : plain.Outcome A} {go : A → plain.State → plain.Outcome B}
     → Leaves k o → ((a : A) → Does k (go a)) → Leaves k (on_value o go)
 bind {A} {B} {k} {o} {go} h more = by o.answer
   where
@@ -108,8 +107,8 @@ bind {A} {B} {k} {o} {go} h more = by o.answer
     by (Ok a) = more a o.state h.there
     by (Err e) = kept h.there
 
-pub found : {A B : Type 0} {k : Keeper} {go : A → plain.State → plain.Outcome B} (r : Result A Raised) (s : plain.State)
-    → There k s → ((a : A) → Does k (go a)) → Leaves k (on_found r s go)
+pub found : {A B : Type 0} {k : PlainKeeper} {go : A → plain.State → plain.Outcome B} (r : Result A Raised)
+    (s : plain.State) → There k s → ((a : A) → Does k (go a)) → Leaves k (on_found r s go)
 found {A} {B} {k} {go} r s h more = by r
   where
     by : (r : Result A Raised) → Leaves k (on_found r s go)
@@ -117,23 +116,23 @@ found {A} {B} {k} {go} r s h more = by r
     by (Err e) = kept h
 
 -- by what there may be
-pub maybe : {X A : Type 0} {k : Keeper} {f : X → plain.Outcome A} {d : plain.Outcome A} (x : Option X)
+pub maybe : {X A : Type 0} {k : PlainKeeper} {f : X → plain.Outcome A} {d : plain.Outcome A} (x : Option X)
     → ((y : X) → Leaves k (f y)) → Leaves k d → Leaves k (option_map_or f x d)
 maybe None some none = none
 maybe (Some y) some none = some y
 
-pub chosen : {A : Type 0} {k : Keeper} {x y : plain.Outcome A} (b : Bool) → Leaves k x → Leaves k y
+pub chosen : {A : Type 0} {k : PlainKeeper} {x y : plain.Outcome A} (b : Bool) → Leaves k x → Leaves k y
     → Leaves k (if b then x else y)
 chosen true h i = h
 chosen false h i = i
 
 -- as deep as it goes
-pub within : {X A : Type 0} {k : Keeper} {go : X → plain.Outcome A} (P : X → Type 0) (x : Option X) (s : plain.State)
-    → OnSome P x → There k s → ((y : X) → P y → Leaves k (go y)) → Leaves k (nested x s go)
+pub within : {X A : Type 0} {k : PlainKeeper} {go : X → plain.Outcome A} (P : X → Type 0) (x : Option X)
+    (s : plain.State) → OnSome P x → There k s → ((y : X) → P y → Leaves k (go y)) → Leaves k (nested x s go)
 within P None s i h more = kept h
 within P (Some y) s i h more = more y i
 
-pub step : {A : Type 0} {k : Keeper} {go : plain.State → plain.Outcome A} (s : plain.State) → There k s → Does k go
+pub step : {A : Type 0} {k : PlainKeeper} {go : plain.State → plain.Outcome A} (s : plain.State) → There k s → Does k go
     → Leaves k (plain.stepped s go)
 step {A} {k} {go} s h more = by s.steps
   where
@@ -141,7 +140,8 @@ step {A} {k} {go} s h more = by s.steps
     by zero = kept h
     by (suc n) = more (record s { steps = n }) h
 
-pub charge : {A : Type 0} {k : Keeper} {go : plain.State → plain.Outcome A} (cells : ℕ) (s : plain.State) → There k s
+pub charge : {A : Type 0} {k : PlainKeeper} {go : plain.State → plain.Outcome A} (cells : ℕ) (s : plain.State)
+    → There k s
     → Does k go → Leaves k (plain.charged cells s go)
 charge {A} {k} {go} cells s h more = by (nat_lt s.store.limit (s.store.used + cells))
   where
@@ -152,16 +152,16 @@ charge {A} {k} {go} cells s h more = by (nat_lt s.store.limit (s.store.used + ce
 abbrev next_place : plain.State → Oid
 next_place s = record { 0 = length s.store.heap }
 
-pub makes : {k : Keeper} (side : Side) (content : Content) → Fits k content → (s : plain.State) → There k s
+pub makes : {k : PlainKeeper} (side : Side) (content : Content) → k.Fits content → (s : plain.State) → There k s
     → Leaves k (plain.makes side content s)
 makes {k} side content p s h = by (nat_lt s.store.limit (s.store.used + cost content))
   where
     by : (b : Bool) → Leaves k (if b then ends no_cell s else gives (next_place s)
         (record s { store = made s.store side content }))
     by true = kept h
-    by false = kept (appended k s.store.heap (record { owner = side; content = content } ∷ []) (p, tt) h)
+    by false = kept (k.appended s.store.heap (record { owner = side; content = content } ∷ []) (p, tt) h)
 
-pub change : {A : Type 0} {k : Keeper} (at : Oid) → Usable k at → (a : A) (s : plain.State) (f : Content → Content)
+pub change : {A : Type 0} {k : PlainKeeper} (at : Oid) → k.Usable at → (a : A) (s : plain.State) (f : Content → Content)
     → Mild f → There k s → Leaves k (gives a (plain.with_change s at f))
 change {A} {k} at usable a s f m h =
-    kept (changed k (old_of k) s.store.heap at.0 f (mild k f m) usable h)
+    kept (k.changed s.store.heap at f m usable h)

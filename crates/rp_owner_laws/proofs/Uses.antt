@@ -48,7 +48,7 @@ use Rattle.rp_meaning.specs.Unmonitored.{IsAllowed}
 use Rattle.rp_apart_laws.specs.Apart.{Each}
 use Rattle.rp_owner_laws.specs.Cut.{decided_frame}
 use Rattle.rp_owner_laws.specs.Items.{HasNoRow, IsListOrDict}
-use Rattle.rp_owner_laws.specs.Kept.{Fits, Keeper, own}
+use Rattle.rp_owner_laws.specs.Kept.{Fits, own}
 use Rattle.rp_owner_laws.specs.Stores.{ChangesBehind, IsBehind, entry_to_set}
 use Rattle.rp_owner_laws.specs.Uses.{AllStay, Calling, Changes, EachUseIsDecided, FunctionsChangeNothing, all_stay}
 use Rattle.rp_owner_laws.specs.Uses.{augments, call_of}
@@ -57,10 +57,12 @@ use Rattle.rp_owner_laws.specs.Uses.{operates_alone, reads, reads_item, reads_sl
 use Rattle.rp_owner_laws.specs.Uses.{stores_item, walks}
 use Rattle.rp_owner_laws.proofs.CutGoing.{entry_as}
 use Rattle.rp_owner_laws.proofs.Items.{del_no_row, forbidden_at, in_place_no_row, set_no_row}
+use Rattle.rp_owner_laws.proofs.Keeping.{plain_keeper}
 use Rattle.rp_owner_laws.proofs.Natives.{function_leaves}
 use Rattle.rp_owner_laws.proofs.Objects.{item, slice}
 use Rattle.rp_owner_laws.proofs.Operations.{binary_leaves, compare, contains}
 use Rattle.rp_owner_laws.proofs.Owners.{decided_as, others_from, others_stay}
+use Rattle.rp_owner_laws.proofs.PlainKeepers.{PlainKeeper}
 use Rattle.rp_owner_laws.proofs.Plainly.{Leaves, There}
 use Rattle.rp_owner_laws.proofs.Stores.{deletes_one_field, stores_one_field}
 
@@ -106,12 +108,12 @@ abbrev Stays : {A : Type 0} → plain.State → plain.Outcome A → Type 0
 Stays s o = AllStay s.store.heap o.state.store.heap
 
 -- what is kept for every keeper changes no object that was there
-stays : {A : Type 0} (o : plain.Outcome A) (s : plain.State) → ((k : Keeper) → There k s → Leaves k o) → Stays s o
+stays : {A : Type 0} (o : plain.Outcome A) (s : plain.State) → ((k : PlainKeeper) → There k s → Leaves k o) → Stays s o
 stays o s leaves at x e =
     let heap : List Owned = s.store.heap in
     let n : ℕ = above heap in
     others_stay n heap o.state.store.heap
-    (leaves (own n heap) (others_from n heap heap (unowned n heap heap (omega arith)))).there at x e
+    (leaves (plain_keeper (own n heap)) (others_from n heap heap (unowned n heap heap (omega arith)))).there at x e
     (not_owned n heap at.0 x (omega arith) e)
 
 -- ---- what goes on with a value

@@ -20,7 +20,8 @@ ghost use Rattle.rp_decl.specs.InOrder.{AreInOrder};
 ghost use Rattle.rp_decl.specs.Places.{GrowsTo, IsHeldBy};
 ghost use Rattle.rp_decl.specs.View.{declarations_view};
 
-use rp_base::{Memory, Name, Names};
+use rp_base::word::GET_ITEM;
+use rp_base::{Memory, Names};
 use rp_compile::Compiled;
 use rp_decl::{Decl, DeclFault};
 use rp_script::Refusal;
@@ -39,8 +40,8 @@ fn rekey(names: &mut Names, bytes: &[u8]) -> Result<(), Memory>
 pub fn hold_each_once(names: &Names)
     ensures { HoldsEachOnce names.now }
 {
-    if names.len() > 0 {
-        let _first = names.text(Name(0));
+    if GET_ITEM.0 < names.len() {
+        let _first = names.text(GET_ITEM);
     }
 }
 

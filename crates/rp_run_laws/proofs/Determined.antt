@@ -313,6 +313,15 @@ module _ (r : Run) (of : List ℕ → List ℕ) where
         (compiled ts us [] [] x.compiled y.compiled).0,
       )
 
+  -- so what holds of what one ready run is made of holds of what another is
+  pub ready-as : (P : stmt_tree.Stmts → World → List (Stmts (List ℕ)) → Type 0) (d e : Declarations)
+      (body others : stmt_tree.Stmts) (w v : World) (ts us : List (Stmts (List ℕ))) → IsReady r of d body w ts
+      → IsReady r of e others v us → P body w ts → P others v us
+  ready-as P d e body others w v ts us x y p =
+      let same = ready-once d e body others w v ts us x y in
+      subst (λ (b : stmt_tree.Stmts). P b v us) same.1 (subst (λ (u : World). P body u us) same.2
+      (subst (λ (ts : List (Stmts (List ℕ))). P body w ts) same.3 p))
+
   module _ (a : List ℕ) (s : ℕ) where
     -- a run that a step refuses is not ready
     pub refused-or-ready : (e : Declarations) (body : stmt_tree.Stmts) (w : World) (trees : List (Stmts (List ℕ)))
@@ -491,11 +500,8 @@ module _ (r : Run) (of : List ℕ → List ℕ) (a : List ℕ) (s : ℕ) where
     pub told-played : ToldRun r of a s → ToldPlayed r body (read_into (scripts_of r of) w) trees a s
     told-played (telling.ToldRun.refused x) = absurd (refused-or-ready r of a s d body w trees x ready)
     told-played (telling.ToldRun.played e others v us y told) =
-        let same = ready-once r of e d others body v w us trees y ready in
-        subst (λ (b : stmt_tree.Stmts). ToldPlayed r b (read_into (scripts_of r of) w) trees a s) same.1
-        (subst (λ (w : World). ToldPlayed r others (read_into (scripts_of r of) w) trees a s) same.2
-        (subst (λ (ts : List (Stmts (List ℕ))). ToldPlayed r others (read_into (scripts_of r of) v) ts a s) same.3
-        told))
+        ready-as r of (λ b u ts. ToldPlayed r b (read_into (scripts_of r of) u) ts a s) e d others body v w us trees y
+        ready told
 
     told-ran : (sessions : List Finished) (log : List Entry)
         → Plays (read_into (scripts_of r of) w) body trees (map (λ (p : Pair). p.ids) r.pairs) r.turns r.steps
@@ -554,10 +560,8 @@ module _ (r : Run) (of : List ℕ → List ℕ) (n : ℕ) (a : List ℕ) (s : �
   large-ran d body w trees ready last reaches session only fs are (telling.ToldLarge.refused x) =
       absurd (refused-or-ready r of a s d body w trees x ready)
   large-ran d body w trees ready last reaches session only fs are (telling.ToldLarge.played e others v us y u) =
-      let same = ready-once r of e d others body v w us trees y ready in
-      let used = subst (λ (b : stmt_tree.Stmts). ToldUsed r n b (read_into (scripts_of r of) w) trees a s) same.1
-      (subst (λ (w : World). ToldUsed r n others (read_into (scripts_of r of) w) trees a s) same.2
-      (subst (λ (ts : List (Stmts (List ℕ))). ToldUsed r n others (read_into (scripts_of r of) v) ts a s) same.3 u)) in
+      let used = ready-as r of (λ b u ts. ToldUsed r n b (read_into (scripts_of r of) u) ts a s) e d others body v w us
+      trees y ready u in
       used-as r n body (read_into (scripts_of r of) w) trees a s last reaches session only fs are used
 
 module _ (r : Run) (of : List ℕ → List ℕ) (n : ℕ) (a : List ℕ) (s : ℕ) (b : List ℕ) (t : ℕ) where

@@ -7,4 +7,5 @@ mod Numbered
 mod Numbering
 mod Once
 mod OneFault
+pub mod Unallowed
 pub mod Unwatched

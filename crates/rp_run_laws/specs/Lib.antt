@@ -1,3 +1,4 @@
 pub mod Completeness
 pub mod Trails
+pub mod Unallowed
 pub mod Unwatched

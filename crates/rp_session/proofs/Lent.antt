@@ -1,5 +1,6 @@
 -- A session ran statements in the world, to which it had lent what it runs with.
 use Rattle.std.proofs.Common.{◌≡◌, refl, sym, ap, subst, ◌∙◌, ◌+◌, ◌≤◌, Bool, List, Option, Result}
+use Rattle.std.proofs.Math.Nat.{le_trans}
 use Rattle.rp_access.specs.Comes.{Comes}
 use Rattle.rp_access.specs.Moment.{state_of}
 use Rattle.rp_base.specs.declared.value.OpEnd.{OpEnd}
@@ -20,11 +21,12 @@ use Rattle.rp_tree.specs.declared.stmt.Stmt.{Stmt}
 use Rattle.rp_session_laws.specs.Setting.{Stays, setting_of}
 use Rattle.rp_session.specs.Ready.{IsAtHome}
 use Rattle.rp_session.specs.Turns.{Runs, comes_of, moment}
-use Rattle.rp_session.specs.View.{EndsSo}
+use Rattle.rp_session.specs.View.{EndsSo, session_view}
 use Rattle.rp_session.specs.declared.session.Session.{Session}
 use Rattle.rp_session.specs.declared.session_end.SessionEnd.{SessionEnd}
 use Rattle.rp_session.proofs.Lasting.{GoesOn, answers-last, faithful-with, home-last}
 use Rattle.rp_session.proofs.Settled.{settled, some_run}
+use Rattle.rp_session.proofs.Spent.{spent}
 
 -- what has come of it
 pub record Ran (units : Units) (xs : List Stmt) (is_last : Bool) (w : World) (k : Session) (v : World) (j : Session) : Type 0 where
@@ -39,12 +41,15 @@ behind k running end = record { running = running; globals = k.globals; next = k
 
 ran-so : (units : Units) (w : World) (k : Session) (xs : List Stmt) (is_last : Bool) (u : World) (end : Option SessionEnd)
     → ((base : Run) → EndsSo end is_last (state_of u) (comes_of (run_of base units) xs w k))
-    → IsFaithful w → IsAtHome w k → IsFaithful u → KeepsShape w.store.heap u.store.heap → u.running.meter.left ≤ k.given
+    → IsFaithful w → IsAtHome w k → IsFaithful u → KeepsShape w.store.heap u.store.heap
     → Ran units xs is_last w k (record u { running = w.running }) (behind k u.running end)
-ran-so units w k xs is_last u end ends before home after shape left =
+ran-so units w k xs is_last u end ends before home after shape =
     let stays : Stays (setting_of (moment w k)) (setting_of (state_of u)) =
     settled (run_of some_run units) xs is_last end w k (state_of u) (ends some_run) in
     let on : GoesOn w u = record { declarations = stays.declarations; names = stays.names } in
+    let left : u.running.meter.left ≤ k.given =
+    le_trans (spent some_run units xs (session_view k).side k.globals (moment w k) (state_of u) (ends some_run).0)
+    home.steps in
     record {
       runs = λ base. record {
         ends = ends base;
@@ -71,14 +76,13 @@ pub ran : (units : Units) (w : World) (k : Session) (xs : List Stmt) (is_last : 
     → ((base : Run) → Comes (flows came) (state_of u)
     (does.block xs (program_frame (run_of base units) (record { 0 = lent.session }) k.globals) (state_of (record w { running = lent }))))
     → ((s : State) (o : Outcome Flow) → Comes (flows came) s o → EndsSo end is_last s o)
-    → IsFaithful w → IsAtHome w k → IsFaithful u → KeepsShape w.store.heap u.store.heap → kept.meter.left ≤ k.given
+    → IsFaithful w → IsAtHome w k → IsFaithful u → KeepsShape w.store.heap u.store.heap
     → Ran units xs is_last w k (record u { running = back }) (behind k kept end)
-ran units w k xs is_last lent held u back kept came end p q r t law ended before home after shape left =
+ran units w k xs is_last lent held u back kept came end p q r t law ended before home after shape =
     let comes : (base : Run) → Comes (flows came) (state_of u) (comes_of (run_of base units) xs w k) = λ base.
     subst (λ (lent : Running). Comes (flows came) (state_of u)
     (does.block xs (program_frame (run_of base units) (record { 0 = lent.session }) k.globals) (state_of (record w { running = lent })))) p (law base) in
-    let so = ran-so units w k xs is_last u end (λ base. ended (state_of u) (comes_of (run_of base units) xs w k) (comes base)) before home after shape
-    (subst (λ (kept : Running). kept.meter.left ≤ k.given) t left) in
+    let so = ran-so units w k xs is_last u end (λ base. ended (state_of u) (comes_of (run_of base units) xs w k) (comes base)) before home after shape in
     let there = subst (λ (back : Running). Ran units xs is_last w k (record u { running = back }) (behind k u.running end)) (sym (r ∙ q)) so in
     subst (λ (kept : Running). Ran units xs is_last w k (record u { running = back }) (behind k kept end)) (sym t) there
 

@@ -132,8 +132,7 @@ impl Session {
     /// Runs statements of its program, which may be the last, in the world: it lends the world what it runs with.
     ///
     /// # Errors
-    /// As those of `Runner::run_block`, and `TooLong` where more steps were left than it was given. There is no such
-    /// statement, but that is no law of the meaning.
+    /// As those of `Runner::run_block`.
     fn run<'u>(
         &mut self,
         alloc: Global,
@@ -158,9 +157,6 @@ impl Session {
         let end = run_statements(alloc, units, world, side, self.globals, statements);
         mem::swap(&mut world.running, &mut self.running);
         self.end = SessionEnd::after(end?, is_last)?;
-        if self.running.meter.left > self.given {
-            return Err(Halt::TooLong);
-        }
         self.next += 1;
         Ok(())
     }

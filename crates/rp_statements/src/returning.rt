@@ -111,25 +111,6 @@ pub fn with_return<'u>(
     ensures shape { KeepsShape world.old.store.heap world.new.store.heap }
 {
     let value = machine.at_hand();
-    pass_return(machine, world, task, value)
-}
-
-/// The same, with the value off.
-#[inline(always)]
-fn pass_return<'u>(
-    machine: &mut Machine<'u>,
-    world: &mut World,
-    task: Task<'u>,
-    value: Value,
-) -> Result<(), Halt>
-    requires ready { IsReady machine.old.units.now machine.old.frame machine.old.values world.old }
-    requires value { IsFit world.old.store.heap machine.old.frame.side value }
-    ensures law { OnOk result ((base : Run) → rest_of base machine.new (state_of world.new) ≡ rest machine.old.tasks
-        (after task.entry (did (frame_in base machine.old) machine.old.values
-        (gives (returned value) (state_of world.old))))) }
-    ensures ready { IsReady machine.new.units.now machine.new.frame machine.new.values world.new }
-    ensures shape { KeepsShape world.old.store.heap world.new.store.heap }
-{
     match task {
         Task::Flow(task) => flow_return(machine, world, task, value),
         Task::Expr(_) => returns(machine, value),

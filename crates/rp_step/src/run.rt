@@ -27,7 +27,7 @@ pub enum Progress {
     Call,
 }
 
-/// Goes on with the statements of a block that are left.
+/// Goes on with the statements of a block that are left. Behind the last of them nothing has to wait.
 #[inline(always)]
 pub(crate) fn block<'u>(machine: &mut Machine<'u>, block: &'u [Stmt]) -> Result<(), Halt>
     ensures law { OnOk result ((w : TheWorld) → Executes (does.block block.now) machine.old w machine.new w) }
@@ -36,6 +36,7 @@ pub(crate) fn block<'u>(machine: &mut Machine<'u>, block: &'u [Stmt]) -> Result<
 {
     match block {
         [] => machine.go(Control::Next),
+        [x] => machine.go(Control::Statement(x)),
         [x, rest @ ..] => machine.wait(Task::Flow(FlowTask::Block(rest)), Control::Statement(x)),
     }
 }

@@ -1,7 +1,7 @@
 //! Statements: what begins them, and what goes on from the value or the end of a part.
 #![tactic(auto, using(rp_store::proofs::CallerLemmas::goes_on))]
 
-ghost use Rattle.std.specs.Prelude.{◌≡◌, OnOk, suc, true};
+ghost use Rattle.std.specs.Prelude.{◌≡◌, ◌∷◌, OnOk, suc, true};
 ghost use Rattle.rp_meaning.specs.Statements as stmt_forms;
 ghost use Rattle.rp_proxy.specs.declared.world.World.{World as TheWorld};
 ghost use Rattle.rp_store.specs.Kept.{IsFit};
@@ -68,7 +68,7 @@ fn form<'u>(machine: &mut Machine<'u>, world: &mut World, form: &'u StmtForm) ->
         StmtForm::Global(_) => machine.go(Control::Next),
         StmtForm::Break => machine.go(Control::Broke),
         StmtForm::Continue => machine.go(Control::Continued),
-        StmtForm::If(branches, other) => choose(machine, branches, stmts_of(other)),
+        StmtForm::If(branches, other) => choice(machine, world, branches, stmts_of(other)),
         StmtForm::While(test, body) => begin_loop(machine, world, test, body),
         StmtForm::Del(places) => delete_all(machine, world, places),
         StmtForm::Assert(test, message) => assertion(machine, test, message),
@@ -169,7 +169,53 @@ fn assign<'u>(
     }
 }
 
-/// Goes on with the branches of a choice.
+/// Begins a choice.
+#[inline(never)]
+fn choice<'u>(
+    machine: &mut Machine<'u>,
+    world: &mut World,
+    branches: &'u [Branch],
+    other: &'u [Stmt],
+) -> Result<(), Halt>
+    requires ready { IsReady machine.old.units.now machine.old.frame machine.old.values world.old }
+    ensures law { OnOk result (Executes (stmt_forms.choose (does.branches branches.now) (does.block other.now))
+        machine.old world.old machine.new world.new) }
+    ensures ready { IsReady machine.new.units.now machine.new.frame machine.new.values world.new }
+    ensures shape { KeepsShape world.old.store.heap world.new.store.heap }
+{
+    match branches {
+        [] => machine.go(Control::Block(other)),
+        [branch, rest @ ..] => first_branch(machine, world, branch, rest, other),
+    }
+}
+
+/// Goes on by the test of the first branch, where it is evaluated in its place; else waits for its value.
+#[inline(always)]
+fn first_branch<'u>(
+    machine: &mut Machine<'u>,
+    world: &mut World,
+    branch: &'u Branch,
+    rest: &'u [Branch],
+    other: &'u [Stmt],
+) -> Result<(), Halt>
+    requires ready { IsReady machine.old.units.now machine.old.frame machine.old.values world.old }
+    ensures law { OnOk result
+        (Executes (stmt_forms.choose (does.branch branch.now ∷ does.branches rest.now) (does.block other.now))
+        machine.old world.old machine.new world.new) }
+    ensures ready { IsReady machine.new.units.now machine.new.frame machine.new.values world.new }
+    ensures shape { KeepsShape world.old.store.heap world.new.store.heap }
+{
+    match machine.leaf(world, &branch.test) {
+        Ok(Some(value)) => branched(machine, world, value, &branch.body, rest, other),
+        Ok(None) => machine.wait(
+            Task::Stmt(StmtTask::Branch(&branch.body, rest, other)),
+            Control::Expression(&branch.test),
+        ),
+        Err(end) => machine.cut_off(end),
+    }
+}
+
+/// Goes on with the branches that are left of a choice.
 #[inline(always)]
 fn choose<'u>(
     machine: &mut Machine<'u>,

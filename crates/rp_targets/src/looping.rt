@@ -1,16 +1,17 @@
 //! The for statement (Python Language Reference, The for statement).
 #![tactic(auto, using(rp_store::proofs::CallerLemmas::goes_on, rp_engine::proofs::AtHand::at_hand))]
 
-ghost use Rattle.std.specs.Prelude.{◌≡◌, List, OnOk, suc};
+ghost use Rattle.std.specs.Prelude.{◌≡◌, IfSome, List, OnOk, suc};
 ghost use Rattle.rp_base.specs.declared.value.Value.{Value as TheValue};
 ghost use Rattle.rp_frame.specs.Top.{below, top};
-ghost use Rattle.rp_meaning.specs.Frame.{Frame, Run};
+ghost use Rattle.rp_meaning.specs.Frame.{Frame, Run, bind_name};
 ghost use Rattle.rp_meaning.specs.State.{Flow, Outcome, on_next};
 ghost use Rattle.rp_meaning.specs.Statements as stmt_forms;
+ghost use Rattle.rp_proxy.specs.declared.world.World.{World as TheWorld};
 ghost use Rattle.rp_store.specs.Kept.{IsFit};
 ghost use Rattle.rp_store.specs.Shape.{KeepsShape};
 ghost use Rattle.rp_engine.specs.Does as does;
-ghost use Rattle.rp_engine.specs.Law.{Executes, frame_in, rest_of};
+ghost use Rattle.rp_engine.specs.Law.{Executes, Moves, frame_in, rest_of};
 ghost use Rattle.rp_engine.specs.LoopSteps.{all_turns, each_turn, over, turn_before, walked};
 ghost use Rattle.rp_access.specs.Moment.{state_of};
 ghost use Rattle.rp_engine.specs.Ready.{IsReady};
@@ -19,11 +20,11 @@ ghost use Rattle.rp_access.specs.Spots.{cursor_at};
 
 use crate::unpacking::store_target;
 use rp_access::walk;
-use rp_base::{OpEnd, Value};
+use rp_base::{Name, OpEnd, Value};
 use rp_engine::{Halt, Machine};
 use rp_frame::{Control, Each, FlowTask, Inside, Spot, StmtTask, Task};
 use rp_proxy::World;
-use rp_tree::Expr;
+use rp_tree::{Expr, Place, Target};
 
 /// A `for` statement, or a later clause of a comprehension. Loops over lists, tuples, dicts and texts run.
 ///
@@ -186,9 +187,67 @@ fn turn_with<'u>(
     each_turn(machine, world, each, element)
 }
 
-/// Assigns an element to the target, and goes on with the block.
+/// Assigns an element to the target, and goes on with what stands inside the loop. Where the target is a name, nothing
+/// has to wait for that.
 #[inline(always)]
 fn each_turn<'u>(
+    machine: &mut Machine<'u>,
+    world: &mut World,
+    each: Each<'u>,
+    element: Value,
+) -> Result<(), Halt>
+    requires ready { IsReady machine.old.units.now machine.old.frame machine.old.values world.old }
+    requires element { IsFit world.old.store.heap machine.old.frame.side element }
+    ensures law { OnOk result (Executes (each_turn (does.target each.entry.target.now)
+        (does.inside each.entry.inside) element) machine.old world.old machine.new world.new) }
+    ensures ready { IsReady machine.new.units.now machine.new.frame machine.new.values world.new }
+    ensures shape { KeepsShape world.old.store.heap world.new.store.heap }
+{
+    match name_of(each.target) {
+        Some(name) => turn_with_name(machine, world, name, each.inside, element),
+        None => turn_behind(machine, world, each, element),
+    }
+}
+
+/// Assigns an element to a name, and goes on with what stands inside the loop.
+#[inline(always)]
+fn turn_with_name<'u>(
+    machine: &mut Machine<'u>,
+    world: &mut World,
+    name: Name,
+    inside: Inside<'u>,
+    element: Value,
+) -> Result<(), Halt>
+    requires ready { IsReady machine.old.units.now machine.old.frame machine.old.values world.old }
+    requires element { IsFit world.old.store.heap machine.old.frame.side element }
+    ensures law { OnOk result (Executes (each_turn (bind_name name) (does.inside inside.entry) element)
+        machine.old world.old machine.new world.new) }
+    ensures ready { IsReady machine.new.units.now machine.new.frame machine.new.values world.new }
+    ensures shape { KeepsShape world.old.store.heap world.new.store.heap }
+{
+    machine.bind(world, name, element);
+    go_inside(machine, inside)
+}
+
+/// Goes on with what stands inside a loop.
+#[inline(always)]
+fn go_inside<'u>(machine: &mut Machine<'u>, inside: Inside<'u>) -> Result<(), Halt>
+    ensures law { OnOk result (Moves (does.inside inside.entry) machine.old machine.new) }
+    ensures ready { (w : TheWorld) → IsReady machine.old.units.now machine.old.frame machine.old.values w
+        → IsReady machine.new.units.now machine.new.frame machine.new.values w }
+{
+    match inside {
+        Inside::Block(block) => machine.go(Control::Block(block)),
+        Inside::Clause(tests, clauses, adds) => machine.wait(
+            Task::Flow(FlowTask::Clause(tests, clauses, adds)),
+            Control::Next,
+        ),
+    }
+}
+
+/// Assigns an element to a target, behind which what stands inside the loop waits.
+#[inline(never)]
+fn turn_behind<'u>(
     machine: &mut Machine<'u>,
     world: &mut World,
     each: Each<'u>,
@@ -204,6 +263,29 @@ fn each_turn<'u>(
     let behind = inside_task(each.inside);
     machine.tasks.push(Task::Flow(behind))?;
     store_target(machine, world, each.target, element)
+}
+
+/// The name that a target is; none where it is another place, or several.
+#[inline(always)]
+fn name_of(target: &Target) -> Option<Name>
+    ensures { IfSome result (λ name. does.target target.now ≡ bind_name name) }
+{
+    match target {
+        Target::Place(place) => place_name(place),
+        Target::Group(_) => None,
+    }
+}
+
+/// The name that a place is.
+#[inline(always)]
+fn place_name(place: &Place) -> Option<Name>
+    ensures { IfSome result (λ name. does.place place.now ≡ bind_name name) }
+{
+    match place {
+        Place::Name(name) => Some(name.name),
+        Place::Attr(_, _, _) => None,
+        Place::Item(_, _, _) => None,
+    }
 }
 
 /// What waits until an element is assigned: what stands inside the loop.

@@ -28,6 +28,10 @@ mod show_tests;
 #[cfg(test)]
 mod turn_tests;
 #[cfg(test)]
+mod tutorial_tests;
+#[cfg(test)]
 mod walked_tests;
+#[cfg(test)]
+mod wide_tests;
 #[cfg(test)]
 mod words_tests;

@@ -53,7 +53,8 @@ fn files(
     Ok(list)
 }
 
-fn add_file(
+/// Adds a file.
+pub fn add_file(
     alloc: Global,
     list: &mut Vec<(Text, Vec<u8>)>,
     path: &str,

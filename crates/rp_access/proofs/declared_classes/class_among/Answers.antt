@@ -1,4 +1,4 @@
-use Rattle.std.proofs.Common.{◌+◌, ◌∙◌, ℕ, Some, ap, chars, sym}
+use Rattle.std.proofs.Common.{◌+◌, ◌∙◌, ℕ, Some, ap, sym}
 use Rattle.std.specs.Option.{option_map}
 use Rattle.rp_base.specs.Names.{word_of}
 use Rattle.rp_base.specs.Same.{same_text}
@@ -8,7 +8,9 @@ use Rattle.rp_access.proofs.declared_classes.class_among.Goals as goal
 
 pub behind_exposed-requires : goal.behind_exposed-requires
 behind_exposed-requires c =
-    position_within (λ class. same_text (chars c.args.word.now) (word_of c.args.names.now class.name)) c.args.classes.now c.in-Some.place (sym c.in-Some.ensures)
+    let w = c.args.world.now in
+    rw c.classes.ensures.value
+    (position_within (λ class. same_text (word_of w.names c.args.name) (word_of w.names class.name)) w.decl.classes c.in-Some.place (sym c.in-Some.ensures))
 
 pub returns-in-Some : goal.returns-in-Some
 returns-in-Some c =

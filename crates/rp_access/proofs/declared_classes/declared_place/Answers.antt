@@ -1,12 +1,7 @@
-use Rattle.std.proofs.Common.{◌≢◌, ◌+◌, ◌∙◌, ℕ, List, ap, chars, sym}
-use Rattle.std.specs.Prelude.{position}
-use Rattle.std.specs.Option.{option_map}
+use Rattle.std.proofs.Common.{◌≢◌, ◌∙◌, ap, sym}
 use Rattle.rp_base.specs.Names.{word_of}
-use Rattle.rp_base.specs.Same.{same_text}
-use Rattle.rp_base.specs.declared.value.Oid.{Oid}
 use Rattle.rp_base.specs.declared.value.Side.{Side}
 use Rattle.rp_decl.specs.View.{declarations_view}
-use Rattle.rp_decl.specs.declared.records.ClassDecl.{ClassDecl}
 use Rattle.rp_access.proofs.DeclaredClasses.{declared_here, declared_in, declared_of_side, if_any, placed_by}
 use Rattle.rp_access.proofs.declared_classes.declared_place.Goals as goal
 
@@ -26,10 +21,7 @@ pub returns-clause-place : goal.returns-clause-place
 returns-clause-place c = λ frame side block.
     let w = c.args.world.now in
     let word = word_of w.names c.args.name in
-    let placed : ℕ → Oid = λ i. record { 0 = 1 + i } in
     c.class_among.ensures
-    ∙ ap (λ (xs : List ClassDecl). option_map placed (position (λ class. same_text (chars c.word_of.result.now) (word_of w.names class.name)) xs)) c.classes.ensures.value
-    ∙ ap (λ (word : List ℕ). option_map placed (position (λ (class : ClassDecl). same_text word (word_of w.names class.name)) w.decl.classes)) c.word_of.ensures
     ∙ placed_by w.names w.decl.permissions word w.decl.classes
     ∙ declared_here frame word (declarations_view w.names w.decl).classes (ap (λ (s : Side). s.0) side ∙ c.if-side-ne0.false) (block ∙ c.if-block-ne0.false)
 

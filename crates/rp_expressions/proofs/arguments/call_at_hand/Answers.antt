@@ -1,5 +1,6 @@
 use Rattle.rp_expressions.proofs.Asks.{asks}
 use Rattle.rp_expressions.proofs.Callings.{call_ends, call_gives}
+use Rattle.rp_expressions.proofs.Spreads.{plain_ends}
 use Rattle.rp_engine.proofs.Worlds.{IsReady-goes}
 use Rattle.rp_engine.specs.Does as does
 use Rattle.rp_expressions.proofs.arguments.call_at_hand.Goals as goal
@@ -11,7 +12,8 @@ returns-in-Ok-Some-clause-law c =
 
 pub returns-in-Err-clause-law : goal.returns-in-Err-clause-law
 returns-in-Err-clause-law c =
-    call_ends c.args.machine.now c.without_result.new.machine c.args.world.now c.called.new.world c.without_result.result c.args.count (does.trailers c.args.rest.now) c.in-Err.end c.in-Err.ensures.law c.without_result.ensures.law
+    call_ends c.args.machine.now c.without_hand.new.machine c.args.world.now c.called.new.world c.without_hand.result c.args.count (does.trailers c.args.rest.now) c.in-Err.end c.in-Err.ensures.law
+    (plain_ends c.args.machine.now c.without_hand.new.machine c.without_hand.result c.args.count c.in-Err.end c.without_hand.ensures.law)
 
 pub returns-in-Ok-Some-clause-ready : goal.returns-in-Ok-Some-clause-ready
 returns-in-Ok-Some-clause-ready c =
@@ -20,7 +22,7 @@ returns-in-Ok-Some-clause-ready c =
 
 pub returns-in-Err-clause-ready : goal.returns-in-Err-clause-ready
 returns-in-Err-clause-ready c =
-    c.without_result.ensures.ready c.called.new.world (IsReady-goes _ _ _ c.args.world.now c.called.new.world c.requires.ready c.called.ensures.shape c.called.ensures.faithful)
+    c.without_hand.ensures.ready c.called.new.world (IsReady-goes _ _ _ c.args.world.now c.called.new.world c.requires.ready c.called.ensures.shape c.called.ensures.faithful)
 
 pub returns-in-Ok-None-clause-ready : goal.returns-in-Ok-None-clause-ready
 returns-in-Ok-None-clause-ready c = c.ask_left.ensures.ready c.called.new.world (IsReady-goes _ _ _ c.args.world.now c.called.new.world c.requires.ready c.called.ensures.shape c.called.ensures.faithful)

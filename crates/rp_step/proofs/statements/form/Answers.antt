@@ -51,11 +51,7 @@ returns-in-Continue-clause-law c =
 
 pub returns-in-If-clause-law : goal.returns-in-If-clause-law
 returns-in-If-clause-law c =
-    let m = c.args.machine.now in
-    let w = c.args.world.now in
-    does_any m c.choose.new.machine w w c.choose.result (does.stmt_form c.args.form.now)
-    (forms.choose (does.branches c.deref-in-If.result.now) (does.block c.stmts_of.result.now))
-    (λ base. rw (c.in-If.is, stmt_if c.in-If.branches c.in-If.other, sym c.deref-in-If.ensures.value, sym c.stmts_of.ensures) refl) c.choose.ensures.law
+    rw (c.in-If.is, stmt_if c.in-If.branches c.in-If.other, sym c.deref-in-If.ensures.value, sym c.stmts_of.ensures) c.choice.ensures.law
 
 pub returns-in-While-clause-law : goal.returns-in-While-clause-law
 returns-in-While-clause-law c = rw (c.in-While.is, stmt_while c.in-While.test c.in-While.body, sym c.deref-in-While.ensures.value) c.begin_loop.ensures.law

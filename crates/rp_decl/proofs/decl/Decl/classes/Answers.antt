@@ -1,4 +1,4 @@
 use Rattle.rp_decl.proofs.decl.Decl.classes.Goals as goal
 
 pub returns-clause-within : goal.returns-clause-within
-returns-clause-within c = rw (c.as_slice.ensures.value, ← c.self.view_is) c.self.invariant.classes
+returns-clause-within c = rw (c.list.ensures, ← c.self.view_is) c.self.invariant.classes

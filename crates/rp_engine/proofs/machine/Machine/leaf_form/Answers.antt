@@ -1,6 +1,7 @@
 use Rattle.std.proofs.Common.{◌≡◌, Err, sym, rules}
 use Rattle.rp_engine.specs.Law.{frame_in}
-use Rattle.rp_engine.proofs.Equations.{form_const, form_int, form_name, form_text}
+use Rattle.rp_engine.proofs.Equations.{form_chain, form_const, form_int, form_name, form_text}
+use Rattle.rp_engine.proofs.FormEquations.{form_compare}
 use Rattle.rp_engine.proofs.machine.Machine.leaf_form.Goals as goal
 
 pub returns-in-Name-clause-law : goal.returns-in-Name-clause-law
@@ -29,3 +30,9 @@ returns-in_err-literal-in-Const-clause-law c =
 
 pub returns-in_ok-literal-in-Const-clause-law : goal.returns-in_ok-literal-in-Const-clause-law
 returns-in_ok-literal-in-Const-clause-law c = λ base. rw (c.in-Const.is, form_const c.in-Const.keyword, sym c.value_of.ensures) (c.in_ok-literal-in-Const.ensures.law (frame_in base c.args.self.now))
+
+pub returns-in-Chain-clause-law : goal.returns-in-Chain-clause-law
+returns-in-Chain-clause-law c = λ base. rw (c.in-Chain.is, form_chain c.in-Chain.first c.in-Chain.rest, sym c.deref.ensures.value) (c.chain.ensures.law base)
+
+pub returns-in-Compare-clause-law : goal.returns-in-Compare-clause-law
+returns-in-Compare-clause-law c = λ base. rw (c.in-Compare.is, form_compare c.in-Compare.first c.in-Compare.rest, sym c.deref-in-Compare.ensures.value) (c.comparison.ensures.law base)
