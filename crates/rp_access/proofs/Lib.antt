@@ -30,5 +30,6 @@ mod Printing
 mod Sliced
 pub mod Spreadings
 mod Unpacked
+mod WalkSteps
 mod Walked
 pub mod Worlds

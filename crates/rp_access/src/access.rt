@@ -1,7 +1,7 @@
 //! Attributes, items and membership behind their decisions.
 #![tactic(auto, using(rp_store::proofs::CallerLemmas::goes_on))]
 
-ghost use Rattle.std.specs.Prelude.{◌≡◌, ◌<◌, Bool, IfNone, IfOk, IfSome, None, false, is_some, length};
+ghost use Rattle.std.specs.Prelude.{◌≤◌, ◌≡◌, Bool, IfNone, IfOk, IfSome, None, false, is_some};
 ghost use Rattle.rp_attributes.specs.Attributes.{attribute};
 ghost use Rattle.rp_base.specs.Names.{word_of};
 ghost use Rattle.rp_compare.specs.Membership.{contains};
@@ -17,15 +17,15 @@ ghost use Rattle.rp_store.specs.Shape.{KeepsShape};
 ghost use Rattle.rp_access.specs.Comes.{Comes, ComesIfAny};
 ghost use Rattle.rp_access.specs.Comparisons.{within_asked};
 ghost use Rattle.rp_access.specs.Moment.{state_of};
-ghost use Rattle.rp_access.specs.Parts.{IsForMethod, asking};
+ghost use Rattle.rp_access.specs.Parts.{IsForMethod};
 ghost use Rattle.rp_access.specs.Reading.{attribute_asked, item_asked};
 
 use crate::deciding::ask;
 use crate::operating::taken;
 use rp_base::word::{CONTAINS, GET_ITEM};
-use rp_base::{Name, Op, OpEnd, Side, Value};
+use rp_base::{Name, OpEnd, Side, Value};
 use rp_ops::lent;
-use rp_proxy::{World, cross};
+use rp_proxy::World;
 use rp_store::Store;
 use std::alloc::Global;
 
@@ -35,7 +35,7 @@ use std::alloc::Global;
 /// # Errors
 /// - As `rp_proxy::cross`, where the decision refuses; then nothing is read.
 /// - As `rp_attributes::attribute`, where there is no such attribute, or no cell for a bound method.
-/// - `Memory` where the name is not among the names of the world, or a growth was refused.
+/// - `Memory` where a growth was refused.
 #[inline(never)]
 pub fn get_attribute(
     alloc: Global,
@@ -50,29 +50,11 @@ pub fn get_attribute(
     ensures faithful { IsFaithful world.new }
     ensures shape { KeepsShape world.old.store.heap world.new.store.heap }
     ensures fit { IfOk result (IsFit world.new.store.heap side) }
+    ensures fewer { world.new.running.meter.left ≤ world.old.running.meter.left }
 {
-    if name.0 >= world.names.len() {
-        return Err(OpEnd::Memory);
-    }
-    ask_named(alloc, world, o, name)?;
+    ask(alloc, world, o, name)?;
     let value = attribute(alloc, world, side, o, name)?;
     Ok(taken(world, through(o, value), side))
-}
-
-/// Decides whether a name may be read on a value.
-///
-/// # Errors
-/// As `cross`.
-#[inline(always)]
-fn ask_named(alloc: Global, world: &mut World, value: &Value, name: Name) -> Result<(), OpEnd>
-    requires faithful { IsFaithful world.old }
-    requires sound { IsSound world.old.store.heap value.now }
-    requires named { name.0 < length world.old.names }
-    ensures law { Comes result (state_of world.new) (asking name value.now (state_of world.old)) }
-    ensures faithful { IsFaithful world.new }
-    ensures shape { KeepsShape world.old.store.heap world.new.store.heap }
-{
-    cross(alloc, world, value, Op::Get(name))
 }
 
 /// The plain attribute.
@@ -91,6 +73,7 @@ fn attribute(
     ensures faithful { IsFaithful world.new }
     ensures shape { KeepsShape world.old.store.heap world.new.store.heap }
     ensures sound { IfOk result (IsSound world.new.store.heap) }
+    ensures fewer { world.new.running.meter.left ≤ world.old.running.meter.left }
 {
     rp_attributes::attribute(alloc, &mut world.store, &world.names, side, o, name)
 }
@@ -131,6 +114,7 @@ pub fn get_item(
     ensures faithful { IsFaithful world.new }
     ensures shape { KeepsShape world.old.store.heap world.new.store.heap }
     ensures fit { IfOk result (λ v. IfSome v (IsFit world.new.store.heap side)) }
+    ensures fewer { world.new.running.meter.left ≤ world.old.running.meter.left }
 {
     ask(alloc, world, o, GET_ITEM)?;
     if has_method(&world.store, o, GET_ITEM) {
@@ -150,6 +134,7 @@ fn item(alloc: Global, world: &mut World, o: &Value, key: &Value) -> Result<Valu
     ensures faithful { IsFaithful world.new }
     ensures shape { KeepsShape world.old.store.heap world.new.store.heap }
     ensures sound { IfOk result (IsSound world.new.store.heap) }
+    ensures fewer { world.new.running.meter.left ≤ world.old.running.meter.left }
 {
     rp_items::item(alloc, &mut world.store, o, key)
 }
@@ -173,6 +158,7 @@ pub(crate) fn is_within(
         (IsForMethod CONTAINS o.now (state_of world.old) (state_of world.new))) }
     ensures faithful { IsFaithful world.new }
     ensures shape { KeepsShape world.old.store.heap world.new.store.heap }
+    ensures fewer { world.new.running.meter.left ≤ world.old.running.meter.left }
 {
     ask(alloc, world, o, CONTAINS)?;
     if has_method(&world.store, o, CONTAINS) {
@@ -189,6 +175,7 @@ fn contains(alloc: Global, world: &mut World, value: &Value, o: &Value) -> Resul
     ensures law { Comes result (state_of world.new) (plainly (contains value.now o.now) (state_of world.old)) }
     ensures faithful { IsFaithful world.new }
     ensures store { world.new.store ≡ world.old.store }
+    ensures fewer { world.new.running.meter.left ≤ world.old.running.meter.left }
 {
     rp_compare::contains(alloc, &world.store, &mut world.running.meter, value, o)
 }

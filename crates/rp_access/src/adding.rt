@@ -1,7 +1,7 @@
 //! What comprehensions add to what they make.
 #![tactic(auto, using(rp_store::proofs::CallerLemmas::goes_on))]
 
-ghost use Rattle.std.specs.Prelude.{◌≡◌, ℕ, OnErr};
+ghost use Rattle.std.specs.Prelude.{◌≤◌, ◌≡◌, ℕ, OnErr};
 ghost use Rattle.rp_ops.specs.Outcome.{Meets};
 ghost use Rattle.rp_ops.specs.Outcome as plain;
 ghost use Rattle.rp_proxy.specs.Faithful.{IsFaithful};
@@ -32,6 +32,7 @@ pub fn put_element(world: &mut World, at: Oid, value: Value) -> Result<(), OpEnd
     ensures law { Comes result (state_of world.new) (element_put at value (state_of world.old)) }
     ensures faithful { IsFaithful world.new }
     ensures shape { KeepsShape world.old.store.heap world.new.store.heap }
+    ensures fewer { world.new.running.meter.left ≤ world.old.running.meter.left }
 {
     put(&mut world.store, at, value)
 }

@@ -1,7 +1,7 @@
 //! Augmented assignment behind its decisions.
 #![tactic(auto, using(rp_store::proofs::CallerLemmas::goes_on))]
 
-ghost use Rattle.std.specs.Prelude.{◌≡◌, ◌<◌, IfOk, List};
+ghost use Rattle.std.specs.Prelude.{◌≤◌, ◌≡◌, IfOk, List};
 ghost use Rattle.std.specs.Option.{option_map_or};
 ghost use Rattle.rp_base.specs.declared.value.Value.{Value as TheValue};
 ghost use Rattle.rp_meaning.specs.Operators.{augmented_name, content_name, in_place_name, right_name};
@@ -48,6 +48,7 @@ pub fn augment(
     ensures faithful { IsFaithful world.new }
     ensures shape { KeepsShape world.old.store.heap world.new.store.heap }
     ensures fit { IfOk result (IsFit world.new.store.heap side) }
+    ensures fewer { world.new.running.meter.left ≤ world.old.running.meter.left }
 {
     ask(alloc, world, a, in_place_name(op))?;
     let name = augmented_name(&world.store, op, a);
@@ -73,6 +74,7 @@ fn inplace(
     ensures faithful { IsFaithful world.new }
     ensures shape { KeepsShape world.old.store.heap world.new.store.heap }
     ensures sound { IfOk result (IsSound world.new.store.heap) }
+    ensures fewer { world.new.running.meter.left ≤ world.old.running.meter.left }
 {
     rp_ops::inplace(
         alloc,
@@ -89,8 +91,7 @@ fn inplace(
 #[inline(always)]
 fn augmented_name(store: &Store, op: BinOp, a: &Value) -> Name
     requires { IsSound store.now.heap a.now }
-    ensures name { result ≡ augmented_name store.now.heap op a.now }
-    ensures first { result.0 < 59 }
+    ensures { result ≡ augmented_name store.now.heap op a.now }
 {
     match a {
         Value::Rock(_) => right_name(op),
@@ -102,8 +103,7 @@ fn augmented_name(store: &Store, op: BinOp, a: &Value) -> Name
 #[inline(always)]
 fn object_name(store: &Store, op: BinOp, at: Oid) -> Name
     requires { IsHeld store.now.heap at }
-    ensures name { result ≡ option_map_or (content_name op) (content_at store.now.heap at) (right_name op) }
-    ensures first { result.0 < 59 }
+    ensures { result ≡ option_map_or (content_name op) (content_at store.now.heap at) (right_name op) }
 {
     match store.object(at) {
         Object::List(_) => list_name(op),
@@ -113,8 +113,7 @@ fn object_name(store: &Store, op: BinOp, at: Oid) -> Name
 
 #[inline(always)]
 fn list_name(op: BinOp) -> Name
-    ensures name { (xs : List TheValue) → result ≡ content_name op (list xs) }
-    ensures first { result.0 < 59 }
+    ensures { (xs : List TheValue) → result ≡ content_name op (list xs) }
 {
     match op {
         BinOp::Add => ITER,
@@ -125,8 +124,7 @@ fn list_name(op: BinOp) -> Name
 /// The name that is decided on the left operand.
 #[inline(always)]
 fn in_place_name(op: BinOp) -> Name
-    ensures name { result ≡ in_place_name op }
-    ensures first { result.0 < 59 }
+    ensures { result ≡ in_place_name op }
 {
     match op {
         BinOp::Add => word::IN_PLACE_ADD,

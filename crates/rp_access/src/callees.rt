@@ -25,7 +25,7 @@ pub(crate) enum Called {
 /// What is called by the object at a place.
 ///
 /// # Errors
-/// `Memory` where the count of a text's owners is full.
+/// `Memory` where a growth was refused.
 pub(crate) fn called_at(store: &Store, at: Oid) -> Result<Called, Memory>
     requires { IsSound store.now.heap (Value.Ref at) }
     ensures called { IfOk result (IsCalledAt store.now.heap at) }

@@ -1,7 +1,7 @@
 //! Calls of values behind their decisions.
 #![tactic(auto, using(rp_store::proofs::CallerLemmas::goes_on))]
 
-ghost use Rattle.std.specs.Prelude.{◌∷◌, [], IfNone, IfOk, IfSome, List};
+ghost use Rattle.std.specs.Prelude.{◌≤◌, ◌∷◌, [], IfNone, IfOk, IfSome, List};
 ghost use Rattle.rp_base.specs.declared.value.Side.{Side as TheSide};
 ghost use Rattle.rp_meaning.specs.State.{State};
 ghost use Rattle.rp_proxy.specs.Faithful.{IsFaithful};
@@ -57,6 +57,7 @@ pub fn call(
     ensures faithful { IsFaithful world.new }
     ensures shape { KeepsShape world.old.store.heap world.new.store.heap }
     ensures fit { IfOk result (λ v. IfSome v (IsFit world.new.store.heap side)) }
+    ensures fewer { world.new.running.meter.left ≤ world.old.running.meter.left }
 {
     match f {
         Value::Rock(rock) => call_rock(alloc, world, side, rock, args),
@@ -82,6 +83,7 @@ fn call_rock(
     ensures faithful { IsFaithful world.new }
     ensures shape { KeepsShape world.old.store.heap world.new.store.heap }
     ensures fit { IfOk result (λ v. IfSome v (IsFit world.new.store.heap side)) }
+    ensures fewer { world.new.running.meter.left ≤ world.old.running.meter.left }
 {
     match rock {
         Rock::Native(id) => native(alloc, world, side, *id, args),
@@ -101,6 +103,7 @@ fn exception(alloc: Global, world: &mut World, kind: Kind, args: &[Value]) -> Re
     ensures faithful { IsFaithful world.new }
     ensures shape { KeepsShape world.old.store.heap world.new.store.heap }
     ensures fit { (side : TheSide) → IfOk result (IsFit world.new.store.heap side) }
+    ensures fewer { world.new.running.meter.left ≤ world.old.running.meter.left }
 {
     match args {
         [] => exception_alone(alloc, kind),
@@ -125,6 +128,7 @@ fn exception_of(alloc: Global, world: &mut World, kind: Kind, value: &Value) -> 
     ensures faithful { IsFaithful world.new }
     ensures shape { KeepsShape world.old.store.heap world.new.store.heap }
     ensures fit { (side : TheSide) → IfOk result (IsFit world.new.store.heap side) }
+    ensures fewer { world.new.running.meter.left ≤ world.old.running.meter.left }
 {
     let text = text_of(alloc, world, value)?;
     Ok(Value::Rock(Rock::Exc(kind, text)))
@@ -150,6 +154,7 @@ fn call_object(
     ensures faithful { IsFaithful world.new }
     ensures shape { KeepsShape world.old.store.heap world.new.store.heap }
     ensures fit { IfOk result (λ v. IfSome v (IsFit world.new.store.heap side)) }
+    ensures fewer { world.new.running.meter.left ≤ world.old.running.meter.left }
 {
     ask(alloc, world, f, CALL)?;
     match called_at(&world.store, at)? {
@@ -181,6 +186,7 @@ fn bound(
     ensures faithful { IsFaithful world.new }
     ensures shape { KeepsShape world.old.store.heap world.new.store.heap }
     ensures fit { IfOk result (λ v. IfSome v (IsFit world.new.store.heap side)) }
+    ensures fewer { world.new.running.meter.left ≤ world.old.running.meter.left }
 {
     let value = method(alloc, world, owner, &receiver, id, args)?;
     Ok(Some(taken(world, through(f, value), side)))

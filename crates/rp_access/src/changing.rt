@@ -1,7 +1,7 @@
 //! Attributes and items, stored and deleted behind their decisions.
 #![tactic(auto, using(rp_store::proofs::CallerLemmas::goes_on))]
 
-ghost use Rattle.std.specs.Prelude.{◌≡◌, IfOk, IfSome};
+ghost use Rattle.std.specs.Prelude.{◌≤◌, ◌≡◌, IfOk, IfSome};
 ghost use Rattle.rp_attributes.specs.Attributes.{del_attribute, set_attribute};
 ghost use Rattle.rp_base.specs.Names.{word_of};
 ghost use Rattle.rp_items.specs.Items.{del_item, set_item};
@@ -39,7 +39,7 @@ pub enum Change {
 /// # Errors
 /// - As `rp_proxy::cross`, where the decision refuses; then nothing is stored.
 /// - As `rp_attributes::set_attribute`, where the value has no fields, or no cell is left.
-/// - `Memory` where the name is not among the names of the world, or a growth was refused.
+/// - `Memory` where a growth was refused.
 #[inline(never)]
 pub fn set_attribute(
     alloc: Global,
@@ -54,6 +54,7 @@ pub fn set_attribute(
     ensures law { Comes result (state_of world.new) (attribute_set o.now name value (state_of world.old)) }
     ensures faithful { IsFaithful world.new }
     ensures shape { KeepsShape world.old.store.heap world.new.store.heap }
+    ensures fewer { world.new.running.meter.left ≤ world.old.running.meter.left }
 {
     ask_to_set(alloc, world, o, name)?;
     put_attribute(alloc, world, o, name, value)
@@ -65,7 +66,7 @@ pub fn set_attribute(
 /// # Errors
 /// - As `rp_proxy::cross`, where the decision refuses; then nothing is deleted.
 /// - As `rp_attributes::del_attribute`, where there is no such field.
-/// - `Memory` where the name is not among the names of the world, or a growth was refused.
+/// - `Memory` where a growth was refused.
 #[inline(never)]
 pub fn del_attribute(alloc: Global, world: &mut World, o: &Value, name: Name) -> Result<(), OpEnd>
     requires faithful { IsFaithful world.old }
@@ -73,6 +74,7 @@ pub fn del_attribute(alloc: Global, world: &mut World, o: &Value, name: Name) ->
     ensures law { Comes result (state_of world.new) (attribute_deleted o.now name (state_of world.old)) }
     ensures faithful { IsFaithful world.new }
     ensures shape { KeepsShape world.old.store.heap world.new.store.heap }
+    ensures fewer { world.new.running.meter.left ≤ world.old.running.meter.left }
 {
     ask_to_set(alloc, world, o, name)?;
     drop_attribute(alloc, world, o, name)
@@ -103,6 +105,7 @@ pub fn set_item(
         × IsForMethod SET_ITEM o.now (state_of world.old) (state_of world.new))) }
     ensures faithful { IsFaithful world.new }
     ensures shape { KeepsShape world.old.store.heap world.new.store.heap }
+    ensures fewer { world.new.running.meter.left ≤ world.old.running.meter.left }
 {
     ask(alloc, world, o, SET_ITEM)?;
     if has_method(&world.store, o, SET_ITEM) {
@@ -129,6 +132,7 @@ pub fn del_item(alloc: Global, world: &mut World, o: &Value, key: &Value) -> Res
         → IsForMethod DEL_ITEM o.now (state_of world.old) (state_of world.new)) }
     ensures faithful { IsFaithful world.new }
     ensures shape { KeepsShape world.old.store.heap world.new.store.heap }
+    ensures fewer { world.new.running.meter.left ≤ world.old.running.meter.left }
 {
     ask(alloc, world, o, DEL_ITEM)?;
     if has_method(&world.store, o, DEL_ITEM) {
@@ -141,7 +145,7 @@ pub fn del_item(alloc: Global, world: &mut World, o: &Value, key: &Value) -> Res
 /// Decides whether a name may be set on a value.
 ///
 /// # Errors
-/// As `cross`; `Memory` where the name is not among the names of the world.
+/// As `cross`.
 #[inline(always)]
 fn ask_to_set(alloc: Global, world: &mut World, value: &Value, name: Name) -> Result<(), OpEnd>
     requires faithful { IsFaithful world.old }
@@ -149,10 +153,8 @@ fn ask_to_set(alloc: Global, world: &mut World, value: &Value, name: Name) -> Re
     ensures law { Comes result (state_of world.new) (asking_to_set name value.now (state_of world.old)) }
     ensures faithful { IsFaithful world.new }
     ensures shape { KeepsShape world.old.store.heap world.new.store.heap }
+    ensures fewer { world.new.running.meter.left ≤ world.old.running.meter.left }
 {
-    if name.0 >= world.names.len() {
-        return Err(OpEnd::Memory);
-    }
     cross(alloc, world, value, Op::Set(name))
 }
 
@@ -172,6 +174,7 @@ fn put_attribute(
         (plainly (set_attribute o.now name (word_of world.old.names name) value) (state_of world.old)) }
     ensures faithful { IsFaithful world.new }
     ensures shape { KeepsShape world.old.store.heap world.new.store.heap }
+    ensures fewer { world.new.running.meter.left ≤ world.old.running.meter.left }
 {
     rp_attributes::set_attribute(alloc, &mut world.store, &world.names, o, name, value)
 }
@@ -185,6 +188,7 @@ fn drop_attribute(alloc: Global, world: &mut World, o: &Value, name: Name) -> Re
         (plainly (del_attribute o.now name (word_of world.old.names name)) (state_of world.old)) }
     ensures faithful { IsFaithful world.new }
     ensures shape { KeepsShape world.old.store.heap world.new.store.heap }
+    ensures fewer { world.new.running.meter.left ≤ world.old.running.meter.left }
 {
     rp_attributes::del_attribute(alloc, &mut world.store, &world.names, o, name)
 }
@@ -208,6 +212,7 @@ pub fn put_item(
         (plainly (set_item o.now key.now value) (state_of world.old)) }
     ensures faithful { IsFaithful world.new }
     ensures shape { KeepsShape world.old.store.heap world.new.store.heap }
+    ensures fewer { world.new.running.meter.left ≤ world.old.running.meter.left }
 {
     rp_items::set_item(alloc, &mut world.store, o, key, value)
 }
@@ -220,6 +225,7 @@ fn drop_item(alloc: Global, world: &mut World, o: &Value, key: &Value) -> Result
     ensures law { Comes result (state_of world.new) (plainly (del_item o.now key.now) (state_of world.old)) }
     ensures faithful { IsFaithful world.new }
     ensures shape { KeepsShape world.old.store.heap world.new.store.heap }
+    ensures fewer { world.new.running.meter.left ≤ world.old.running.meter.left }
 {
     rp_items::del_item(alloc, &mut world.store, o, key)
 }

@@ -1,7 +1,7 @@
 //! Classes that are made (Python Language Reference, Class definitions).
 #![tactic(auto, using(rp_store::proofs::CallerLemmas::goes_on))]
 
-ghost use Rattle.std.specs.Prelude.{◌≡◌, ℕ, All, IfOk, OnErr, OnOk, false};
+ghost use Rattle.std.specs.Prelude.{◌≤◌, ◌≡◌, ℕ, All, IfOk, OnErr, OnOk, false};
 ghost use Rattle.rp_meaning.specs.State.{makes};
 ghost use Rattle.rp_ops.specs.Outcome.{Meets};
 ghost use Rattle.rp_ops.specs.Outcome as plain;
@@ -38,6 +38,7 @@ pub fn new_class(
     ensures faithful { IsFaithful world.new }
     ensures shape { KeepsShape world.old.store.heap world.new.store.heap }
     ensures fit { IfOk result (λ at. IsFit world.new.store.heap side (Value.Ref at)) }
+    ensures fewer { world.new.running.meter.left ≤ world.old.running.meter.left }
 {
     let class = Object::Class {
         name,
@@ -73,6 +74,7 @@ pub fn renew_class(world: &mut World, at: Oid, methods: Dict<Name, Oid>) -> Resu
     ensures place { IfOk result (λ same. same ≡ at) }
     ensures faithful { IsFaithful world.new }
     ensures shape { KeepsShape world.old.store.heap world.new.store.heap }
+    ensures fewer { world.new.running.meter.left ≤ world.old.running.meter.left }
 {
     put_methods(&mut world.store, at, methods)
 }

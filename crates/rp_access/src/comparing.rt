@@ -1,7 +1,7 @@
 //! Tests of comparisons behind their decisions.
 #![tactic(auto, using(rp_store::proofs::CallerLemmas::goes_on))]
 
-ghost use Rattle.std.specs.Prelude.{◌≡◌, ◌<◌, Bool, IfNone, IfOk, not, option_map};
+ghost use Rattle.std.specs.Prelude.{◌≤◌, ◌≡◌, Bool, IfNone, IfOk, not, option_map};
 ghost use Rattle.rp_base.specs.declared.word.TheConstants.{CONTAINS};
 ghost use Rattle.rp_compare.specs.Order.{compare};
 ghost use Rattle.rp_meaning.specs.Operators.{comparison_name, is_nil, mirrored};
@@ -48,6 +48,7 @@ pub fn holds(
         (IsTestLeft test b.now (state_of world.old) (state_of world.new))) }
     ensures faithful { IsFaithful world.new }
     ensures shape { KeepsShape world.old.store.heap world.new.store.heap }
+    ensures fewer { world.new.running.meter.left ≤ world.old.running.meter.left }
 {
     match test {
         Test::Order(op) => order_known(alloc, world, op, a, b),
@@ -74,6 +75,7 @@ fn order_known(
     ensures known { IfOk result (λ r. IfNone r ⊥) }
     ensures faithful { IsFaithful world.new }
     ensures shape { KeepsShape world.old.store.heap world.new.store.heap }
+    ensures fewer { world.new.running.meter.left ≤ world.old.running.meter.left }
 {
     Ok(Some(order(alloc, world, op, a, b)?))
 }
@@ -90,6 +92,7 @@ fn order(alloc: Global, world: &mut World, op: CmpOp, a: &Value, b: &Value) -> R
     ensures law { Comes result (state_of world.new) (order_asked op a.now b.now (state_of world.old)) }
     ensures faithful { IsFaithful world.new }
     ensures shape { KeepsShape world.old.store.heap world.new.store.heap }
+    ensures fewer { world.new.running.meter.left ≤ world.old.running.meter.left }
 {
     ask(alloc, world, a, comparison_name(op))?;
     ask(alloc, world, b, comparison_name(mirrored(op)))?;
@@ -104,6 +107,7 @@ fn compare(alloc: Global, world: &mut World, op: CmpOp, a: &Value, b: &Value) ->
     ensures law { Comes result (state_of world.new) (plainly (compare op a.now b.now) (state_of world.old)) }
     ensures faithful { IsFaithful world.new }
     ensures store { world.new.store ≡ world.old.store }
+    ensures fewer { world.new.running.meter.left ≤ world.old.running.meter.left }
 {
     rp_compare::compare(alloc, &world.store, &mut world.running.meter, op, a, b)
 }
@@ -124,6 +128,7 @@ fn is_without(
         (IsForMethod CONTAINS o.now (state_of world.old) (state_of world.new))) }
     ensures faithful { IsFaithful world.new }
     ensures shape { KeepsShape world.old.store.heap world.new.store.heap }
+    ensures fewer { world.new.running.meter.left ≤ world.old.running.meter.left }
 {
     let within = is_within(alloc, world, value, o)?;
     Ok(negated(within))
@@ -151,8 +156,7 @@ fn is_nil(value: &Value) -> bool
 /// The name that is decided on the left operand; that of the mirrored comparison is on the right one.
 #[inline(always)]
 fn comparison_name(op: CmpOp) -> Name
-    ensures name { result ≡ comparison_name op }
-    ensures first { result.0 < 59 }
+    ensures { result ≡ comparison_name op }
 {
     match op {
         CmpOp::Lt => word::LT,

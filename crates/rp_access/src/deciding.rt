@@ -1,6 +1,6 @@
 //! Decisions on the values of operands.
 
-ghost use Rattle.std.specs.Prelude.{◌<◌};
+ghost use Rattle.std.specs.Prelude.{◌≤◌};
 ghost use Rattle.rp_proxy.specs.Faithful.{IsFaithful};
 ghost use Rattle.rp_store.specs.Kept.{IsSound};
 ghost use Rattle.rp_store.specs.Shape.{KeepsShape};
@@ -13,7 +13,7 @@ use rp_base::{Name, Op, OpEnd, Value};
 use rp_proxy::{World, cross};
 use std::alloc::Global;
 
-/// Decides whether a name of operations may be read on a value.
+/// Decides whether a name may be read on a value.
 ///
 /// # Errors
 /// As `cross`.
@@ -21,10 +21,10 @@ use std::alloc::Global;
 pub(crate) fn ask(alloc: Global, world: &mut World, value: &Value, name: Name) -> Result<(), OpEnd>
     requires faithful { IsFaithful world.old }
     requires sound { IsSound world.old.store.heap value.now }
-    requires named { name.0 < 59 }
     ensures law { Comes result (state_of world.new) (asking name value.now (state_of world.old)) }
     ensures faithful { IsFaithful world.new }
     ensures shape { KeepsShape world.old.store.heap world.new.store.heap }
+    ensures fewer { world.new.running.meter.left ≤ world.old.running.meter.left }
 {
     cross(alloc, world, value, Op::Get(name))
 }
@@ -42,6 +42,7 @@ pub fn truth(alloc: Global, world: &mut World, value: &Value) -> Result<bool, Op
     ensures law { Comes result (state_of world.new) (truth_asked value.now (state_of world.old)) }
     ensures faithful { IsFaithful world.new }
     ensures shape { KeepsShape world.old.store.heap world.new.store.heap }
+    ensures fewer { world.new.running.meter.left ≤ world.old.running.meter.left }
 {
     ask(alloc, world, value, BOOL)?;
     Ok(rp_ops::truth(&world.store, value))

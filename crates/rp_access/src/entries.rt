@@ -18,7 +18,7 @@ use std::alloc::Global;
 ///
 /// # Errors
 /// - `Raised` with `TypeError` and the text `key`, where a value can be no key.
-/// - `Memory` where a growth was refused, or the count of a text's owners is full.
+/// - `Memory` where a growth was refused.
 pub fn entries_of(
     alloc: Global,
     seed: Seed,

@@ -1,7 +1,7 @@
 //! Built-in functions behind their decisions.
 #![tactic(auto, using(rp_store::proofs::CallerLemmas::goes_on))]
 
-ghost use Rattle.std.specs.Prelude.{◌≡◌, ◌<◌, ◌++◌, IfErr, IfNone, IfOk, IfSome, IsTrue, None, OnOk, false, true};
+ghost use Rattle.std.specs.Prelude.{◌≤◌, ◌≡◌, ◌++◌, IfErr, IfNone, IfOk, IfSome, IsTrue, None, OnOk, false, true};
 ghost use Rattle.rp_base.specs.declared.value.Value.{Value as TheValue};
 ghost use Rattle.rp_meaning.specs.Special.{Special};
 ghost use Rattle.rp_meaning.specs.State.{State, Outcome, plainly};
@@ -50,6 +50,7 @@ pub(crate) fn native(
     ensures faithful { IsFaithful world.new }
     ensures shape { KeepsShape world.old.store.heap world.new.store.heap }
     ensures fit { IfOk result (λ v. IfSome v (IsFit world.new.store.heap side)) }
+    ensures fewer { world.new.running.meter.left ≤ world.old.running.meter.left }
 {
     if is_form(id) {
         return Ok(Some(form(alloc, world, side, id, args)?));
@@ -80,6 +81,7 @@ fn function(
     ensures faithful { IsFaithful world.new }
     ensures shape { KeepsShape world.old.store.heap world.new.store.heap }
     ensures fit { IfOk result (λ v. IfSome v (IsFit world.new.store.heap side)) }
+    ensures fewer { world.new.running.meter.left ≤ world.old.running.meter.left }
 {
     if !is_function(id) {
         return Err(raised(alloc, Kind::TypeError, "call"));
@@ -118,6 +120,7 @@ pub(crate) fn ask_each(
     ensures law { Comes result (state_of world.new) (needs_asked id args.now (state_of world.old)) }
     ensures faithful { IsFaithful world.new }
     ensures shape { KeepsShape world.old.store.heap world.new.store.heap }
+    ensures fewer { world.new.running.meter.left ≤ world.old.running.meter.left }
 {
     match needs(id, 0, args.len()) {
         Some(need) => ask_all(alloc, world, need_name(need), args),
@@ -128,8 +131,7 @@ pub(crate) fn ask_each(
 /// The name that is decided.
 #[inline(always)]
 fn need_name(need: Need) -> Name
-    ensures name { result ≡ need_name need }
-    ensures first { result.0 < 59 }
+    ensures { result ≡ need_name need }
 {
     match need {
         Need::Iter => word::ITER,
@@ -144,10 +146,10 @@ fn need_name(need: Need) -> Name
 fn ask_all(alloc: Global, world: &mut World, name: Name, values: &[Value]) -> Result<(), OpEnd>
     requires faithful { IsFaithful world.old }
     requires values { AreSound world.old.store.heap values.now }
-    requires named { name.0 < 59 }
     ensures law { Comes result (state_of world.new) (all_asked name values.now (state_of world.old)) }
     ensures faithful { IsFaithful world.new }
     ensures shape { KeepsShape world.old.store.heap world.new.store.heap }
+    ensures fewer { world.new.running.meter.left ≤ world.old.running.meter.left }
 {
     for value in values {
         ask(alloc, world, value, name)?;
@@ -174,6 +176,7 @@ fn applied(
     ensures faithful { IsFaithful world.new }
     ensures shape { KeepsShape world.old.store.heap world.new.store.heap }
     ensures sound { IfOk result (λ v. IfSome v (IsSound world.new.store.heap)) }
+    ensures fewer { world.new.running.meter.left ≤ world.old.running.meter.left }
 {
     if !is_called_here(id) {
         return Ok(Some(print(alloc, world, args)?));
@@ -207,6 +210,7 @@ fn print(alloc: Global, world: &mut World, args: &[Value]) -> Result<Value, OpEn
     ensures faithful { IsFaithful world.new }
     ensures shape { KeepsShape world.old.store.heap world.new.store.heap }
     ensures sound { IfOk result (IsSound world.new.store.heap) }
+    ensures fewer { world.new.running.meter.left ≤ world.old.running.meter.left }
 {
     let line = print_line(alloc, world, args)?;
     put_line(world, &line)?;
@@ -226,6 +230,7 @@ fn put_line(world: &mut World, line: &Text) -> Result<(), OpEnd>
     ensures ends { IfErr result (λ e. e ≡ OpEnd.Memory) }
     ensures faithful { IsFaithful world.new }
     ensures store { world.new.store ≡ world.old.store }
+    ensures fewer { world.new.running.meter.left ≤ world.old.running.meter.left }
 {
     world.running.printed.add(line.as_str())?;
     Ok(())
@@ -239,6 +244,7 @@ fn print_line(alloc: Global, world: &mut World, args: &[Value]) -> Result<Text, 
         (plainly (print_line world.old.names args.now) (state_of world.old)) }
     ensures faithful { IsFaithful world.new }
     ensures shape { KeepsShape world.old.store.heap world.new.store.heap }
+    ensures fewer { world.new.running.meter.left ≤ world.old.running.meter.left }
 {
     rp_native::print_line(
         alloc,
@@ -265,6 +271,7 @@ fn given(
     ensures faithful { IsFaithful world.new }
     ensures shape { KeepsShape world.old.store.heap world.new.store.heap }
     ensures sound { IfOk result (IsSound world.new.store.heap) }
+    ensures fewer { world.new.running.meter.left ≤ world.old.running.meter.left }
 {
     call_native(
         alloc,

@@ -29,7 +29,7 @@ const EXPOSED: Oid = Oid(0);
 /// trusted code has `removeSecurityProxy` (zope.security). None where there is none. Nothing is decided.
 ///
 /// # Errors
-/// `Memory` where the count of a text's owners is full.
+/// `Memory` where a growth was refused.
 pub fn elsewhere(world: &World, side: Side, name: Name) -> Result<Option<Value>, Memory>
     requires { IsFaithful world.now }
     ensures value { IfOk result (λ value. value ≡ option_or

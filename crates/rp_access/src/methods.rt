@@ -1,7 +1,7 @@
 //! Built-in methods behind their decisions.
 #![tactic(auto, using(rp_store::proofs::CallerLemmas::goes_on))]
 
-ghost use Rattle.std.specs.Prelude.{IfOk};
+ghost use Rattle.std.specs.Prelude.{◌≤◌, IfOk};
 ghost use Rattle.rp_meaning.specs.State.{plainly};
 ghost use Rattle.rp_methods.specs.Methods.{method};
 ghost use Rattle.rp_proxy.specs.Faithful.{IsFaithful};
@@ -40,6 +40,7 @@ pub(crate) fn method(
     ensures faithful { IsFaithful world.new }
     ensures shape { KeepsShape world.old.store.heap world.new.store.heap }
     ensures sound { IfOk result (IsSound world.new.store.heap) }
+    ensures fewer { world.new.running.meter.left ≤ world.old.running.meter.left }
 {
     if !has_method(&world.store, receiver, id) {
         return Err(raised(alloc, Kind::TypeError, "call"));
@@ -66,6 +67,7 @@ fn plain_method(
     ensures faithful { IsFaithful world.new }
     ensures shape { KeepsShape world.old.store.heap world.new.store.heap }
     ensures sound { IfOk result (IsSound world.new.store.heap) }
+    ensures fewer { world.new.running.meter.left ≤ world.old.running.meter.left }
 {
     call_method(
         alloc,

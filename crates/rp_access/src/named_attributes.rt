@@ -1,7 +1,7 @@
 //! Attributes whose names are texts: `getattr` and `setattr`.
 #![tactic(auto, using(rp_store::proofs::CallerLemmas::goes_on))]
 
-ghost use Rattle.std.specs.Prelude.{◌≡◌, IfErr, IfOk, List, None, OnOk, Option, Some, chars, true};
+ghost use Rattle.std.specs.Prelude.{◌≤◌, ◌≡◌, IfErr, IfOk, List, None, OnOk, Option, Some, chars, true};
 ghost use Rattle.std.specs.Option.{option_copied};
 ghost use Rattle.rp_base.specs.Identifier.{IsIdentifier};
 ghost use Rattle.rp_base.specs.declared.kind.Kind.TheVariants.{ForbiddenAttribute};
@@ -52,6 +52,7 @@ pub(crate) fn form(
     ensures faithful { IsFaithful world.new }
     ensures shape { KeepsShape world.old.store.heap world.new.store.heap }
     ensures fit { IfOk result (IsFit world.new.store.heap side) }
+    ensures fewer { world.new.running.meter.left ≤ world.old.running.meter.left }
 {
     match id {
         NativeId::GetAttr => {
@@ -73,6 +74,7 @@ fn read(alloc: Global, world: &mut World, side: Side, args: &[Value]) -> Result<
     ensures faithful { IsFaithful world.new }
     ensures shape { KeepsShape world.old.store.heap world.new.store.heap }
     ensures sound { IfOk result (IsSound world.new.store.heap) }
+    ensures fewer { world.new.running.meter.left ≤ world.old.running.meter.left }
 {
     match args {
         [o, word] => attribute_of(alloc, world, side, o, word),
@@ -89,6 +91,7 @@ fn store(alloc: Global, world: &mut World, args: &[Value]) -> Result<Value, OpEn
     ensures faithful { IsFaithful world.new }
     ensures shape { KeepsShape world.old.store.heap world.new.store.heap }
     ensures sound { IfOk result (IsSound world.new.store.heap) }
+    ensures fewer { world.new.running.meter.left ≤ world.old.running.meter.left }
 {
     match args {
         [o, word, value] => store_attribute(alloc, world, o, word, value),
@@ -116,6 +119,7 @@ fn attribute_of(
     ensures faithful { IsFaithful world.new }
     ensures shape { KeepsShape world.old.store.heap world.new.store.heap }
     ensures sound { IfOk result (IsSound world.new.store.heap) }
+    ensures fewer { world.new.running.meter.left ≤ world.old.running.meter.left }
 {
     match value_named(alloc, world, word)? {
         Some(name) => get_attribute(alloc, world, side, o, name),
@@ -142,6 +146,7 @@ fn attribute_or(
     ensures faithful { IsFaithful world.new }
     ensures shape { KeepsShape world.old.store.heap world.new.store.heap }
     ensures sound { IfOk result (IsSound world.new.store.heap) }
+    ensures fewer { world.new.running.meter.left ≤ world.old.running.meter.left }
 {
     match value_named(alloc, world, word)? {
         Some(name) => or_default(get_attribute(alloc, world, side, o, name), default),
@@ -205,6 +210,7 @@ fn store_attribute(
     ensures faithful { IsFaithful world.new }
     ensures shape { KeepsShape world.old.store.heap world.new.store.heap }
     ensures sound { IfOk result (IsSound world.new.store.heap) }
+    ensures fewer { world.new.running.meter.left ≤ world.old.running.meter.left }
 {
     match value_named(alloc, world, word)? {
         Some(name) => {
@@ -224,6 +230,7 @@ fn value_named(alloc: Global, world: &mut World, word: &Value) -> Result<Option<
     ensures law { Comes result (state_of world.new) (value_named word.now (state_of world.old)) }
     ensures faithful { IsFaithful world.new }
     ensures store { world.new.store ≡ world.old.store }
+    ensures fewer { world.new.running.meter.left ≤ world.old.running.meter.left }
 {
     match text_in(word) {
         Some(word) => word_named(alloc, world, word),
@@ -247,6 +254,7 @@ fn word_named(alloc: Global, world: &mut World, word: &Text) -> Result<Option<Na
     ensures law { Comes result (state_of world.new) (word_named word.now (state_of world.old)) }
     ensures faithful { IsFaithful world.new }
     ensures store { world.new.store ≡ world.old.store }
+    ensures fewer { world.new.running.meter.left ≤ world.old.running.meter.left }
 {
     let letters = word.as_str();
     let is_name = is_identifier_word(alloc, letters)?;
@@ -269,12 +277,13 @@ fn add_name(world: &mut World, word: &str) -> Result<Name, OpEnd>
     ensures ends { IfErr result (λ e. e ≡ OpEnd.Memory) }
     ensures faithful { IsFaithful world.new }
     ensures store { world.new.store ≡ world.old.store }
+    ensures fewer { world.new.running.meter.left ≤ world.old.running.meter.left }
 {
     let name = world.names.intern(word)?;
     Ok(name)
 }
 
-/// The refusal of a word that a script may not use. `Memory` where the count of its owners is full.
+/// The refusal of a word that a script may not use. `Memory` where a growth was refused.
 fn forbidden(word: &Text) -> OpEnd
     ensures { (s : State) → IsEnd {A = Option TheName} result s (outcome.raises ForbiddenAttribute word.now s) }
 {

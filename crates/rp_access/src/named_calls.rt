@@ -1,7 +1,7 @@
 //! Calls with named arguments behind their decisions.
 #![tactic(auto, using(rp_store::proofs::CallerLemmas::goes_on))]
 
-ghost use Rattle.std.specs.Prelude.{Err, OnOk};
+ghost use Rattle.std.specs.Prelude.{◌≤◌, Err, OnOk};
 ghost use Rattle.rp_meaning.specs.State.{State};
 ghost use Rattle.rp_proxy.specs.Faithful.{IsFaithful};
 ghost use Rattle.rp_store.specs.Kept.{IsSound};
@@ -35,6 +35,7 @@ pub fn ask_named(alloc: Global, world: &mut World, f: &Value) -> Result<(), OpEn
     ensures refused { IsCallRefused f.now result (state_of world.old) (state_of world.new) }
     ensures faithful { IsFaithful world.new }
     ensures shape { KeepsShape world.old.store.heap world.new.store.heap }
+    ensures fewer { world.new.running.meter.left ≤ world.old.running.meter.left }
 {
     match f {
         Value::Rock(rock) => Err(rock_refused(alloc, rock)),
@@ -86,6 +87,7 @@ fn ask_object(alloc: Global, world: &mut World, f: &Value, at: Oid) -> Result<()
     ensures refused { IsCallRefused f.now result (state_of world.old) (state_of world.new) }
     ensures faithful { IsFaithful world.new }
     ensures shape { KeepsShape world.old.store.heap world.new.store.heap }
+    ensures fewer { world.new.running.meter.left ≤ world.old.running.meter.left }
 {
     ask(alloc, world, f, CALL)?;
     let called = called_at(&world.store, at)?;

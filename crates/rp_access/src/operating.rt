@@ -1,7 +1,7 @@
 //! Operators behind their decisions.
 #![tactic(auto, using(rp_store::proofs::CallerLemmas::goes_on))]
 
-ghost use Rattle.std.specs.Prelude.{◌≡◌, ◌<◌, IfOk};
+ghost use Rattle.std.specs.Prelude.{◌≤◌, ◌≡◌, IfOk};
 ghost use Rattle.rp_meaning.specs.Operators.{left_name, right_name, unary_name};
 ghost use Rattle.rp_meaning.specs.State.{plainly};
 ghost use Rattle.rp_ops.specs.Binary.{binary};
@@ -42,6 +42,7 @@ pub fn operate(
     ensures faithful { IsFaithful world.new }
     ensures shape { KeepsShape world.old.store.heap world.new.store.heap }
     ensures fit { IfOk result (IsFit world.new.store.heap side) }
+    ensures fewer { world.new.running.meter.left ≤ world.old.running.meter.left }
 {
     ask(alloc, world, a, left_name(op))?;
     ask(alloc, world, b, right_name(op))?;
@@ -63,6 +64,7 @@ pub fn operate_unary(alloc: Global, world: &mut World, op: UnOp, a: &Value) -> R
     ensures faithful { IsFaithful world.new }
     ensures shape { KeepsShape world.old.store.heap world.new.store.heap }
     ensures fit { (side : Side) → IfOk result (IsFit world.new.store.heap side) }
+    ensures fewer { world.new.running.meter.left ≤ world.old.running.meter.left }
 {
     ask(alloc, world, a, unary_name(op))?;
     rp_ops::unary(alloc, &world.store, op, a)
@@ -71,8 +73,7 @@ pub fn operate_unary(alloc: Global, world: &mut World, op: UnOp, a: &Value) -> R
 /// The name that is decided on the operand of a unary operator.
 #[inline(always)]
 fn unary_name(op: UnOp) -> Name
-    ensures name { result ≡ unary_name op }
-    ensures first { result.0 < 59 }
+    ensures { result ≡ unary_name op }
 {
     match op {
         UnOp::Neg => word::NEG,
@@ -108,6 +109,7 @@ fn binary(
     ensures faithful { IsFaithful world.new }
     ensures shape { KeepsShape world.old.store.heap world.new.store.heap }
     ensures sound { IfOk result (IsSound world.new.store.heap) }
+    ensures fewer { world.new.running.meter.left ≤ world.old.running.meter.left }
 {
     rp_ops::binary(
         alloc,
@@ -123,8 +125,7 @@ fn binary(
 /// The name that is decided on the left operand.
 #[inline(always)]
 fn left_name(op: BinOp) -> Name
-    ensures name { result ≡ left_name op }
-    ensures first { result.0 < 59 }
+    ensures { result ≡ left_name op }
 {
     match op {
         BinOp::Add => word::ADD,
@@ -144,8 +145,7 @@ fn left_name(op: BinOp) -> Name
 /// The name that is decided on the right operand.
 #[inline(always)]
 pub(crate) fn right_name(op: BinOp) -> Name
-    ensures name { result ≡ right_name op }
-    ensures first { result.0 < 59 }
+    ensures { result ≡ right_name op }
 {
     match op {
         BinOp::Add => word::REFLECTED_ADD,

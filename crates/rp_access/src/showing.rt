@@ -1,6 +1,7 @@
 //! The text of a value behind its decision.
 #![tactic(auto, using(rp_store::proofs::CallerLemmas::goes_on))]
 
+ghost use Rattle.std.specs.Prelude.{◌≤◌};
 ghost use Rattle.rp_meaning.specs.State.{plainly};
 ghost use Rattle.rp_proxy.specs.Faithful.{IsFaithful};
 ghost use Rattle.rp_show.specs.Show.{show};
@@ -29,6 +30,7 @@ pub fn text_of(alloc: Global, world: &mut World, value: &Value) -> Result<Text, 
     ensures law { Comes result (state_of world.new) (shown value.now (state_of world.old)) }
     ensures faithful { IsFaithful world.new }
     ensures shape { KeepsShape world.old.store.heap world.new.store.heap }
+    ensures fewer { world.new.running.meter.left ≤ world.old.running.meter.left }
 {
     ask(alloc, world, value, STR)?;
     show(alloc, world, value)
@@ -42,6 +44,7 @@ fn show(alloc: Global, world: &mut World, value: &Value) -> Result<Text, OpEnd>
         (plainly (show world.old.names value.now) (state_of world.old)) }
     ensures faithful { IsFaithful world.new }
     ensures shape { KeepsShape world.old.store.heap world.new.store.heap }
+    ensures fewer { world.new.running.meter.left ≤ world.old.running.meter.left }
 {
     rp_show::show(
         alloc,

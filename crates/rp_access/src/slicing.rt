@@ -1,7 +1,7 @@
 //! Slices behind their decision.
 #![tactic(auto, using(rp_store::proofs::CallerLemmas::goes_on))]
 
-ghost use Rattle.std.specs.Prelude.{IfOk};
+ghost use Rattle.std.specs.Prelude.{◌≤◌, IfOk};
 ghost use Rattle.rp_items.specs.Slices.{slice};
 ghost use Rattle.rp_meaning.specs.State.{plainly};
 ghost use Rattle.rp_proxy.specs.Faithful.{IsFaithful};
@@ -42,6 +42,7 @@ pub fn get_slice(
     ensures faithful { IsFaithful world.new }
     ensures shape { KeepsShape world.old.store.heap world.new.store.heap }
     ensures fit { IfOk result (IsFit world.new.store.heap side) }
+    ensures fewer { world.new.running.meter.left ≤ world.old.running.meter.left }
 {
     ask(alloc, world, o, GET_ITEM)?;
     let value = slice(alloc, world, o, parts)?;
@@ -58,6 +59,7 @@ fn slice(alloc: Global, world: &mut World, o: &Value, parts: SliceParts<'_>) -> 
     ensures faithful { IsFaithful world.new }
     ensures shape { KeepsShape world.old.store.heap world.new.store.heap }
     ensures sound { IfOk result (IsSound world.new.store.heap) }
+    ensures fewer { world.new.running.meter.left ≤ world.old.running.meter.left }
 {
     rp_items::slice(alloc, &mut world.store, o, parts)
 }

@@ -1,7 +1,7 @@
 //! What is spread over the arguments of a call.
 #![tactic(auto, using(rp_store::proofs::CallerLemmas::goes_on))]
 
-ghost use Rattle.std.specs.Prelude.{◌≡◌, All, IfOk, IfSome, MatchOption, None, Some, map, option_map};
+ghost use Rattle.std.specs.Prelude.{◌≤◌, ◌≡◌, All, IfOk, IfSome, MatchOption, None, Some, map, option_map};
 ghost use Rattle.std.specs.Option.{option_and_then};
 ghost use Rattle.rp_meaning.specs.Calls.{all_named, content_named, entries_named};
 ghost use Rattle.rp_meaning.specs.Frame.{through};
@@ -48,6 +48,7 @@ pub fn spread(
     ensures faithful { IsFaithful world.new }
     ensures shape { KeepsShape world.old.store.heap world.new.store.heap }
     ensures fit { IfOk result (λ values. AreFit world.new.store.heap side values.items) }
+    ensures fewer { world.new.running.meter.left ≤ world.old.running.meter.left }
 {
     ask(alloc, world, value, ITER)?;
     let values = elements_of(alloc, world, value)?;
@@ -63,6 +64,7 @@ fn elements_of(alloc: Global, world: &mut World, value: &Value) -> Result<Vec<Va
     ensures faithful { IsFaithful world.new }
     ensures shape { KeepsShape world.old.store.heap world.new.store.heap }
     ensures sound { IfOk result (λ values. AreSound world.new.store.heap values.items) }
+    ensures fewer { world.new.running.meter.left ≤ world.old.running.meter.left }
 {
     elements(alloc, &mut world.store, &mut world.running.meter, value)
 }
@@ -106,6 +108,7 @@ pub fn spread_named(
     ensures faithful { IsFaithful world.new }
     ensures shape { KeepsShape world.old.store.heap world.new.store.heap }
     ensures fit { IfOk result (λ named. All (λ n. IsFit world.new.store.heap side n.1) named.items) }
+    ensures fewer { world.new.running.meter.left ≤ world.old.running.meter.left }
 {
     ask(alloc, world, value, ITEMS)?;
     match entries_named(alloc, world, side, value)? {

@@ -1,6 +1,6 @@
 //! Steps.
 
-ghost use Rattle.std.specs.Prelude.{◌≡◌};
+ghost use Rattle.std.specs.Prelude.{◌≤◌, ◌<◌, ◌≡◌, OnOk};
 ghost use Rattle.rp_proxy.specs.Faithful.{IsFaithful};
 ghost use Rattle.rp_access.specs.Comes.{Comes};
 ghost use Rattle.rp_access.specs.Moment.{state_of};
@@ -19,6 +19,8 @@ pub fn take_step(world: &mut World) -> Result<(), OpEnd>
     ensures law { Comes result (state_of world.new) (step_end (state_of world.old)) }
     ensures faithful { IsFaithful world.old → IsFaithful world.new }
     ensures store { world.new.store ≡ world.old.store }
+    ensures fewer { world.new.running.meter.left ≤ world.old.running.meter.left }
+    ensures took { OnOk result (world.new.running.meter.left < world.old.running.meter.left) }
 {
     rp_ops::step(&mut world.running.meter)
 }

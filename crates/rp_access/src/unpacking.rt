@@ -1,7 +1,7 @@
 //! The elements of values that are unpacked.
 #![tactic(auto, using(rp_store::proofs::CallerLemmas::goes_on))]
 
-ghost use Rattle.std.specs.Prelude.{◌≡◌, ◌++◌, ◌∷◌, [], ℕ, List, IfOk, OnOk, length};
+ghost use Rattle.std.specs.Prelude.{◌≤◌, ◌≡◌, ◌++◌, ◌∷◌, [], ℕ, List, IfOk, OnOk, length};
 ghost use Rattle.rp_base.specs.declared.value.Value.{Value as TheValue};
 ghost use Rattle.rp_meaning.specs.Frame.{Frame};
 ghost use Rattle.rp_meaning.specs.State.{State};
@@ -44,6 +44,7 @@ pub fn unpack(
     ensures faithful { IsFaithful world.new }
     ensures shape { KeepsShape world.old.store.heap world.new.store.heap }
     ensures fit { IfOk result (λ elements. AreFit world.new.store.heap side elements.items) }
+    ensures fewer { world.new.running.meter.left ≤ world.old.running.meter.left }
 {
     let spot = walk(alloc, world, value)?;
     all_elements(alloc, world, side, value, spot, count)
@@ -66,6 +67,7 @@ fn all_elements(
     ensures faithful { IsFaithful world.new }
     ensures shape { KeepsShape world.old.store.heap world.new.store.heap }
     ensures fit { IfOk result (λ elements. AreFit world.new.store.heap side elements.items) }
+    ensures fewer { world.new.running.meter.left ≤ world.old.running.meter.left }
 {
     let mut elements = room(alloc, count)?;
     let mut spot = spot;
@@ -109,6 +111,7 @@ fn one_element(
     ensures faithful { IsFaithful world.new }
     ensures shape { KeepsShape world.old.store.heap world.new.store.heap }
     ensures fit { IfOk result (λ found. IsFit world.new.store.heap side found.0) }
+    ensures fewer { world.new.running.meter.left ≤ world.old.running.meter.left }
 {
     match next_element(alloc, world, side, value, spot)? {
         Some(found) => Ok(found),
@@ -131,6 +134,7 @@ fn no_element(
         → TakesNone vs value.now spot frame (state_of world.old) result (state_of world.new) }
     ensures faithful { IsFaithful world.new }
     ensures shape { KeepsShape world.old.store.heap world.new.store.heap }
+    ensures fewer { world.new.running.meter.left ≤ world.old.running.meter.left }
 {
     let found = next_element(alloc, world, side, value, spot)?;
     if found.is_some() {

@@ -1,7 +1,7 @@
 //! Walks over values behind their decision.
 #![tactic(auto, using(rp_store::proofs::CallerLemmas::goes_on))]
 
-ghost use Rattle.std.specs.Prelude.{◌≡◌, [], encode_utf8_all, false, true, IfOk, IfSome, map};
+ghost use Rattle.std.specs.Prelude.{◌≤◌, ◌<◌, ◌≡◌, [], encode_utf8_all, false, true, IfOk, IfSome, map};
 ghost use Rattle.std.specs.Str.{IsCharBoundary};
 ghost use Rattle.rp_meaning.specs.State.{plainly};
 ghost use Rattle.rp_ops.specs.Outcome.{Answers, Meets};
@@ -42,6 +42,7 @@ pub fn walk(alloc: Global, world: &mut World, value: &Value) -> Result<Spot, OpE
     ensures law { Comes (walk_at value.now result) (state_of world.new) (walk_asked value.now (state_of world.old)) }
     ensures faithful { IsFaithful world.new }
     ensures shape { KeepsShape world.old.store.heap world.new.store.heap }
+    ensures fewer { world.new.running.meter.left ≤ world.old.running.meter.left }
 {
     ask(alloc, world, value, ITER)?;
     first_spot(alloc, &world.store, value)
@@ -120,6 +121,9 @@ pub fn next_element(
     ensures faithful { IsFaithful world.new }
     ensures shape { KeepsShape world.old.store.heap world.new.store.heap }
     ensures fit { IfOk result (λ found. IfSome found (λ e. IsFit world.new.store.heap side e.0)) }
+    ensures fewer { world.new.running.meter.left ≤ world.old.running.meter.left }
+    ensures took { IfOk result (λ found. IfSome found (λ _.
+        world.new.running.meter.left < world.old.running.meter.left)) }
 {
     match plain_next(alloc, world, value, spot)? {
         Some((element, next)) => Ok(Some((taken(world, element, side), next))),
@@ -141,6 +145,9 @@ fn plain_next(
     ensures faithful { IsFaithful world.new }
     ensures heap { world.new.store.heap ≡ world.old.store.heap }
     ensures sound { IfOk result (λ found. IfSome found (λ e. IsSound world.new.store.heap e.0)) }
+    ensures fewer { world.new.running.meter.left ≤ world.old.running.meter.left }
+    ensures took { IfOk result (λ found. IfSome found (λ _.
+        world.new.running.meter.left < world.old.running.meter.left)) }
 {
     value_next(
         alloc,
@@ -164,6 +171,7 @@ fn value_next(
         (next_of (cursor_at value.now spot) (plain.state_of store.old meter.old.left)) }
     ensures heap { store.new.heap ≡ store.old.heap }
     ensures sound { IfOk result (λ found. IfSome found (λ e. IsSound store.new.heap e.0)) }
+    ensures fewer { meter.new.left ≤ meter.old.left }
 {
     match value {
         Value::Rock(rock) => rock_next(alloc, store, meter, rock, spot),
@@ -202,6 +210,7 @@ fn rock_next(
         (next_of (rock_cursor rock.now spot) (plain.state_of store.old meter.old.left)) }
     ensures heap { store.new.heap ≡ store.old.heap }
     ensures sound { IfOk result (λ found. IfSome found (λ e. IsSound store.new.heap e.0)) }
+    ensures fewer { meter.new.left ≤ meter.old.left }
 {
     match rock {
         Rock::Text(text) => text_next(alloc, store, meter, text, spot),
@@ -226,6 +235,7 @@ fn text_next(
         (next_of (text_cursor text.now spot) (plain.state_of store.old meter.old.left)) }
     ensures heap { store.new.heap ≡ store.old.heap }
     ensures sound { IfOk result (λ found. IfSome found (λ e. IsSound store.new.heap e.0)) }
+    ensures fewer { meter.new.left ≤ meter.old.left }
 {
     match spot {
         Spot::Letter(next) => letter_after(alloc, store, meter, text, next),
@@ -246,6 +256,7 @@ fn letter_after(
         (next_of (characters_from (characters_at text.now next)) (plain.state_of store.old meter.old.left)) }
     ensures heap { store.new.heap ≡ store.old.heap }
     ensures sound { IfOk result (λ found. IfSome found (λ e. IsSound store.new.heap e.0)) }
+    ensures fewer { meter.new.left ≤ meter.old.left }
 {
     if !begins_at(text, next) {
         return Ok(None);
@@ -274,6 +285,7 @@ fn letter_behind(
         (next_of (characters_from (characters_at text.now next)) (plain.state_of store.old meter.old.left)) }
     ensures heap { store.new.heap ≡ store.old.heap }
     ensures sound { IfOk result (λ found. IfSome found (λ e. IsSound store.new.heap e.0)) }
+    ensures fewer { meter.new.left ≤ meter.old.left }
 {
     let mut behind = next;
     match next_letter(alloc, store, meter, text, &mut behind)? {
@@ -295,6 +307,7 @@ fn object_next(
         (next_of (object_cursor x.lent x.at spot) (plain.state_of store.old meter.old.left)) }
     ensures heap { store.new.heap ≡ store.old.heap }
     ensures sound { IfOk result (λ found. IfSome found (λ e. IsSound store.new.heap e.0)) }
+    ensures fewer { meter.new.left ≤ meter.old.left }
 {
     match spot {
         Spot::Element(next) => element_after(store, meter, x, next),
@@ -314,6 +327,7 @@ fn element_after(
     ensures plain { Meets (object_next x.lent x.at result) (plain.state_of store.now meter.new.left)
         (next_of (elements_from x.lent x.at next) (plain.state_of store.now meter.old.left)) }
     ensures sound { IfOk result (λ found. IfSome found (λ e. IsSound store.now.heap e.0)) }
+    ensures fewer { meter.new.left ≤ meter.old.left }
 {
     let mut behind = next;
     match rp_ops::next_element(store, meter, x, &mut behind)? {
@@ -336,6 +350,7 @@ fn key_after(
         (next_of (keys_from x.at next size) (plain.state_of store.old meter.old.left)) }
     ensures heap { store.new.heap ≡ store.old.heap }
     ensures sound { IfOk result (λ found. IfSome found (λ e. IsSound store.new.heap e.0)) }
+    ensures fewer { meter.new.left ≤ meter.old.left }
 {
     store.seek(x.at, next);
     key_found(alloc, store, meter, x, next, size)
@@ -354,6 +369,7 @@ fn key_found(
     ensures plain { Meets (object_next x.lent x.at result) (plain.state_of store.now meter.new.left)
         (next_of (keys_from x.at next size) (plain.state_of store.now meter.old.left)) }
     ensures sound { IfOk result (λ found. IfSome found (λ e. IsSound store.now.heap e.0)) }
+    ensures fewer { meter.new.left ≤ meter.old.left }
 {
     match store.object(x.at) {
         Object::Dict(entries) => key_in(alloc, store, meter, x, entries, next, size),
@@ -374,6 +390,7 @@ fn key_in(
     ensures plain { Meets (object_next x.lent x.at result) (plain.state_of store.now meter.new.left)
         (next_key (map key_rock entries.now) x.at next size (plain.state_of store.now meter.old.left)) }
     ensures sound { IfOk result (λ found. IfSome found (λ e. IsSound store.now.heap e.0)) }
+    ensures fewer { meter.new.left ≤ meter.old.left }
 {
     if entries.len() != size {
         return Err(Refusal::Resized.end(alloc));

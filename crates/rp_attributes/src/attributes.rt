@@ -24,8 +24,7 @@ use std::alloc::Global;
 /// # Errors
 /// - `Raised` with `AttributeError`, whose text is the name, where there is no such attribute.
 /// - `StopCells` where the cell is over the limit.
-/// - `Memory` where a growth was refused, there is none for the text of the exception, or the count of a text's owners
-///   is full.
+/// - `Memory` where a growth was refused.
 ///
 /// The store is then as before.
 pub fn attribute(

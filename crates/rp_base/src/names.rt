@@ -169,6 +169,7 @@ impl Names {
         requires { name.0 < length self.now }
         ensures word { slice_get self.now name.0 ≡ Some (chars result.now) }
         ensures identifier { IsIdentifier (chars result.now) }
+        ensures identifiers { All IsIdentifier self.now }
         ensures distinct { HoldsEachOnce self.now }
     {
         self.words.as_slice()[name.0].as_str()

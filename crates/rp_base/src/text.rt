@@ -128,15 +128,31 @@ impl Text {
         self.as_str() == word
     }
 
-    /// An equal text, which shares the characters and allocates nothing. It is refused only where
-    /// the count of its owners is full.
+    /// An equal text, which shares the characters and allocates nothing. Only where the count of their owners, of 64
+    /// bits, is full, it has characters of its own.
+    ///
+    /// # Errors
+    /// `Memory` where a growth was refused.
     #[inline(always)]
     pub fn copy(&self) -> Result<Text, Memory>
         ensures { IfOk result (λ t. t ≡ self.now) }
     {
-        Ok(Text {
-            shared: self.shared.clone()?,
-        })
+        match self.shared.clone() {
+            Ok(shared) => Ok(Text { shared }),
+            Err(_) => self.made_anew(),
+        }
+    }
+
+    /// An equal text, with characters of its own.
+    ///
+    /// # Errors
+    /// `Memory` where a growth was refused.
+    #[inline(never)]
+    fn made_anew(&self) -> Result<Text, Memory>
+        ensures { IfOk result (λ t. t ≡ self.now) }
+    {
+        let alloc = *self.shared.text.allocator();
+        Text::new(alloc, self.as_str())
     }
 }
 

@@ -99,7 +99,7 @@ pub enum Op {
 }
 
 impl Rock {
-    /// An equal rock; its text is shared. It is refused only where the count of a text's owners is full.
+    /// An equal rock; its text is shared. It is refused only for want of memory.
     #[inline(always)]
     pub fn copy(&self) -> Result<Rock, Memory>
         ensures { IfOk result (λ r. r ≡ self.now) }
@@ -117,7 +117,7 @@ impl Rock {
 }
 
 impl Value {
-    /// An equal value; its text is shared. It is refused only where the count of a text's owners is full.
+    /// An equal value; its text is shared. It is refused only for want of memory.
     #[inline(always)]
     pub fn copy(&self) -> Result<Value, Memory>
         ensures { IfOk result (λ v. v ≡ self.now) }

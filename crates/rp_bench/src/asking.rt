@@ -1,8 +1,6 @@
 //! Operations through a proxy, in turn.
 
 ghost use Rattle.std.specs.Prelude.{◌≡◌};
-ghost use Rattle.std.specs.List.{All};
-ghost use Rattle.rp_checker.specs.Answers.{IsOpHeld};
 ghost use Rattle.rp_proxy.specs.Faithful.{IsFaithful};
 ghost use Rattle.rp_store.specs.Heap.{IsHeld};
 
@@ -21,7 +19,6 @@ pub fn rounds(
 ) -> Result<u64, Failure>
     requires faithful { IsFaithful world.old }
     requires held { IsHeld world.old.store.heap at }
-    requires named { All (IsOpHeld world.old.names) ops.now }
 {
     let mut passed: u64 = 0;
     let mut asked: u64 = 0;
@@ -39,9 +36,7 @@ pub fn rounds(
 fn round(alloc: Global, world: &mut World, at: Oid, ops: &[Op], before: u64) -> Result<u64, Failure>
     requires faithful { IsFaithful world.old }
     requires held { IsHeld world.old.store.heap at }
-    requires named { All (IsOpHeld world.old.names) ops.now }
     ensures faithful { IsFaithful world.new }
-    ensures names { world.new.names ≡ world.old.names }
     ensures heap { world.new.store.heap ≡ world.old.store.heap }
 {
     let mut passed = before;
@@ -58,9 +53,7 @@ fn round(alloc: Global, world: &mut World, at: Oid, ops: &[Op], before: u64) -> 
 fn ask(alloc: Global, world: &mut World, at: Oid, op: Op) -> Result<bool, Failure>
     requires faithful { IsFaithful world.old }
     requires held { IsHeld world.old.store.heap at }
-    requires named { IsOpHeld world.old.names op }
     ensures faithful { IsFaithful world.new }
-    ensures names { world.new.names ≡ world.old.names }
     ensures heap { world.new.store.heap ≡ world.old.store.heap }
 {
     is_passed(cross(alloc, world, &Value::Prox(at), op))
@@ -72,7 +65,8 @@ fn is_passed(decided: Result<(), OpEnd>) -> Result<bool, Failure> {
     match decided {
         Ok(()) => Ok(true),
         Err(OpEnd::Raised(_)) => Ok(false),
-        Err(_) => Err(Failure::Memory),
+        Err(OpEnd::Memory) => Err(Failure::Memory),
+        Err(_) => Err(Failure::Answer),
     }
 }
 

@@ -4,6 +4,7 @@
 // binds the arguments of a call N times.
 
 use crate::failure::Failure;
+use crate::words::asked_for;
 use crate::{calls, functions, methods, values};
 use rp_base::NativeId;
 use std::alloc::Global;
@@ -11,20 +12,10 @@ use std::rt::Env;
 
 /// Does what the words behind the first ask for.
 pub(crate) fn run<R: Env + AllocGlobal>(rt: &R) -> Result<(), Failure> {
-    let Ok(words) = std::env::args(rt) else {
-        return Err(Failure::Memory);
-    };
-    let mut words = words.skip(2);
-    let Some(what) = words.next() else {
+    let Some(asked) = asked_for(rt)? else {
         return Ok(());
     };
-    let Some(turns) = words.next() else {
-        return Ok(());
-    };
-    let Ok(turns) = turns.parse::<u64>() else {
-        return Ok(());
-    };
-    call(rt.alloc(), what.as_str(), turns)
+    call(rt.alloc(), asked.what.as_str(), asked.turns)
 }
 
 /// Does a call so many times.

@@ -4,10 +4,11 @@ ghost use Rattle.rp_store.specs.Heap.{Owned};
 ghost use Rattle.rp_store.specs.Kept.{AreSound};
 
 use crate::failure::Failure;
-use crate::values::{SIDE, is_function, seed, store, values};
+use crate::values::{SIDE, seed, store, values};
 use rp_base::{Line, Name, Names, Oid, Rock, Value};
 use rp_calls::bind;
 use rp_store::{Object, Store};
+use rp_tests_parts::is_function;
 use rp_tree::{Named, Params};
 use std::alloc::Global;
 

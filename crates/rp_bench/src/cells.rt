@@ -1,14 +1,11 @@
 //! Objects of one size, as many as their cells.
-ghost use Rattle.std.specs.Prelude.{IsTrue};
-ghost use Rattle.rp_store.specs.Heap.{Names as IsAt};
-ghost use Rattle.rp_store.specs.Parts.{IsDict, IsList};
 
 use crate::failure::Failure;
-use crate::objects::{is_class, is_instance};
-use crate::operator_loops::{seed, store};
+use crate::values::{seed, store};
 use rp_base::{Name, Oid, Rock, Side, Value};
 use rp_dict::Dict;
 use rp_store::{Object, Store};
+use rp_tests_parts::{is_class, is_dict, is_instance, is_list};
 use std::alloc::Global;
 
 /// A store of so many cells of lists, dicts or instances with so many entries each.
@@ -93,16 +90,4 @@ fn set_field(store: &mut Store, at: Oid, name: Name, n: i64) -> Result<(), Failu
     }
     store.set_field(at, name, Value::Rock(Rock::Int(n)))?;
     Ok(())
-}
-
-fn is_list(store: &Store, at: Oid) -> bool
-    ensures { IsTrue result → IsAt store.now.heap IsList at }
-{
-    at.0 < store.len() && matches!(store.object(at), Object::List(_))
-}
-
-fn is_dict(store: &Store, at: Oid) -> bool
-    ensures { IsTrue result → IsAt store.now.heap IsDict at }
-{
-    at.0 < store.len() && matches!(store.object(at), Object::Dict(_))
 }

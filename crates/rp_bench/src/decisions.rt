@@ -13,10 +13,7 @@ use std::rt::Env;
 /// Does what the words behind the first ask for.
 pub(crate) fn run<R: Env + AllocGlobal>(rt: &R) -> Result<(), Failure> {
     let alloc = rt.alloc();
-    let Ok(words) = std::env::args(rt) else {
-        return Err(Failure::Memory);
-    };
-    let mut words = words.skip(2);
+    let mut words = std::env::args(rt)?.skip(2);
     let (Some(what), Some(classes), Some(turns)) = (words.next(), words.next(), words.next()) else {
         return Ok(());
     };

@@ -4,6 +4,7 @@
 // N` looks up N rows of a class with 100 names.
 
 use crate::failure::Failure;
+use crate::words::asked_for;
 use rp_base::{ClassTag, Names, Op, Seed, Text};
 use rp_checker::Checkers;
 use rp_decl::{Decl, Perm, Row, declarations};
@@ -16,20 +17,13 @@ const NAMES: usize = 100;
 
 /// Does what the words behind the first ask for.
 pub(crate) fn run<R: Env + AllocGlobal>(rt: &R) -> Result<(), Failure> {
+    let Some(asked) = asked_for(rt)? else {
+        return Ok(());
+    };
     let alloc = rt.alloc();
-    let Ok(words) = std::env::args(rt) else {
-        return Err(Failure::Memory);
-    };
-    let mut words = words.skip(2);
-    let (Some(what), Some(turns)) = (words.next(), words.next()) else {
-        return Ok(());
-    };
-    let Ok(turns) = turns.parse::<u64>() else {
-        return Ok(());
-    };
-    match (what.as_str(), words.next()) {
-        ("decide", None) => decide(alloc, turns),
-        ("row", None) => rows(alloc, turns),
+    match (asked.what.as_str(), asked.more.as_ref()) {
+        ("decide", None) => decide(alloc, asked.turns),
+        ("row", None) => rows(alloc, asked.turns),
         _ => Ok(()),
     }
 }

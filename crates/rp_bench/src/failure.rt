@@ -7,12 +7,15 @@ use rp_parse::ParseFault;
 use rp_store::StoreFault;
 use rp_token::TokenFault;
 use std::alloc::{AllocError, AllocFailed};
+use std::io::{Error, ErrorKind};
 
 /// Why the loop was not run, or did not give what it should.
 #[derive(Drop)]
 pub enum Failure {
     /// A growth was refused.
     Memory,
+    /// A word of the command line is no UTF-8.
+    Words,
     /// The declarations are not read.
     Declarations,
     /// The script is not read.
@@ -36,6 +39,16 @@ impl From<AllocError> for Failure {
 impl<T: Drop> From<AllocFailed<T>> for Failure {
     fn from(_: AllocFailed<T>) -> Self {
         Failure::Memory
+    }
+}
+
+impl From<Error> for Failure {
+    fn from(error: Error) -> Self {
+        if error.kind() == ErrorKind::OutOfMemory {
+            Failure::Memory
+        } else {
+            Failure::Words
+        }
     }
 }
 
@@ -64,8 +77,11 @@ impl From<ParseFault> for Failure {
 }
 
 impl From<StoreFault> for Failure {
-    fn from(_: StoreFault) -> Self {
-        Failure::Memory
+    fn from(fault: StoreFault) -> Self {
+        match fault {
+            StoreFault::Cells => Failure::Answer,
+            StoreFault::Memory => Failure::Memory,
+        }
     }
 }
 

@@ -1,14 +1,13 @@
 //! What a script would do to slow or swell the interpreter.
-ghost use Rattle.std.specs.Prelude.{IsTrue};
-ghost use Rattle.rp_store.specs.Heap.{IsHeld, Names as IsAt};
-ghost use Rattle.rp_store.specs.Parts.{IsList};
 
 use crate::failure::Failure;
-use crate::operator_loops::{front, set, with_dict};
+use crate::operator_loops::set;
+use crate::values::{front, with_dict};
 use rp_base::{Oid, OpEnd, Raised, Rock, Side, Text, Value};
 use rp_items::item;
 use rp_ops::new_object;
 use rp_store::{Object, Store};
+use rp_tests_parts::is_list;
 use std::alloc::Global;
 use std::io::BufRead;
 
@@ -67,11 +66,4 @@ fn keep(store: &mut Store, list: Oid, raised: Raised) -> Result<(), Failure> {
     let value = Value::Rock(Rock::Exc(raised.kind, raised.text));
     store.push(list, value)?;
     Ok(())
-}
-
-fn is_list(store: &Store, at: Oid) -> bool
-    requires { IsHeld store.now.heap at }
-    ensures { IsTrue result → IsAt store.now.heap IsList at }
-{
-    matches!(store.object(at), Object::List(_))
 }

@@ -21,6 +21,7 @@ mod parsing;
 mod setting;
 mod texts;
 mod values;
+mod words;
 
 use failure::Failure;
 use std::io::Input;
@@ -28,27 +29,26 @@ use std::process::ExitCode;
 use std::rt::Env;
 
 fn main(rt: HostRuntime) -> ExitCode {
-    match std::env::args(&rt) {
-        Ok(words) => match words.skip(1).next() {
-            Some(area) => status_of(&rt, area.as_str()),
-            None => ExitCode::from(0),
-        },
-        Err(_) => ExitCode::from(8),
-    }
-}
-
-/// Runs a loop of an area, and gives its status.
-fn status_of<R: Env + Input + AllocGlobal>(rt: &R, area: &str) -> ExitCode {
-    match run(rt, area) {
+    match run(&rt) {
         Ok(()) => ExitCode::from(0),
         Err(Failure::Memory) => ExitCode::from(8),
+        Err(Failure::Words) => ExitCode::from(2),
         Err(Failure::Declarations) => ExitCode::from(3),
         Err(Failure::Script) => ExitCode::from(4),
         Err(Failure::Answer) => ExitCode::from(1),
     }
 }
 
-fn run<R: Env + Input + AllocGlobal>(rt: &R, area: &str) -> Result<(), Failure> {
+/// Runs a loop of the area that the first word says.
+fn run<R: Env + Input + AllocGlobal>(rt: &R) -> Result<(), Failure> {
+    let mut words = std::env::args(rt)?.skip(1);
+    match words.next() {
+        Some(area) => run_area(rt, area.as_str()),
+        None => Ok(()),
+    }
+}
+
+fn run_area<R: Env + Input + AllocGlobal>(rt: &R, area: &str) -> Result<(), Failure> {
     match area {
         "parse" => parsing::run(rt),
         "declarations" => declaring::run(rt),

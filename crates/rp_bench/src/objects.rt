@@ -1,15 +1,14 @@
 //! Loops over the attributes of instances.
 ghost use Rattle.std.specs.Prelude.{IfSome, IsTrue};
-ghost use Rattle.rp_store.specs.Heap.{Names as IsAt};
 ghost use Rattle.rp_store.specs.Kept.{IsScopeOf, IsSound};
-ghost use Rattle.rp_store.specs.Parts.{IsClass, IsFunction, IsInstance};
 
 use crate::failure::Failure;
-use crate::operator_loops::{seed, store};
+use crate::values::{seed, store};
 use rp_attributes::attribute;
 use rp_base::{Name, Names, Oid, Rock, Side, Value};
 use rp_dict::Dict;
 use rp_store::{Object, Store};
+use rp_tests_parts::{is_class, is_function, is_instance};
 use std::alloc::Global;
 
 /// The place of the instance: a scope, a function and a class stand before it.
@@ -111,24 +110,6 @@ fn is_scope(store: &Store, at: Oid) -> bool
     at.0 < store.len()
         && store.owner(at) == Side(1)
         && matches!(store.object(at), Object::Scope { .. })
-}
-
-fn is_function(store: &Store, at: Oid) -> bool
-    ensures { IsTrue result → IsAt store.now.heap IsFunction at }
-{
-    at.0 < store.len() && matches!(store.object(at), Object::Function { .. })
-}
-
-pub(crate) fn is_class(store: &Store, at: Oid) -> bool
-    ensures { IsTrue result → IsAt store.now.heap IsClass at }
-{
-    at.0 < store.len() && matches!(store.object(at), Object::Class { .. })
-}
-
-pub(crate) fn is_instance(store: &Store, at: Oid) -> bool
-    ensures { IsTrue result → IsAt store.now.heap IsInstance at }
-{
-    at.0 < store.len() && matches!(store.object(at), Object::Instance { .. })
 }
 
 /// A reference to the instance.

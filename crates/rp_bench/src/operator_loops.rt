@@ -1,54 +1,18 @@
 //! Loops over the plain operators on numbers, lists and dicts, each on one store.
-ghost use Rattle.std.specs.Prelude.{List, IfOk, IfSome, IsTrue};
-ghost use Rattle.rp_store.specs.Heap.{IsHeld, Names as IsAt, Owned};
+ghost use Rattle.std.specs.Prelude.{List, IfOk};
+ghost use Rattle.rp_store.specs.Heap.{Owned};
 ghost use Rattle.rp_store.specs.Kept.{AreSound, IsSound};
-ghost use Rattle.rp_store.specs.Parts.{IsList};
 
 use crate::failure::Failure;
-use rp_base::{BinOp, CmpOp, Meter, Names, Oid, OpEnd, Rock, Seed, Side, Value};
+use crate::values::{ELEMENTS, FRONT, SIDE, front, seed, small, store, with_dict};
+use rp_base::{BinOp, CmpOp, Meter, Names, OpEnd, Rock, Value};
 use rp_compare::{compare, contains};
-use rp_dict::Dict;
 use rp_items::{SliceParts, del_item, item, set_item, slice};
 use rp_ops::{binary, elements, new_object};
 use rp_show::show;
 use rp_store::{Object, Store};
+use rp_tests_parts::is_list;
 use std::alloc::Global;
-
-/// How many elements the list has that is read and shown.
-const ELEMENTS: i64 = 1_000;
-
-/// Where the list or dict stands that a loop works on: it is made first.
-const FRONT: Oid = Oid(0);
-
-/// The seed of the tables: times are to repeat.
-pub(crate) fn seed() -> Seed {
-    Seed::from_bytes([7; 16])
-}
-
-/// An empty store.
-pub(crate) fn store(alloc: Global) -> Store {
-    Store::new(alloc, u64::MAX, seed())
-}
-
-/// A number made in each turn, as the other loops make it.
-pub(crate) fn idle(turns: u64) -> Result<(), Failure> {
-    let mut sum = 0i64;
-    for turn in 0..turns {
-        sum = sum.wrapping_add(touched(&Value::Rock(Rock::Int(small(turn)))));
-    }
-    if sum < 0 {
-        return Err(Failure::Answer);
-    }
-    Ok(())
-}
-
-#[inline(never)]
-fn touched(value: &Value) -> i64 {
-    match value {
-        Value::Rock(Rock::Int(n)) => *n,
-        _ => 0,
-    }
-}
 
 /// `x + 1`.
 pub(crate) fn add(alloc: Global, turns: u64) -> Result<(), Failure> {
@@ -57,7 +21,7 @@ pub(crate) fn add(alloc: Global, turns: u64) -> Result<(), Failure> {
     for turn in 0..turns {
         let x = Value::Rock(Rock::Int(small(turn)));
         let one = Value::Rock(Rock::Int(1));
-        binary(alloc, &mut store, &mut meter, Side(1), BinOp::Add, &x, &one)?;
+        binary(alloc, &mut store, &mut meter, SIDE, BinOp::Add, &x, &one)?;
     }
     Ok(())
 }
@@ -124,7 +88,7 @@ pub(crate) fn seek(alloc: Global, turns: u64) -> Result<(), Failure> {
 pub(crate) fn equate(alloc: Global, turns: u64) -> Result<(), Failure> {
     let mut store = list_of(alloc, 10)?;
     let other = Object::List(numbers(alloc, 10)?);
-    let other = new_object(&mut store, Side(1), other)?;
+    let other = new_object(&mut store, SIDE, other)?;
     let mut meter = Meter { left: u64::MAX };
     for _ in 0..turns {
         let Some(list) = front(&store) else {
@@ -226,11 +190,6 @@ pub(crate) fn show_list(alloc: Global, turns: u64) -> Result<(), Failure> {
     Ok(())
 }
 
-/// A number below the length of the list.
-pub(crate) fn small(turn: u64) -> i64 {
-    (turn % 1_000) as i64
-}
-
 /// The next key of a dict of the numbers below one.
 fn next(key: i64, stride: i64, entries: i64) -> i64 {
     let next = key.wrapping_add(stride);
@@ -256,15 +215,7 @@ fn numbers(alloc: Global, count: i64) -> Result<Vec<Value>, Failure>
 fn list_of(alloc: Global, count: i64) -> Result<Store, Failure> {
     let mut store = store(alloc);
     let list = Object::List(numbers(alloc, count)?);
-    new_object(&mut store, Side(1), list)?;
-    Ok(store)
-}
-
-/// A store with an empty dict.
-pub(crate) fn with_dict(alloc: Global) -> Result<Store, Failure> {
-    let mut store = store(alloc);
-    let dict = Object::Dict(Dict::new(alloc, seed()));
-    new_object(&mut store, Side(1), dict)?;
+    new_object(&mut store, SIDE, list)?;
     Ok(store)
 }
 
@@ -294,24 +245,4 @@ fn del(alloc: Global, store: &mut Store, key: i64) -> Result<(), Failure> {
     };
     del_item(alloc, store, &dict, &Value::Rock(Rock::Int(key)))?;
     Ok(())
-}
-
-/// A reference to the list or dict that was made first.
-pub(crate) fn front(store: &Store) -> Option<Value>
-    ensures { IfSome result (λ v. IsSound store.now.heap v) }
-{
-    if FRONT.0 >= store.len() {
-        return None;
-    }
-    match store.object(FRONT) {
-        Object::List(_) | Object::Dict(_) => Some(Value::Ref(FRONT)),
-        _ => None,
-    }
-}
-
-fn is_list(store: &Store, at: Oid) -> bool
-    requires { IsHeld store.now.heap at }
-    ensures { IsTrue result → IsAt store.now.heap IsList at }
-{
-    matches!(store.object(at), Object::List(_))
 }

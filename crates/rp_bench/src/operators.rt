@@ -5,7 +5,7 @@
 // key of a dict.
 
 use crate::failure::Failure;
-use crate::{cells, hostile, objects, operator_loops, texts};
+use crate::{cells, hostile, objects, operator_loops, texts, values};
 use std::alloc::Global;
 use std::io::{BufReader, Input};
 use std::rt::Env;
@@ -13,10 +13,7 @@ use std::rt::Env;
 /// Does what the words behind the first ask for.
 pub(crate) fn run<R: Env + Input + AllocGlobal>(rt: &R) -> Result<(), Failure> {
     let alloc = rt.alloc();
-    let Ok(words) = std::env::args(rt) else {
-        return Err(Failure::Memory);
-    };
-    let mut words = words.skip(2);
+    let mut words = std::env::args(rt)?.skip(2);
     let Some(what) = words.next() else {
         return Ok(());
     };
@@ -53,7 +50,7 @@ const FAR: i64 = 618_033;
 /// Does an operation so many times.
 fn operate(alloc: Global, what: &str, turns: u64) -> Result<(), Failure> {
     match what {
-        "idle" => operator_loops::idle(turns),
+        "idle" => values::idle(turns),
         "add" => operator_loops::add(alloc, turns),
         "get_item" => operator_loops::get_item(alloc, turns),
         "slice_list" => operator_loops::slice_list(alloc, turns),

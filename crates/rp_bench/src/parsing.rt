@@ -4,6 +4,7 @@
 // TEXT` its tree too.
 
 use crate::failure::Failure;
+use crate::words::asked_for;
 use rp_base::{Names, Seed};
 use rp_parse::parse;
 use rp_token::tokens;
@@ -12,20 +13,13 @@ use std::rt::Env;
 
 /// Does what the words behind the first ask for.
 pub(crate) fn run<R: Env + AllocGlobal>(rt: &R) -> Result<(), Failure> {
+    let Some(asked) = asked_for(rt)? else {
+        return Ok(());
+    };
     let alloc = rt.alloc();
-    let Ok(words) = std::env::args(rt) else {
-        return Err(Failure::Memory);
-    };
-    let mut words = words.skip(2);
-    let (Some(what), Some(turns)) = (words.next(), words.next()) else {
-        return Ok(());
-    };
-    let Ok(turns) = turns.parse::<u64>() else {
-        return Ok(());
-    };
-    match (what.as_str(), words.next()) {
-        ("tokens", Some(text)) => script(alloc, text.as_str(), turns, false),
-        ("tree", Some(text)) => script(alloc, text.as_str(), turns, true),
+    match (asked.what.as_str(), asked.more.as_ref()) {
+        ("tokens", Some(text)) => script(alloc, text.as_str(), asked.turns, false),
+        ("tree", Some(text)) => script(alloc, text.as_str(), asked.turns, true),
         _ => Ok(()),
     }
 }

@@ -1,10 +1,8 @@
 //! A world with an object of a declared class, and the operations that are asked of it.
 
 ghost use Rattle.std.specs.Prelude.{◌≡◌, ℕ, List, [], ◌∷◌, ◌++◌, IfOk, OnOk, length};
-ghost use Rattle.std.specs.List.{All};
 ghost use Rattle.rp_base.specs.Names.{first_words};
 ghost use Rattle.rp_bench.specs.Setting.{IsClassAt, class_owned, object_owned};
-ghost use Rattle.rp_checker.specs.Answers.{IsOpHeld};
 ghost use Rattle.rp_decl.specs.Consistency.{IsConsistent};
 ghost use Rattle.rp_decl.specs.InOrder.{AreInOrder};
 ghost use Rattle.rp_decl.specs.Places.{GrowsTo, IsHeld as IsNameHeld, IsHeldBy};
@@ -175,9 +173,7 @@ fn place_object(alloc: Global, seed: Seed, class: Oid, store: &mut Store) -> Res
 }
 
 /// What is asked in turn, by the word for it.
-pub fn operations(alloc: Global, names: &Names, what: &str) -> Result<Vec<Op>, Failure>
-    ensures { IfOk result (λ ops. All (IsOpHeld names.now) ops.items) }
-{
+pub fn operations(alloc: Global, names: &Names, what: &str) -> Result<Vec<Op>, Failure> {
     let mut ops = Vec::new(alloc);
     if what == "many" {
         for place in 0..MANY {
@@ -194,10 +190,7 @@ pub fn operations(alloc: Global, names: &Names, what: &str) -> Result<Vec<Op>, F
 }
 
 /// Adds the reading of a name.
-fn push_reading(ops: &mut Vec<Op>, names: &Names, word: &str) -> Result<(), Failure>
-    requires { All (IsOpHeld names.now) ops.old.items }
-    ensures { OnOk result (All (IsOpHeld names.now) ops.new.items) }
-{
+fn push_reading(ops: &mut Vec<Op>, names: &Names, word: &str) -> Result<(), Failure> {
     let name = name_of(names, word)?;
     ops.push(Op::Get(name))?;
     Ok(())

@@ -1,7 +1,8 @@
 //! Loops over texts.
 
 use crate::failure::Failure;
-use crate::operator_loops::{slice_between, store};
+use crate::operator_loops::slice_between;
+use crate::values::store;
 use rp_base::{BinOp, Meter, Rock, Side, Text, Value};
 use rp_items::item;
 use rp_ops::binary;

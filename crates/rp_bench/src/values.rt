@@ -1,8 +1,7 @@
 //! The values that the loops work on, each in a store of its own.
-ghost use Rattle.std.specs.Prelude.{List, IfOk, IfSome, IsTrue};
-ghost use Rattle.rp_store.specs.Heap.{Names as IsAt, Owned};
+ghost use Rattle.std.specs.Prelude.{List, IfOk, IfSome};
+ghost use Rattle.rp_store.specs.Heap.{Owned};
 ghost use Rattle.rp_store.specs.Kept.{AreSound, IsSound};
-ghost use Rattle.rp_store.specs.Parts.{IsFunction};
 
 use crate::failure::Failure;
 use rp_base::{Oid, Rock, Seed, Side, Text, Value};
@@ -18,7 +17,7 @@ pub(crate) const SIDE: Side = Side(1);
 pub(crate) const ELEMENTS: i64 = 1_000;
 
 /// Where the list or dict stands that a loop works on: it is made first.
-const FRONT: Oid = Oid(0);
+pub(crate) const FRONT: Oid = Oid(0);
 
 /// The seed of the tables: times are to repeat.
 pub(crate) fn seed() -> Seed {
@@ -34,7 +33,7 @@ pub(crate) fn store(alloc: Global) -> Store {
 pub(crate) fn idle(turns: u64) -> Result<(), Failure> {
     let mut sum = 0i64;
     for turn in 0..turns {
-        sum = sum.wrapping_add(touched(&small(turn)));
+        sum = sum.wrapping_add(touched(&Value::Rock(Rock::Int(small(turn)))));
     }
     if sum < 0 {
         return Err(Failure::Answer);
@@ -51,8 +50,8 @@ fn touched(value: &Value) -> i64 {
 }
 
 /// A number below the length of the lists.
-fn small(turn: u64) -> Value {
-    Value::Rock(Rock::Int((turn % 1_000) as i64))
+pub(crate) fn small(turn: u64) -> i64 {
+    (turn % 1_000) as i64
 }
 
 /// The numbers below the length of the lists, each once and in no order.
@@ -138,11 +137,4 @@ pub(crate) fn front(store: &Store) -> Option<Value>
         Object::List(_) | Object::Dict(_) => Some(Value::Ref(FRONT)),
         _ => None,
     }
-}
-
-/// Whether the object at a place is a function.
-pub(crate) fn is_function(store: &Store, at: Oid) -> bool
-    ensures { IsTrue result → IsAt store.now.heap IsFunction at }
-{
-    at.0 < store.len() && matches!(store.object(at), Object::Function { .. })
 }

@@ -34,8 +34,7 @@ use std::alloc::Global;
 ///   name is given twice, or a parameter stays empty. The store is then as before.
 /// - `StopCells` where the cells of the tuple are over the limit, the store being as before, or then those of the dict,
 ///   where the tuple is made.
-/// - `Memory` where a growth was refused, there is none for the text of the exception, or the count of a text's owners
-///   is full.
+/// - `Memory` where a growth was refused.
 pub fn bind(
     alloc: Global,
     store: &mut Store,
@@ -119,8 +118,8 @@ fn no_binding(alloc: Global) -> OpEnd
 /// The slots with that of `*NAME`, where there is such a parameter.
 ///
 /// # Errors
-/// `StopCells` where the cells of the tuple are over the limit, `Memory` where a growth was refused, or the count of a
-/// text's owners is full. The store is then as before.
+/// `StopCells` where the cells of the tuple are over the limit, `Memory` where a growth was refused. The store is then
+/// as before.
 fn with_list(
     alloc: Global,
     store: &mut Store,

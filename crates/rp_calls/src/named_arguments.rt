@@ -61,7 +61,7 @@ impl<'a> NamedArguments<'a> {
     /// filled twice or stays empty.
     ///
     /// # Errors
-    /// `Memory` where the count of a text's owners is full.
+    /// `Memory` where a growth was refused.
     pub fn sole(
         &self,
         first: Option<&Value>,
@@ -111,7 +111,7 @@ fn note<'a>(table: &mut Table<'a>, name: &'a str, value: &'a Value) -> Result<()
 /// The value of a parameter that its place may fill: of an argument by its name, what a table has.
 ///
 /// # Errors
-/// `Memory` where the count of a text's owners is full.
+/// `Memory` where a growth was refused.
 fn chosen(
     first: Option<&Value>,
     held: Option<Option<&Value>>,

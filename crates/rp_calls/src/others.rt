@@ -17,7 +17,7 @@ use std::alloc::Global;
 /// place. None also where a name is given twice.
 ///
 /// # Errors
-/// `Memory` where a growth was refused, or the count of a text's owners is full.
+/// `Memory` where a growth was refused.
 pub fn entries_for(
     alloc: Global,
     seed: Seed,
@@ -42,7 +42,7 @@ pub fn entries_for(
 /// is given twice.
 ///
 /// # Errors
-/// `Memory` where a growth was refused, or the count of a text's owners is full.
+/// `Memory` where a growth was refused.
 fn other_entries(
     alloc: Global,
     seed: Seed,
@@ -69,7 +69,7 @@ fn other_entries(
 /// Adds an entry with a new name last, and answers whether the name is new.
 ///
 /// # Errors
-/// `Memory` where a growth was refused, or the count of a text's owners is full.
+/// `Memory` where a growth was refused.
 fn add(entries: &mut Dict<Key, (Rock, Value)>, name: &Text, value: &Value) -> Result<bool, Memory>
     ensures is_new { IfOk result (λ is_new. not is_new ≡ is_some (lookup (same_key (Key.Text name.now)) entries.old)) }
     ensures added { IfOk result (λ is_new. IsTrue is_new → entries.new

@@ -14,7 +14,7 @@ use std::alloc::Global;
 /// A slot with its value for each parameter without a star; None where one is filled twice or stays empty.
 ///
 /// # Errors
-/// `Memory` where a growth was refused, or the count of a text's owners is full.
+/// `Memory` where a growth was refused.
 pub fn plain_slots(
     alloc: Global,
     seed: Seed,
@@ -34,7 +34,7 @@ pub fn plain_slots(
 /// The same, of arguments by name that are found.
 ///
 /// # Errors
-/// `Memory` where a growth was refused, or the count of a text's owners is full.
+/// `Memory` where a growth was refused.
 #[tactic(auto, using(crate::proofs::Slots::slots_put))]
 fn slots_from(
     alloc: Global,
@@ -65,7 +65,7 @@ fn slots_from(
 /// The value of a parameter, to which these arguments and defaults are left.
 ///
 /// # Errors
-/// `Memory` where the count of a text's owners is full.
+/// `Memory` where a growth was refused.
 fn value_at(
     names: &Names,
     parameter: Named,
@@ -106,7 +106,7 @@ fn defaults_after(has_default: bool, defaults: &[Value]) -> &[Value]
 /// empty.
 ///
 /// # Errors
-/// `Memory` where the count of a text's owners is full.
+/// `Memory` where a growth was refused.
 pub fn sole(
     first: Option<&Value>,
     named: &[(Text, Value)],
@@ -132,7 +132,7 @@ pub fn sole(
 /// A copy of a value, else of another.
 ///
 /// # Errors
-/// `Memory` where the count of a text's owners is full.
+/// `Memory` where a growth was refused.
 pub fn copied(found: Option<&Value>, default: Option<&Value>) -> Result<Option<Value>, Memory>
     ensures { IfOk result (λ r. r ≡ sole (option_to_list (option_copied found.entry)) (option_copied default.entry)) }
 {

@@ -1,10 +1,10 @@
 -- Checkers whose rows are those of the classes answer as the declarations say.
-use Rattle.std.proofs.Common.{◌≡◌, refl, sym, ap, ◌∙◌, ℕ, zero, suc, ◌+◌, ◌<◌, ◌≤◌, ◌⊎◌, inl, inr, Bool, true, false, true≢false, cond, ◌||◌, List, [], ◌∷◌, ◌++◌, append_assoc, length, map, get_or, Option, Some, None, arith, nat_eq, eq-eqb}
+use Rattle.std.proofs.Common.{◌≡◌, refl, sym, ap, subst, ◌∙◌, ℕ, zero, suc, ◌+◌, ◌<◌, ◌≤◌, ◌≢◌, ◌⊎◌, inl, inr, Bool, true, false, true≢false, cond, ◌||◌, List, [], ◌∷◌, ◌++◌, append_assoc, length, map, get_or, Option, Some, None, arith, nat_eq, eq-eqb}
 use Rattle.std.specs.List.{All, filter, find, slice_get}
 use Rattle.std.specs.Option.{IfSome, option_and_then, option_map, option_or}
 use Rattle.std.specs.Map.{lookup}
 use Rattle.std.proofs.lemmas.Bool.{cases_lt, eqb-true}
-use Rattle.std.proofs.lemmas.List.{get_or-map, length-map, length_push}
+use Rattle.std.proofs.lemmas.List.{get_or-map, get_or_past, length-map, length_push}
 use Rattle.std.proofs.lemmas.List.Elements.{All-head, All-tail}
 use Rattle.std.proofs.lemmas.Option.{get_or_from_slice_get, slice_get-get_or, slice_get_within}
 use Rattle.rp_base.specs.Names.{HoldsEachOnce}
@@ -22,7 +22,7 @@ use Rattle.rp_decl.specs.declared.row.Row.{Row}
 use Rattle.rp_decl.specs.declared.row.Row.TheVariants.{Public, Needs}
 use Rattle.rp_base.specs.declared.value.Op.{Op}
 use Rattle.rp_base.specs.declared.value.Op.TheVariants.{Get, Set}
-use Rattle.rp_checker.specs.Answers.{IsOpHeld, IsReadWith, operation_view, row_view}
+use Rattle.rp_checker.specs.Answers.{HasWords, IsForWord, IsReadWith, operation_view, row_view}
 use Rattle.rp_checker.specs.Chain.{class_places, like_place, own_permission, row_needing, row_within}
 use Rattle.rp_checker.specs.RowOf as text
 use Rattle.rp_checker.specs.Lookup.{is_name}
@@ -46,12 +46,26 @@ same_text-places names i j once here there = by (nat_eq i j) refl (same_text (te
         let one : i ≡ j = once i j (text_at names i) (text_stands names i here) (text_stands names j there ∙ ap Some (sym equal)) in
         absurd (true≢false (sym (eq-eqb i j one) ∙ e))
 
+-- the same where the first is at no place, and the second not empty
+pub same_text-at : (names : List (List ℕ)) (i j : ℕ) → HoldsEachOnce names → j < length names → text_at names j ≢ [] → same_text (text_at names i) (text_at names j) ≡ nat_eq i j
+same_text-at names i j once there some = elim (cases_lt i (length names)) [
+  | inl here ↦ same_text-places names i j once here there
+  | inr past ↦ by past (nat_eq i j) refl (same_text (text_at names i) (text_at names j)) refl
+]
+  where
+    by : length names ≤ i → (b : Bool) → nat_eq i j ≡ b → (s : Bool) → same_text (text_at names i) (text_at names j) ≡ s → s ≡ b
+    by past true e s t = let one : i ≡ j = eqb-true i j e in absurd (omega arith)
+    by past false e true t = absurd (some (sym (same_text-equal _ _ t) ∙ get_or_past names i [] past))
+    by past false e false t = refl
+
 -- the permission of a name among rows
-pub lookup-rows : (names permissions : List (List ℕ)) (name : Name) (rows : List (Name × Perm)) → HoldsEachOnce names → IsHeld names name → All (λ row. IsHeld names row.0) rows
+pub lookup-rows : (names permissions : List (List ℕ)) (name : Name) (rows : List (Name × Perm)) → HoldsEachOnce names → All (λ row. IsHeld names row.0) rows → All IsForWord (map (row_text names permissions) rows)
     → lookup (same_text (name_text names name)) (map (row_text names permissions) rows) ≡ option_map (perm_text permissions) (lookup (is_name name) rows)
-lookup-rows names permissions name [] once here held = refl
-lookup-rows names permissions name (row ∷ rows) once here held =
-    (λ k. cond (same_text-places names name.0 row.0.0 once here (All-head (λ row. IsHeld names row.0) row rows held) k) (Some (perm_text permissions row.1)) (lookup-rows names permissions name rows once here (All-tail (λ row. IsHeld names row.0) row rows held) k))
+lookup-rows names permissions name [] once held some = refl
+lookup-rows names permissions name (row ∷ rows) once held some =
+    let first = same_text-at names name.0 row.0.0 once (All-head (λ row. IsHeld names row.0) row rows held) (All-head IsForWord (row_text names permissions row) (map (row_text names permissions) rows) some) in
+    let later = lookup-rows names permissions name rows once (All-tail (λ row. IsHeld names row.0) row rows held) (All-tail IsForWord (row_text names permissions row) (map (row_text names permissions) rows) some) in
+    (λ k. cond (first k) (Some (perm_text permissions row.1)) (later k))
     ∙ by (is_name name row.0)
   where
     by : (b : Bool) → cond b (Some (perm_text permissions row.1)) (option_map (perm_text permissions) (lookup (is_name name) rows)) ≡ option_map (perm_text permissions) (cond b (Some row.1) (lookup (is_name name) rows))
@@ -111,16 +125,27 @@ module _ (names : List (List ℕ)) (d : Placed) (places : List (Name × ℕ)) (r
   pub held-at : (place : ℕ) (c : ClassDecl) → slice_get d.classes place ≡ Some c → IsClassHeld names c
   held-at place c e = rw (get_or_from_slice_get d.classes place c c e) at (r.held.classes place c (slice_get_within d.classes place c e))
 
+  words-at : (place : ℕ) (c : ClassDecl) → slice_get d.classes place ≡ Some c → HasWords (class_view names d.permissions c)
+  words-at place c e =
+      let view : Class = class_view names d.permissions c in
+      let inside : place < length d.classes = slice_get_within d.classes place c e in
+      let as_many : length (map (class_view names d.permissions) d.classes) ≡ length d.classes = length-map d.classes (class_view names d.permissions) in
+      let inside_views : place < length (map (class_view names d.permissions) d.classes) = omega arith in
+      let its_view : get_or (map (class_view names d.permissions) d.classes) place view ≡ view =
+      get_or-map (class_view names d.permissions) d.classes place c view inside
+      ∙ ap (class_view names d.permissions) (get_or_from_slice_get d.classes place c c e) in
+      subst HasWords its_view (r.words place view inside_views)
+
   pub class-named : (name : Name) → IsHeld names name
       → class_named (declarations_view names d) (name_text names name) ≡ option_map (class_view names d.permissions) (option_and_then (slice_get d.classes) (lookup (is_name name) places))
   class-named name here =
       find-classes names d.permissions name d.classes r.distinct here r.held.classes
       ∙ ap (option_map (class_view names d.permissions)) (sym (found-numbered (is_name name) [] d.classes) ∙ ap (option_and_then (slice_get d.classes)) (sym (look name)))
 
-  own-agrees : (c : ClassDecl) (op : Op) → IsClassHeld names c → IsOpHeld names op
+  own-agrees : (c : ClassDecl) (op : Op) → IsClassHeld names c → HasWords (class_view names d.permissions c)
       → option_map text.row_needing (text.own_permission (class_view names d.permissions c) (operation_view names op)) ≡ option_map (row_view d.permissions) (option_map (row_needing d.permissions) (own_permission op c))
-  own-agrees c (Get name) held here = ap (option_map text.row_needing) (lookup-rows names d.permissions name c.get.items r.distinct here held.get) ∙ row_needing-views d.permissions (lookup (is_name name) c.get.items)
-  own-agrees c (Set name) held here = ap (option_map text.row_needing) (lookup-rows names d.permissions name c.set.items r.distinct here held.set) ∙ row_needing-views d.permissions (lookup (is_name name) c.set.items)
+  own-agrees c (Get name) held words = ap (option_map text.row_needing) (lookup-rows names d.permissions name c.get.items r.distinct held.get words.get) ∙ row_needing-views d.permissions (lookup (is_name name) c.get.items)
+  own-agrees c (Set name) held words = ap (option_map text.row_needing) (lookup-rows names d.permissions name c.set.items r.distinct held.set words.set) ∙ row_needing-views d.permissions (lookup (is_name name) c.set.items)
 
   -- what the declarations say over so many classes, and what is made of it
   abbrev said : ℕ → Op → List ℕ → Option text.Row
@@ -147,35 +172,35 @@ module _ (names : List (List ℕ)) (d : Placed) (places : List (Name × ℕ)) (r
   like-agrees n op None held later = refl
   like-agrees n op (Some l) held later = later l held
 
-  class-agrees : (n : ℕ) (op : Op) (c : ClassDecl) → IsClassHeld names c → IsOpHeld names op → Agrees n op
+  class-agrees : (n : ℕ) (op : Op) (c : ClassDecl) → IsClassHeld names c → HasWords (class_view names d.permissions c) → Agrees n op
       → option_map text.row_needing (permission_over n op (class_view names d.permissions c)) ≡ option_map (row_view d.permissions) (row_over n op (Some c))
-  class-agrees n op c held asked later =
+  class-agrees n op c held words later =
       option_map-or text.row_needing _ _
-      ∙ (λ k. option_or (own-agrees c op held asked k) (like-agrees n op c.like held.like later k))
+      ∙ (λ k. option_or (own-agrees c op held words k) (like-agrees n op c.like held.like later k))
       ∙ sym (option_map-or (row_view d.permissions) _ _)
 
-  place-agrees : (n : ℕ) (op : Op) (place : ℕ) → IsOpHeld names op → Agrees n op
+  place-agrees : (n : ℕ) (op : Op) (place : ℕ) → Agrees n op
       → option_map text.row_needing (option_and_then (permission_over n op) (option_map (class_view names d.permissions) (slice_get d.classes place))) ≡ option_map (row_view d.permissions) (row_within (plan_of d places) (suc n) place op)
-  place-agrees n op place asked later = by (slice_get d.classes place) refl
+  place-agrees n op place later = by (slice_get d.classes place) refl
     where
       by : (o : Option ClassDecl) → slice_get d.classes place ≡ o → option_map text.row_needing (option_and_then (permission_over n op) (option_map (class_view names d.permissions) o)) ≡ option_map (row_view d.permissions) (row_over n op o)
       by None e = refl
       by (Some c) e =
-          class-agrees n op c (held-at place c e) asked later
+          class-agrees n op c (held-at place c e) (words-at place c e) later
 
   -- following `like` from name to name, and from place to place
-  pub within-agrees : (n : ℕ) (op : Op) → IsOpHeld names op → (name : Name) → IsHeld names name → said n op (name_text names name) ≡ made n op (lookup (is_name name) places)
-  within-agrees zero op asked name here = by (lookup (is_name name) places)
+  pub within-agrees : (n : ℕ) (op : Op) (name : Name) → IsHeld names name → said n op (name_text names name) ≡ made n op (lookup (is_name name) places)
+  within-agrees zero op name here = by (lookup (is_name name) places)
     where
       by : (o : Option ℕ) → None ≡ option_map (row_view d.permissions) (option_and_then (λ q. None) o)
       by None = refl
       by (Some q) = refl
-  within-agrees (suc n) op asked name here =
-      ap (λ o. option_map text.row_needing (option_and_then (permission_over n op) o)) (class-named name here) ∙ by (lookup (is_name name) places) (within-agrees n op asked)
+  within-agrees (suc n) op name here =
+      ap (λ o. option_map text.row_needing (option_and_then (permission_over n op) o)) (class-named name here) ∙ by (lookup (is_name name) places) (within-agrees n op)
     where
       by : (o : Option ℕ) → Agrees n op → option_map text.row_needing (option_and_then (permission_over n op) (option_map (class_view names d.permissions) (option_and_then (slice_get d.classes) o))) ≡ made (suc n) op o
       by None later = refl
-      by (Some q) later = place-agrees n op q asked later
+      by (Some q) later = place-agrees n op q later
 
 find-passes : {X : Type 0} (p : X → Bool) (xs : List X) (x : X) → find p xs ≡ Some x → p x ≡ true
 find-passes p [] x e = cc

@@ -24,7 +24,7 @@ use std::alloc::Global;
 /// - `Raised` with `RecursionError` and the text `depth`, where `equal` raises it of the first value and an element,
 ///   which are at depth 1.
 /// - `StopSteps` where no step is left.
-/// - `Memory` where there is none for the text of the exception, or the count of a text's owners is full.
+/// - `Memory` where a growth was refused.
 pub fn contains(
     alloc: Global,
     store: &Store,

@@ -13,7 +13,7 @@ ghost use Rattle.rp_dict.specs.declared.slot.Slot.TheVariants.{Dead};
 use crate::ranks;
 use crate::ranks::Ranks;
 use crate::slot::Slot;
-use crate::walk::{Walk, first, walked_at};
+use crate::walk::{Walk, pair, walked_at};
 use indexmap::IndexMap;
 use rp_hash::Seed;
 use std::alloc::{AllocError, Global};
@@ -119,7 +119,7 @@ impl<K: Eq + Hash, V> Table<K, V> {
     {
         if self.dead == 0 {
             let (slot, value) = self.map.get_index(i)?;
-            return first(slot, value);
+            return pair(slot, value);
         }
         let (place, left) = ranks::near(&self.map, &self.ranks, i);
         walked_at(Walk::of_places(&self.map, place), left)

@@ -108,22 +108,11 @@ fn next_pair<'a, K: Eq + Hash, V>(
     None
 }
 
+/// The pair at a place; None where a mark stands there.
 pub(crate) fn pair<'a, K, V>(slot: &'a Slot<K>, value: &'a Option<V>) -> Option<(&'a K, &'a V)>
-    ensures { (ps : List (K × V)) → MatchOption result (before slot.now value.now ps ≡ ps)
+    ensures pairs { (ps : List (K × V)) → MatchOption result (before slot.now value.now ps ≡ ps)
         (λ p. before slot.now value.now ps ≡ (p.0.now, p.1.now) ∷ ps) }
-{
-    match slot {
-        Slot::Live(key) => match value {
-            Some(value) => Some((key, value)),
-            None => None,
-        },
-        Slot::Dead(_) => None,
-    }
-}
-
-/// The pair at a place that is not a mark.
-pub(crate) fn first<'a, K, V>(slot: &'a Slot<K>, value: &'a Option<V>) -> Option<(&'a K, &'a V)>
-    ensures { option_map deref_pair result ≡ slice_get (before slot.now value.now []) 0 }
+    ensures first { option_map deref_pair result ≡ slice_get (before slot.now value.now []) 0 }
 {
     match slot {
         Slot::Live(key) => match value {

@@ -12,6 +12,8 @@ use Rattle.rp_scope.specs.Numbers as numbers
 use Rattle.rp_scope.specs.Numbers.{HasNumbers, block_count}
 use Rattle.rp_engine.specs.Codes.{IsIndexed}
 use Rattle.rp_engine.specs.declared.units.Program.{Program}
+use Rattle.rp_grammar.specs.Program.{highest}
+use Rattle.rp_tree.specs.Heights.{stmts_height}
 use Rattle.rp_tree.specs.Expressions as tree
 use Rattle.rp_tree.specs.ExpressionTrees as trees
 use Rattle.rp_tree.specs.StatementTrees as stmt_trees
@@ -230,8 +232,8 @@ code_beyond x n has past =
 
 -- the table of a program's functions
 pub program_indexed : (p : Program) → HasNumbers (view_tree p.tree.now) → length p.layouts ≡ suc (block_count (view_tree p.tree.now)) → length p.codes ≡ length p.layouts
-    → ((n : ℕ) → n < length p.layouts → shown p.codes n ≡ code_in (of_stmts (view_tree p.tree.now)) n) → IsIndexed p
-program_indexed p has blocks size codes = record { code = λ n. by n (cases_lt n (length p.layouts)); blocks = size } where
+    → ((n : ℕ) → n < length p.layouts → shown p.codes n ≡ code_in (of_stmts (view_tree p.tree.now)) n) → stmts_height (view_tree p.tree.now) ≤ highest → IsIndexed p
+program_indexed p has blocks size codes low = record { code = λ n. by n (cases_lt n (length p.layouts)); blocks = size; low = low } where
   by : (n : ℕ) → (n < length p.layouts) ⊎ (length p.layouts ≤ n) → shown p.codes n ≡ code_in (of_stmts (view_tree p.tree.now)) n
   by n (inl within) = codes n within
   by n (inr past) =

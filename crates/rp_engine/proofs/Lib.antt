@@ -2,6 +2,7 @@ pub mod Answering
 pub mod AtHand
 mod Beyond
 pub mod CodeCalls
+pub mod CodeHeights
 pub mod CodeNumbers
 pub mod Doings
 pub mod Equations
@@ -18,5 +19,6 @@ pub mod Slots
 pub mod SpecialMoves
 pub mod Specials
 pub mod Unbinding
+pub mod Weights
 mod WholeNumbers
 pub mod Worlds

@@ -1,5 +1,5 @@
 -- A machine stays ready where its world goes on.
-use Rattle.std.proofs.Common.{◌≡◌, List, ap, sym, subst}
+use Rattle.std.proofs.Common.{◌≡◌, ◌≤◌, List, ap, sym, subst, arith}
 use Rattle.rp_base.specs.declared.value.Value.{Value}
 use Rattle.rp_frame.specs.declared.activation.Activation.{Activation}
 use Rattle.rp_proxy.specs.Faithful.{IsFaithful}
@@ -32,3 +32,7 @@ IsReady-stored units a vs w v h same faithful = record {
 -- objects stand where they stood in the same store
 pub shape_stored : (old new : Cells) → new ≡ old → KeepsShape old.heap new.heap
 shape_stored old new same = KeepsShape-same old.heap new.heap (ap (λ (s : Cells). s.heap) same)
+
+-- the same world has as many steps left
+pub left_same : (w v : World) → v ≡ w → v.running.meter.left ≤ w.running.meter.left
+left_same w v same = subst (λ (u : World). u.running.meter.left ≤ w.running.meter.left) (sym same) (omega arith)

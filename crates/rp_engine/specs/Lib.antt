@@ -14,6 +14,7 @@ pub mod HandSteps
 pub mod Handling
 pub mod JoinSteps
 pub mod Law
+pub mod Loads
 pub mod LoopSteps
 pub mod Moment
 pub mod NumberSteps

@@ -35,7 +35,7 @@ pub fn handling_value(handled: Option<Raised>) -> Value
 /// An equal exception; its text is shared.
 ///
 /// # Errors
-/// `Memory` where the count of the text's owners is full.
+/// `Memory` where a growth was refused.
 pub fn copy_of(raised: &Raised) -> Result<Raised, Memory>
     ensures { IfOk result (λ r. r ≡ raised.now) }
 {

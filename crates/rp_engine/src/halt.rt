@@ -5,10 +5,9 @@ use rp_base::Memory;
 /// Why a machine does not go on, of which its law says nothing.
 #[derive(Clone, Copy, Debug, PartialEq, Eq)]
 pub enum Halt {
-    /// A growth was refused: of memory, or of the parts of one form or the arguments of one call beyond 2^32 - 1.
+    /// A growth was refused.
     Memory,
-    /// The count of the machine's steps is full: it has made 2^64 - 1 of them. No step answers so, and nothing was
-    /// refused.
+    /// A count is full, and nothing was refused: of the parts of one form, or the arguments of one call, 2^32 - 1.
     TooLong,
 }
 

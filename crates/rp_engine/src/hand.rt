@@ -68,7 +68,7 @@ impl<'u> Machine<'u> {
     /// Keeps a copy of a value at hand.
     ///
     /// # Errors
-    /// `Memory` where a growth was refused, or the count of a text's owners is full; then all is as before.
+    /// `Memory` where a growth was refused; then all is as before.
     pub fn hold_copy(&mut self, value: &Value) -> Result<(), Memory>
         ensures held { OnOk result (self.new ≡ record self.old { values = value.now ∷ self.old.values }) }
         ensures ready { (w : World) → IsReady self.old.units.now self.old.frame self.old.values w
@@ -83,28 +83,28 @@ impl<'u> Machine<'u> {
 /// One more value at hand, where so many are counted.
 ///
 /// # Errors
-/// `Memory` where there are 2^32 - 1 already.
+/// `TooLong` where there are 2^32 - 1 already.
 pub fn one_more(count: u32) -> Result<u32, Halt>
     ensures { IfOk result (λ more. more ≡ suc count) }
 {
     match count.checked_add(1) {
         Some(more) => Ok(more),
-        None => Err(Halt::Memory),
+        None => Err(Halt::TooLong),
     }
 }
 
 /// So many more values at hand, where so many are counted.
 ///
 /// # Errors
-/// `Memory` where that is more than 2^32 - 1.
+/// `TooLong` where that is more than 2^32 - 1.
 pub fn more_by(count: u32, more: usize) -> Result<u32, Halt>
     ensures { IfOk result (λ sum. sum ≡ count + more) }
 {
     let Ok(more) = u32::try_from(more) else {
-        return Err(Halt::Memory);
+        return Err(Halt::TooLong);
     };
     match count.checked_add(more) {
         Some(sum) => Ok(sum),
-        None => Err(Halt::Memory),
+        None => Err(Halt::TooLong),
     }
 }

@@ -1,7 +1,7 @@
 //! Leaves: expressions that are evaluated where they are needed. So are operators and comparisons on whole numbers.
 #![tactic(auto, using(rp_store::proofs::CallerLemmas::goes_on, crate::proofs::Worlds::shape_stored))]
 
-ghost use Rattle.std.specs.Prelude.{◌≡◌, ◌≢◌, Some, None, Ok, IfOk, IfSome};
+ghost use Rattle.std.specs.Prelude.{◌<◌, ◌≡◌, ◌≢◌, ◌≤◌, Some, None, Ok, IfOk, IfSome, OnOk};
 ghost use Rattle.rp_meaning.specs.State.{stepped};
 ghost use Rattle.rp_ops.specs.Outcome.{gives};
 ghost use Rattle.rp_access.specs.Parts.{step_end};
@@ -41,6 +41,7 @@ impl<'u> Machine<'u> {
         ensures ready { IsReady self.now.units.now self.now.frame self.now.values world.new }
         ensures shape { KeepsShape world.old.store.heap world.new.store.heap }
         ensures fit { IfOk result (λ v. IfSome v (IsFit world.new.store.heap self.now.frame.side)) }
+        ensures fewer { world.new.running.meter.left ≤ world.old.running.meter.left }
     {
         self.leaf_form(world, &x.form)
     }
@@ -57,6 +58,7 @@ impl<'u> Machine<'u> {
         ensures store { world.new.store ≡ world.old.store }
         ensures shape { KeepsShape world.old.store.heap world.new.store.heap }
         ensures fit { IfOk result (λ v. IfSome v (IsFit world.new.store.heap self.now.frame.side)) }
+        ensures fewer { world.new.running.meter.left ≤ world.old.running.meter.left }
     {
         match form {
             ExprForm::Name(name) => self.known_name(world, *name),
@@ -88,6 +90,8 @@ impl<'u> Machine<'u> {
         ensures ready { IsReady self.now.units.now self.now.frame self.now.values world.new }
         ensures shape { KeepsShape world.old.store.heap world.new.store.heap }
         ensures fit { IfOk result (λ v. IfSome v (IsFit world.new.store.heap self.now.frame.side)) }
+        ensures fewer { world.new.running.meter.left ≤ world.old.running.meter.left }
+        ensures took { OnOk result (world.new.running.meter.left < world.old.running.meter.left) }
     {
         take_step(world)?;
         self.leaf(world, x)
@@ -104,6 +108,7 @@ impl<'u> Machine<'u> {
         ensures store { world.new.store ≡ world.old.store }
         ensures shape { KeepsShape world.old.store.heap world.new.store.heap }
         ensures fit { IfOk result (λ v. IfSome v (IsFit world.new.store.heap self.now.frame.side)) }
+        ensures fewer { world.new.running.meter.left ≤ world.old.running.meter.left }
     {
         Ok(Some(self.name(world, name)?))
     }
@@ -121,6 +126,8 @@ impl<'u> Machine<'u> {
         ensures store { world.new.store ≡ world.old.store }
         ensures shape { KeepsShape world.old.store.heap world.new.store.heap }
         ensures fit { IfOk result (IsFit world.new.store.heap self.now.frame.side) }
+        ensures fewer { world.new.running.meter.left ≤ world.old.running.meter.left }
+        ensures took { OnOk result (world.new.running.meter.left < world.old.running.meter.left) }
     {
         take_step(world)?;
         self.read(world, name)
@@ -140,6 +147,8 @@ pub fn literal(world: &mut World, value: Value) -> Result<Value, OpEnd>
     ensures store { world.new.store ≡ world.old.store }
     ensures shape { KeepsShape world.old.store.heap world.new.store.heap }
     ensures same { IfOk result (λ v. v ≡ value) }
+    ensures fewer { world.new.running.meter.left ≤ world.old.running.meter.left }
+    ensures took { OnOk result (world.new.running.meter.left < world.old.running.meter.left) }
 {
     take_step(world)?;
     Ok(value)

@@ -1,6 +1,6 @@
 //! The machine, and how it goes on.
 
-ghost use Rattle.std.specs.Prelude.{◌≡◌, ◌≢◌, ◌∷◌, IfOk, OnErr, OnOk, Some};
+ghost use Rattle.std.specs.Prelude.{◌+◌, ◌∷◌, ◌≡◌, ◌≢◌, IfOk, OnErr, OnOk, Some, suc};
 ghost use Rattle.rp_base.specs.declared.value.Value.{Value as TheValue};
 ghost use Rattle.rp_meaning.specs.Frame.{Run};
 ghost use Rattle.rp_meaning.specs.State.{State, Outcome, Flow};
@@ -9,6 +9,7 @@ ghost use Rattle.rp_proxy.specs.declared.world.World.{World};
 ghost use Rattle.rp_store.specs.Kept.{IsFit};
 ghost use Rattle.rp_access.specs.Comes.{Comes, IsEnd};
 ghost use Rattle.rp_engine.specs.Law.{frame_in, rest_of};
+ghost use Rattle.rp_engine.specs.Loads as loads;
 ghost use Rattle.rp_engine.specs.Ready.{IsReady};
 ghost use Rattle.rp_engine.specs.Rest.{after, begun, did, gave, rest};
 
@@ -43,6 +44,7 @@ impl<'u> Machine<'u> {
         ensures ready { (w : World) → IsReady self.old.units.now self.old.frame self.old.values w
             → IfOk answer (IsFit w.store.heap self.old.frame.side)
             → IsReady self.new.units.now self.new.frame self.new.values w }
+        ensures less { OnOk result (loads.IsUnder 2 self.old self.new) }
     {
         match answer {
             Ok(value) => self.back(value),
@@ -61,6 +63,8 @@ impl<'u> Machine<'u> {
             (begun (frame_in base self.old) control.entry self.old.values self.old.end s))) }
         ensures ready { (w : World) → IsReady self.old.units.now self.old.frame self.old.values w
             → IsReady self.new.units.now self.new.frame self.new.values w }
+        ensures less { OnOk result (loads.load self.new
+            ≡ loads.next control.entry + (suc (loads.held task.entry) + loads.tasks self.old.tasks)) }
     {
         self.tasks.push(task)?;
         self.control = control;
@@ -81,6 +85,8 @@ impl<'u> Machine<'u> {
         ensures ready { (w : World) → IsReady self.old.units.now self.old.frame self.old.values w
             → IsFit w.store.heap self.old.frame.side value
             → IsReady self.new.units.now self.new.frame self.new.values w }
+        ensures less { OnOk result (loads.load self.new
+            ≡ loads.next control.entry + (suc (loads.held task.entry) + loads.tasks self.old.tasks)) }
     {
         self.values.push(value)?;
         self.wait(task, control)
@@ -101,6 +107,8 @@ impl<'u> Machine<'u> {
         ensures ready { (w : World) → IsReady self.old.units.now self.old.frame self.old.values w
             → IsFit w.store.heap self.old.frame.side first → IsFit w.store.heap self.old.frame.side second
             → IsReady self.new.units.now self.new.frame self.new.values w }
+        ensures less { OnOk result (loads.load self.new
+            ≡ loads.next control.entry + (suc (loads.held task.entry) + loads.tasks self.old.tasks)) }
     {
         self.values.push(first)?;
         self.wait_with(second, task, control)
@@ -124,6 +132,8 @@ impl<'u> Machine<'u> {
             → IsFit w.store.heap self.old.frame.side first → IsFit w.store.heap self.old.frame.side second
             → IsFit w.store.heap self.old.frame.side third
             → IsReady self.new.units.now self.new.frame self.new.values w }
+        ensures less { OnOk result (loads.load self.new
+            ≡ loads.next control.entry + (suc (loads.held task.entry) + loads.tasks self.old.tasks)) }
     {
         self.values.push(first)?;
         self.wait_with_two(second, third, task, control)
@@ -140,6 +150,7 @@ impl<'u> Machine<'u> {
         ensures ready { (w : World) → IsReady self.old.units.now self.old.frame self.old.values w
             → IsFit w.store.heap self.old.frame.side value
             → IsReady self.new.units.now self.new.frame self.new.values w }
+        ensures less { OnOk result (loads.load self.new ≡ 2 + loads.tasks self.old.tasks) }
     {
         self.values.push(value)?;
         self.control = Control::Value;
@@ -153,6 +164,7 @@ impl<'u> Machine<'u> {
             ≡ rest self.old.tasks (begun (frame_in base self.old) control.entry self.old.values self.old.end s) }
         ensures ready { (w : World) → IsReady self.old.units.now self.old.frame self.old.values w
             → IsReady self.new.units.now self.new.frame self.new.values w }
+        ensures less { loads.load self.new ≡ loads.next control.entry + loads.tasks self.old.tasks }
     {
         self.control = control;
         Ok(())
@@ -169,6 +181,8 @@ impl<'u> Machine<'u> {
         ensures ready { (w : World) → IsReady self.old.units.now self.old.frame self.old.values w
             → IsFit w.store.heap self.old.frame.side value
             → IsReady self.new.units.now self.new.frame self.new.values w }
+        ensures less { OnOk result (loads.load self.new
+            ≡ loads.next control.entry + loads.tasks self.old.tasks) }
     {
         self.values.push(value)?;
         self.control = control;
@@ -185,6 +199,7 @@ impl<'u> Machine<'u> {
             → rest_of base self.new s ≡ rest self.old.tasks (gave (frame_in base self.old) self.old.values o)) }
         ensures ready { (w : World) → IsReady self.old.units.now self.old.frame self.old.values w
             → IsReady self.new.units.now self.new.frame self.new.values w }
+        ensures less { OnOk result (loads.load self.new ≡ loads.tasks self.old.tasks) }
     {
         self.keep(end)?;
         self.control = Control::NoValue;
@@ -201,6 +216,7 @@ impl<'u> Machine<'u> {
             → rest_of base self.new s ≡ rest self.old.tasks (did (frame_in base self.old) self.old.values o)) }
         ensures ready { (w : World) → IsReady self.old.units.now self.old.frame self.old.values w
             → IsReady self.new.units.now self.new.frame self.new.values w }
+        ensures less { OnOk result (loads.load self.new ≡ loads.tasks self.old.tasks) }
     {
         self.keep(end)?;
         self.control = Control::CutOff;

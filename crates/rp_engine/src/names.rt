@@ -55,6 +55,7 @@ impl<'u> Machine<'u> {
         ensures ready { IsReady self.now.units.now self.now.frame self.now.values world.new }
         ensures shape { KeepsShape world.old.store.heap world.new.store.heap }
         ensures fit { IfOk result (IsFit world.new.store.heap self.now.frame.side) }
+        ensures fewer { world.new.running.meter.left ≤ world.old.running.meter.left }
     {
         let place = self.place(name);
         let slot = self.slot(&world.store, place, name);
@@ -74,6 +75,7 @@ impl<'u> Machine<'u> {
             (state_of world.old) }
         ensures faithful { IsFaithful world.new }
         ensures shape { KeepsShape world.old.store.heap world.new.store.heap }
+        ensures fewer { world.new.running.meter.left ≤ world.old.running.meter.left }
     {
         let place = self.place(name);
         let slot = self.slot(&world.store, place, name);
@@ -91,6 +93,7 @@ impl<'u> Machine<'u> {
             (unbind_name name (frame_in base self.now) (state_of world.old)) }
         ensures faithful { IsFaithful world.new }
         ensures shape { KeepsShape world.old.store.heap world.new.store.heap }
+        ensures fewer { world.new.running.meter.left ≤ world.old.running.meter.left }
     {
         let place = self.place(name);
         let slot = self.slot(&world.store, place, name);
@@ -110,6 +113,7 @@ impl<'u> Machine<'u> {
             ≡ without_name name (frame_in base self.now) (state_of world.old) }
         ensures faithful { IsFaithful world.new }
         ensures shape { KeepsShape world.old.store.heap world.new.store.heap }
+        ensures fewer { world.new.running.meter.left ≤ world.old.running.meter.left }
     {
         let place = self.place(name);
         let slot = self.slot(&world.store, place, name);
@@ -246,6 +250,7 @@ fn set(world: &mut World, slot: Option<Slot>, side: Side, value: Option<Value>)
     ensures law { state_of world.new ≡ with_slot_set (option_map slot_view slot) value (state_of world.old) }
     ensures faithful { IsFaithful world.new }
     ensures shape { KeepsShape world.old.store.heap world.new.store.heap }
+    ensures fewer { world.new.running.meter.left ≤ world.old.running.meter.left }
 {
     if let Some(slot) = slot {
         fill(world, slot, side, value);
@@ -260,6 +265,7 @@ fn fill(world: &mut World, slot: Slot, side: Side, value: Option<Value>)
     ensures law { state_of world.new ≡ with_slot_set (Some (slot_view slot)) value (state_of world.old) }
     ensures faithful { IsFaithful world.new }
     ensures shape { KeepsShape world.old.store.heap world.new.store.heap }
+    ensures fewer { world.new.running.meter.left ≤ world.old.running.meter.left }
 {
     if has_slot(&world.store, slot, side) {
         world.store.set_slot(slot.scope, slot.index, value);

@@ -1,7 +1,7 @@
 //! Operators and comparisons on whole numbers, which are computed where they are needed.
 #![tactic(auto, using(rp_store::proofs::CallerLemmas::goes_on, crate::proofs::Worlds::shape_stored))]
 
-ghost use Rattle.std.specs.Prelude.{◌≡◌, ◌∷◌, [], Ok, None, Some, FitsSigned, IfOk, IfSome, option_map};
+ghost use Rattle.std.specs.Prelude.{◌∷◌, ◌≡◌, ◌≤◌, [], Ok, None, Some, FitsSigned, IfOk, IfSome, option_map};
 ghost use Rattle.std.specs.Int.{w64};
 ghost use Rattle.rp_access.specs.Comes.{Comes, ComesIfAny};
 ghost use Rattle.rp_access.specs.Moment.{state_of};
@@ -49,6 +49,7 @@ impl<'u> Machine<'u> {
         ensures store { world.new.store ≡ world.old.store }
         ensures shape { KeepsShape world.old.store.heap world.new.store.heap }
         ensures fit { IfOk result (λ v. IfSome v (IsFit world.new.store.heap self.now.frame.side)) }
+        ensures fewer { world.new.running.meter.left ≤ world.old.running.meter.left }
     {
         match self.chain_number(world, first, rest) {
             Some(number) => Ok(Some(behind_steps(world, number_value(number))?)),
@@ -75,6 +76,7 @@ impl<'u> Machine<'u> {
         ensures store { world.new.store ≡ world.old.store }
         ensures shape { KeepsShape world.old.store.heap world.new.store.heap }
         ensures fit { IfOk result (λ v. IfSome v (IsFit world.new.store.heap self.now.frame.side)) }
+        ensures fewer { world.new.running.meter.left ≤ world.old.running.meter.left }
     {
         match self.comparison_truth(world, first, rest) {
             Some(holds) => Ok(Some(behind_steps(world, truth_value(holds))?)),
@@ -266,6 +268,7 @@ fn behind_steps(world: &mut World, value: Value) -> Result<Value, OpEnd>
     ensures store { world.new.store ≡ world.old.store }
     ensures shape { KeepsShape world.old.store.heap world.new.store.heap }
     ensures same { IfOk result (λ v. v ≡ value) }
+    ensures fewer { world.new.running.meter.left ≤ world.old.running.meter.left }
 {
     take_step(world)?;
     take_step(world)?;

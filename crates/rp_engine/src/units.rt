@@ -1,10 +1,12 @@
 //! The programs of a run.
 
-ghost use Rattle.std.specs.Prelude.{◌≡◌, ◌<◌, IfOk, length, position, suc};
+ghost use Rattle.std.specs.Prelude.{◌≡◌, ◌<◌, ◌≤◌, IfOk, length, position, suc};
+ghost use Rattle.rp_grammar.specs.Program.{highest};
 ghost use Rattle.rp_scope.specs.Numbers.{HasNumbers, block_count};
 ghost use Rattle.rp_scope.specs.Scopes.{found_from, locals_of, same_name};
 ghost use Rattle.rp_engine.specs.Codes.{IsIndexed, code_at};
 ghost use Rattle.rp_engine.specs.Moment.{program_at};
+ghost use Rattle.rp_tree.specs.Heights.{stmts_height};
 ghost use Rattle.rp_tree.specs.StatementViews.{view_tree};
 
 use rp_base::{Memory, Name, Side};
@@ -31,6 +33,7 @@ impl<'u> Program<'u> {
     pub fn of_tree(alloc: Global, tree: &'u Tree, layouts: Layouts) -> Result<Program<'u>, Memory>
         requires numbers { HasNumbers (view_tree tree.now) }
         requires blocks { length layouts ≡ suc (block_count (view_tree tree.now)) }
+        requires low { stmts_height (view_tree tree.now) ≤ highest }
         ensures tree { IfOk result (λ program. program.tree.now ≡ tree.now) }
         ensures layouts { IfOk result (λ program. program.layouts ≡ layouts) }
         ensures block { IfOk result (λ program. 0 < length program.layouts) }

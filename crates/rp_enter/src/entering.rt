@@ -1,7 +1,7 @@
 //! What is done before the code of a function runs.
 #![tactic(auto, using(rp_store::proofs::CallerLemmas::goes_on))]
 
-ghost use Rattle.std.specs.Prelude.{◌≡◌, ◌≢◌, ◌∷◌, ℕ, Err, IfOk, IfSome, IsTrue, OnErr, OnOk, map, option_map};
+ghost use Rattle.std.specs.Prelude.{◌≤◌, ◌≡◌, ◌≢◌, ◌∷◌, ℕ, Err, IfOk, IfSome, IsTrue, OnErr, OnOk, map, option_map};
 ghost use Rattle.rp_calls.specs.Binding.{defaults_at};
 ghost use Rattle.rp_calls.specs.View.{AreSlotsSound, slots_of};
 ghost use Rattle.rp_meaning.specs.Binding.{bind, only};
@@ -66,6 +66,7 @@ pub fn enter(
     ensures faithful { (result ≢ Err OpEnd.Memory) → IsFaithful world.new }
     ensures shape { KeepsShape world.old.store.heap world.new.store.heap }
     ensures scope { IfOk result (IsScopeOf world.new.store.heap entry.side) }
+    ensures fewer { world.new.running.meter.left ≤ world.old.running.meter.left }
 {
     if from == entry.side {
         return enter_with(alloc, world, entry, locals, params, args, &[]);
@@ -97,6 +98,7 @@ pub fn enter_bound(
     ensures faithful { (result ≢ Err OpEnd.Memory) → IsFaithful world.new }
     ensures shape { KeepsShape world.old.store.heap world.new.store.heap }
     ensures scope { IfOk result (IsScopeOf world.new.store.heap entry.side) }
+    ensures fewer { world.new.running.meter.left ≤ world.old.running.meter.left }
 {
     enter_behind(alloc, world, entry, locals, params, receiver, args, &[])
 }
@@ -129,6 +131,7 @@ pub fn enter_named(
     ensures faithful { (result ≢ Err OpEnd.Memory) → IsFaithful world.new }
     ensures shape { KeepsShape world.old.store.heap world.new.store.heap }
     ensures scope { IfOk result (IsScopeOf world.new.store.heap entry.side) }
+    ensures fewer { world.new.running.meter.left ≤ world.old.running.meter.left }
 {
     match receiver {
         None => enter_taken(alloc, world, entry, locals, params, args, named),
@@ -160,6 +163,7 @@ fn enter_behind(
     ensures faithful { (result ≢ Err OpEnd.Memory) → IsFaithful world.new }
     ensures shape { KeepsShape world.old.store.heap world.new.store.heap }
     ensures scope { IfOk result (IsScopeOf world.new.store.heap entry.side) }
+    ensures fewer { world.new.running.meter.left ≤ world.old.running.meter.left }
 {
     let all = behind(alloc, receiver, args)?;
     enter_taken(alloc, world, entry, locals, params, all.as_slice(), named)
@@ -187,6 +191,7 @@ fn enter_taken(
     ensures faithful { (result ≢ Err OpEnd.Memory) → IsFaithful world.new }
     ensures shape { KeepsShape world.old.store.heap world.new.store.heap }
     ensures scope { IfOk result (IsScopeOf world.new.store.heap entry.side) }
+    ensures fewer { world.new.running.meter.left ≤ world.old.running.meter.left }
 {
     let args = taken_all(alloc, world, entry.side, args)?;
     let named = named_taken(alloc, world, entry.side, named)?;
@@ -253,6 +258,7 @@ fn enter_with(
     ensures faithful { (result ≢ Err OpEnd.Memory) → IsFaithful world.new }
     ensures shape { KeepsShape world.old.store.heap world.new.store.heap }
     ensures scope { IfOk result (IsScopeOf world.new.store.heap entry.side) }
+    ensures fewer { world.new.running.meter.left ≤ world.old.running.meter.left }
 {
     let slots = bound(alloc, world, entry, params, args, named)?;
     let all = slots_taken(alloc, world, entry.side, slots)?;
@@ -307,6 +313,7 @@ fn bound(
     ensures faithful { (result ≢ Err OpEnd.Memory) → IsFaithful world.new }
     ensures shape { KeepsShape world.old.store.heap world.new.store.heap }
     ensures sound { IfOk result (λ slots. AreSlotsSound world.new.store.heap slots.items) }
+    ensures fewer { world.new.running.meter.left ≤ world.old.running.meter.left }
 {
     rp_calls::bind(
         alloc,
@@ -323,7 +330,7 @@ fn bound(
 /// What parameters are bound to, as code of a side takes it. It most often holds all of that already.
 ///
 /// # Errors
-/// `Memory` where a growth was refused, or the count of a text's owners is full.
+/// `Memory` where a growth was refused.
 fn slots_taken(
     alloc: Global,
     world: &World,
@@ -364,7 +371,7 @@ fn each_taken(
 /// The same, of one slot.
 ///
 /// # Errors
-/// `Memory` where the count of a text's owners is full.
+/// `Memory` where a growth was refused.
 fn slot_taken(world: &World, side: Side, slot: &Option<Value>) -> Result<Option<Value>, Memory>
     requires { IfSome slot.now (IsSound world.now.store.heap) }
     ensures slot { IfOk result (λ got. got ≡ option_map (taken world.now.store.heap side) slot.now) }
@@ -436,6 +443,7 @@ pub fn new_scope(
     ensures faithful { IsFaithful world.new }
     ensures shape { KeepsShape world.old.store.heap world.new.store.heap }
     ensures scope { IfOk result (IsScopeOf world.new.store.heap side) }
+    ensures fewer { world.new.running.meter.left ≤ world.old.running.meter.left }
 {
     let slots = filled(slots, locals)?;
     let scope = Object::Scope {
@@ -482,6 +490,7 @@ pub fn new_instance(alloc: Global, world: &mut World, owner: Side, class: Oid) -
     ensures faithful { IsFaithful world.new }
     ensures shape { KeepsShape world.old.store.heap world.new.store.heap }
     ensures sound { IfOk result (λ at. IsSound world.new.store.heap (Value.Ref at)) }
+    ensures fewer { world.new.running.meter.left ≤ world.old.running.meter.left }
 {
     let fields = Dict::new(alloc, world.store.seed());
     make_instance(&mut world.store, owner, Object::Instance { class, fields })

@@ -7,14 +7,12 @@ use Rattle.rp_base.specs.declared.value.Value.{Value}
 use Rattle.rp_base.specs.declared.value.Side.{Side}
 use Rattle.rp_frame.specs.Top.{top}
 use Rattle.rp_frame.specs.declared.activation.Activation.{Activation}
-use Rattle.rp_meaning.specs.Binding.{Arguments, only}
-use Rattle.rp_meaning.specs.Calls as calls
-use Rattle.rp_meaning.specs.Calls.{Argument, plain_argument}
+use Rattle.rp_meaning.specs.Calls.{Argument}
 use Rattle.rp_meaning.specs.Expressions as forms
 use Rattle.rp_meaning.specs.Frame.{Frame, Meaning, Run}
 use Rattle.rp_meaning.specs.State.{State, Outcome}
 use Rattle.rp_meaning.proofs.Laws.{then_then}
-use Rattle.rp_ops.specs.Outcome.{gives, on_value}
+use Rattle.rp_ops.specs.Outcome.{on_value}
 use Rattle.rp_proxy.specs.declared.world.World.{World}
 use Rattle.rp_store.specs.Kept.{AreSound, IsFit, IsSound}
 use Rattle.rp_engine.specs.ArgumentSteps.{with_arguments}
@@ -40,23 +38,9 @@ module _ (ts : List (Value → Meaning)) (f : Value) (frame : Frame) where
   abbrev behind : Value → State → Outcome Value
   behind w s = forms.trailers ts w frame s
 
-  abbrev called : Arguments → State → Outcome Value
-  called a s = calls.call f a frame s
-
   -- a call with its step
   pub call_stepped : (as' : List Argument) (s : State) → next_trailer (forms.call as') ts f frame s ≡ on_value (step_end s) (λ _ s. with_arguments as' ts f [] frame s)
   call_stepped as' s = then_then (step_end s) (λ _ s. forms.call as' f frame s) behind
-
-  abbrev more : List Argument → List Value → State → Outcome Arguments
-  more as' vs s = calls.arguments as' (only vs) frame s
-
-  -- one more argument
-  pub argument_more : (m : Meaning) (as' : List Argument) (vs : List Value) (s : State)
-      → with_arguments (plain_argument m ∷ as') ts f vs frame s ≡ on_value (m frame s) (λ v s. with_arguments as' ts f (vs ++ v ∷ []) frame s)
-  argument_more m as' vs s =
-      ap (λ o. on_value (on_value o called) behind) (then_then (m frame s) (λ v s. gives (only (vs ++ v ∷ [])) s) (λ a s. calls.arguments as' a frame s))
-      ∙ ap (λ o. on_value o behind) (then_then (m frame s) (λ v s. more as' (vs ++ v ∷ []) s) called)
-      ∙ then_then (m frame s) (λ v s. on_value (more as' (vs ++ v ∷ []) s) called) behind
 
 module _ (m n : Machine) (w v : World) (r : Result (Unit {0}) Halt) (as' : List Argument) (ts : List (Value → Meaning)) where
   -- the callee is at hand

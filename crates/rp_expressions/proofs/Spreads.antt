@@ -37,7 +37,7 @@ use Rattle.rp_engine.specs.DefinitionSteps.{called}
 use Rattle.rp_engine.specs.HandSteps.{held_by, size_of}
 use Rattle.rp_engine.specs.Law.{frame_in, rest_of}
 use Rattle.rp_engine.specs.Ready.{IsReady}
-use Rattle.rp_engine.specs.Rest.{gave, rest}
+use Rattle.rp_engine.specs.Rest.{Held, gave, rest}
 use Rattle.rp_engine.specs.declared.calling.Hand.{Hand}
 use Rattle.rp_engine.specs.declared.halt.Halt.{Halt}
 use Rattle.rp_engine.specs.declared.machine.Machine.{Machine}
@@ -45,7 +45,6 @@ use Rattle.rp_engine.specs.declared.units.Units.{Units}
 use Rattle.rp_frame.specs.declared.activation.Activation.{Activation}
 use Rattle.rp_store.specs.Kept.{AreFit, IsFit}
 use Rattle.std.proofs.lemmas.List.Elements.{All-append, All-head, All-tail}
-use Rattle.rp_expressions.proofs.Callings.{argument_more}
 use Rattle.rp_engine.proofs.CodeCalls.{code_found}
 use Rattle.rp_engine.proofs.Going.{asked_then}
 use Rattle.rp_engine.proofs.Lasts.{fit_reversed}
@@ -75,10 +74,6 @@ module _ (A : Meaning → Argument) (is : (m : Meaning) (a : Arguments) (frame :
 
         behind : Value → State → Outcome Value
         behind w s = forms.trailers ts w frame s
-
-pub star_more : (as' : List Argument) (ts : List (Value → Meaning)) (f : Value) (m : Meaning) (vs : List Value) (frame : Frame) (s : State)
-    → with_arguments (star_argument m ∷ as') ts f vs frame s ≡ on_value (m frame s) (λ v s. with_spread as' ts f vs v frame s)
-star_more as' ts f m vs frame s = all_more star_argument (λ m a frame s. refl) as' ts f m (only vs) frame s
 
 pub stars_more : (as' : List Argument) (ts : List (Value → Meaning)) (f : Value) (m : Meaning) (a : Arguments) (frame : Frame) (s : State)
     → with_all (stars_argument m ∷ as') ts f a frame s ≡ on_value (m frame s) (λ v s. with_spread_named as' ts f a v frame s)
@@ -242,9 +237,6 @@ module _ (m n : Machine) (r : Result (Unit {0}) Halt) (as' : List Argument) (ts 
     abbrev pub hand : Arguments
     hand = held_by h m.values
 
-    pub argument_is : (a b : Argument) → a ≡ b → OnOk r ((w : World) → NamedCalls h (b ∷ as') ts m w n w) → OnOk r ((w : World) → NamedCalls h (a ∷ as') ts m w n w)
-    argument_is a b is law = subst (λ (a : Argument). OnOk r ((w : World) → NamedCalls h (a ∷ as') ts m w n w)) (sym is) law
-
     -- one with a name
     pub key_waits : (name : Name) (x : Meaning) (a : Argument) → a ≡ named_argument name x
         → OnOk r (Waits (size_of h) (λ f s. on_value (x f s) (λ v s. with_all (named_argument name (known v) ∷ as') ts callee hand f s)))
@@ -293,21 +285,16 @@ module _ (m : Machine) (i : ℕ) where
   pub plain_callee : top (drop (sum_of i 0) m.values) ≡ top (drop i m.values)
   plain_callee = ap (λ j. top (drop j m.values)) (size_plain i)
 
-module _ (m n : Machine) (w v : World) (as' : List Argument) (ts : List (Value → Meaning)) (i : ℕ) where
-  named_as_plain : NamedCalls (plain_hand i) as' ts m w n v → Calls i as' ts m w n v
-  named_as_plain law base = law base ∙ ap (λ j. rest m.tasks (gave (frame_in base m) (drop (suc j) m.values) (with_all as' ts (top (drop j m.values)) (only (reverse (take i m.values))) (frame_in base m) (state_of w))))
-      (size_plain i)
-
-  plain_as_named : Calls i as' ts m w n v → NamedCalls (plain_hand i) as' ts m w n v
-  plain_as_named law base = law base ∙ ap (λ j. rest m.tasks (gave (frame_in base m) (drop (suc j) m.values) (with_all as' ts (top (drop j m.values)) (only (reverse (take i m.values))) (frame_in base m) (state_of w))))
-      (sym (size_plain i))
-
 module _ (m n : Machine) (w v : World) (r : Result (Unit {0}) Halt) (as' : List Argument) (ts : List (Value → Meaning)) (i : ℕ) where
   pub plain_calls : OnOk r (NamedCalls (plain_hand i) as' ts m w n v) → OnOk r (Calls i as' ts m w n v)
-  plain_calls h = on_ok r (NamedCalls (plain_hand i) as' ts m w n v) (Calls i as' ts m w n v) (named_as_plain m n w v as' ts i) h
+  plain_calls h = on_ok r (NamedCalls (plain_hand i) as' ts m w n v) (Calls i as' ts m w n v)
+      (λ law base. law base ∙ ap (λ j. rest m.tasks (gave (frame_in base m) (drop (suc j) m.values) (with_all as' ts (top (drop j m.values)) (only (reverse (take i m.values))) (frame_in base m) (state_of w))))
+      (size_plain i)) h
 
   pub named_calls : OnOk r (Calls i as' ts m w n v) → OnOk r (NamedCalls (plain_hand i) as' ts m w n v)
-  named_calls h = on_ok r (Calls i as' ts m w n v) (NamedCalls (plain_hand i) as' ts m w n v) (plain_as_named m n w v as' ts i) h
+  named_calls h = on_ok r (Calls i as' ts m w n v) (NamedCalls (plain_hand i) as' ts m w n v)
+      (λ law base. law base ∙ ap (λ j. rest m.tasks (gave (frame_in base m) (drop (suc j) m.values) (with_all as' ts (top (drop j m.values)) (only (reverse (take i m.values))) (frame_in base m) (state_of w))))
+      (sym (size_plain i))) h
 
 -- a call has no value
 pub plain_ends : (m n : Machine) (r : Result (Unit {0}) Halt) (i : ℕ) (e : OpEnd)
@@ -316,33 +303,30 @@ pub plain_ends : (m n : Machine) (r : Result (Unit {0}) Halt) (i : ℕ) (e : OpE
 plain_ends m n r i e law =
     subst (λ (j : ℕ). OnOk r ((base : Run) (s : State) (o : Outcome Value) → IsEnd e s o → rest_of base n s ≡ rest m.tasks (gave (frame_in base m) (drop (suc j) m.values) o))) (size_plain i) law
 
--- a part is waited for
-module _ (m n : Machine) (r : Result (Unit {0}) Halt) (as' : List Argument) (ts : List (Value → Meaning)) (h : Hand) (none : h.named ≡ 0) where
-  abbrev under : Value
-  under = top (drop h.plain m.values)
+-- tasks that wait for a part do the same, whether they count no argument with a name or count none
+module _ (as' : List Argument) (ts : List (Value → Meaning)) (n k : ℕ) (none : k ≡ 0) (f : Frame) (vs : List Value) (o : Outcome Value) where
+  pub first_plain : gave f (drop (suc n) vs) (on_value o (λ v s. with_arguments as' ts (top (drop n vs)) (reverse (take n vs) ++ v ∷ []) f s))
+      ≡ gave f (drop (suc (sum_of n k)) vs) (on_value o (λ v s. with_all as' ts (top (drop (sum_of n k) vs)) (with_plain (arguments_at n k vs) (v ∷ [])) f s))
+  first_plain =
+      subst (λ (k : ℕ). gave f (drop (suc n) vs) (on_value o (λ v s. with_arguments as' ts (top (drop n vs)) (reverse (take n vs) ++ v ∷ []) f s))
+      ≡ gave f (drop (suc (sum_of n k)) vs) (on_value o (λ v s. with_all as' ts (top (drop (sum_of n k) vs)) (with_plain (arguments_at n k vs) (v ∷ [])) f s))) (sym none)
+      (ap (λ j. gave f (drop (suc j) vs) (on_value o (λ v s. with_all as' ts (top (drop j vs)) (only (reverse (take n vs) ++ v ∷ [])) f s))) (sym (size_plain n)))
 
-  abbrev held : List Value
-  held = reverse (take h.plain m.values)
+  pub first_star : gave f (drop (suc n) vs) (on_value o (λ v s. with_spread as' ts (top (drop n vs)) (reverse (take n vs)) v f s))
+      ≡ gave f (drop (suc (sum_of n k)) vs) (on_value o (λ v s. with_spread_behind as' ts (top (drop (sum_of n k) vs)) (arguments_at n k vs) v f s))
+  first_star =
+      subst (λ (k : ℕ). gave f (drop (suc n) vs) (on_value o (λ v s. with_spread as' ts (top (drop n vs)) (reverse (take n vs)) v f s))
+      ≡ gave f (drop (suc (sum_of n k)) vs) (on_value o (λ v s. with_spread_behind as' ts (top (drop (sum_of n k) vs)) (arguments_at n k vs) v f s))) (sym none)
+      (ap (λ j. gave f (drop (suc j) vs) (on_value o (λ v s. with_spread_behind as' ts (top (drop j vs)) (only (reverse (take n vs))) v f s))) (sym (size_plain n)))
 
-  as_hand : (a : Argument) (P : Type 0) → (P → (w : World) → Calls h.plain (a ∷ as') ts m w n w) → OnOk r P → OnOk r ((w : World) → NamedCalls h (a ∷ as') ts m w n w)
-  as_hand a P go law =
-      let same : h ≡ plain_hand h.plain = ap (λ k. record { plain = h.plain; named = k }) none in
-      subst (λ (h : Hand). OnOk r ((w : World) → NamedCalls h (a ∷ as') ts m w n w)) (sym same)
-      (on_ok r P ((w : World) → NamedCalls (plain_hand h.plain) (a ∷ as') ts m w n w) (λ law w. plain_as_named m n w w (a ∷ as') ts h.plain (go law w)) law)
-
-  -- one without a name
-  pub first_plain : (x : Meaning) → OnOk r (Waits m n r as' ts h.plain (λ f s. on_value (x f s) (λ v s. with_arguments as' ts under (held ++ v ∷ []) f s)))
-      → OnOk r ((w : World) → NamedCalls h (plain_argument x ∷ as') ts m w n w)
-  first_plain x law = as_hand (plain_argument x) (Waits m n r as' ts h.plain (λ f s. on_value (x f s) (λ v s. with_arguments as' ts under (held ++ v ∷ []) f s)))
-      (λ law w base. law base (state_of w) ∙ ap (λ o. rest m.tasks (gave (frame_in base m) (drop (suc h.plain) m.values) o))
-      (sym (argument_more ts under (frame_in base m) x as' held (state_of w)))) law
-
-  -- one with a star
-  pub first_star : (x : Meaning) → OnOk r (Waits m n r as' ts h.plain (λ f s. on_value (x f s) (λ v s. with_spread as' ts under held v f s)))
-      → OnOk r ((w : World) → NamedCalls h (star_argument x ∷ as') ts m w n w)
-  first_star x law = as_hand (star_argument x) (Waits m n r as' ts h.plain (λ f s. on_value (x f s) (λ v s. with_spread as' ts under held v f s)))
-      (λ law w base. law base (state_of w) ∙ ap (λ o. rest m.tasks (gave (frame_in base m) (drop (suc h.plain) m.values) o))
-      (sym (star_more as' ts under x held (frame_in base m) (state_of w)))) law
+-- a part is waited for by a task that does the same as another
+pub waits_as : (m n : Machine) (r : Result (Unit {0}) Halt) (g h : Frame → List Value → Outcome Value → Held) → ((f : Frame) (vs : List Value) (o : Outcome Value) → g f vs o ≡ h f vs o) → (x : Meaning)
+    → OnOk r ((base : Run) (s : State) → rest_of base n s ≡ rest m.tasks (g (frame_in base m) m.values (x (frame_in base m) s)))
+    → OnOk r ((base : Run) (s : State) → rest_of base n s ≡ rest m.tasks (h (frame_in base m) m.values (x (frame_in base m) s)))
+waits_as m n r g h same x law =
+    on_ok r ((base : Run) (s : State) → rest_of base n s ≡ rest m.tasks (g (frame_in base m) m.values (x (frame_in base m) s)))
+    ((base : Run) (s : State) → rest_of base n s ≡ rest m.tasks (h (frame_in base m) m.values (x (frame_in base m) s)))
+    (λ law base s. law base s ∙ ap (rest m.tasks) (same (frame_in base m) m.values (x (frame_in base m) s))) law
 
 -- more values are at hand
 module _ (m n : Machine) (w v : World) (r : Result (Unit {0}) Halt) (as' : List Argument) (ts : List (Value → Meaning)) where

@@ -1,10 +1,9 @@
 //! Calls: the arguments, and what is done once they are at hand (Python Language Reference, Calls).
 #![tactic(auto, using(rp_store::proofs::CallerLemmas::goes_on))]
 
-ghost use Rattle.std.specs.Prelude.{◌≡◌, ◌∷◌, [], suc, IfNone, IfOk, IfSome, OnOk};
+ghost use Rattle.std.specs.Prelude.{◌≡◌, ◌∷◌, ◌+◌, ◌≤◌, [], suc, IfNone, IfOk, IfSome, OnOk};
 ghost use Rattle.std.specs.Prelude.{drop, is_some, not, reverse, take};
 ghost use Rattle.rp_frame.specs.Top.{top};
-ghost use Rattle.rp_meaning.specs.Calls as calls;
 ghost use Rattle.rp_meaning.specs.Expressions as forms;
 ghost use Rattle.rp_meaning.specs.Frame.{Run};
 ghost use Rattle.rp_meaning.specs.State.{State};
@@ -13,11 +12,12 @@ ghost use Rattle.rp_proxy.specs.declared.world.World.{World as TheWorld};
 ghost use Rattle.rp_store.specs.Kept.{IsFit};
 ghost use Rattle.rp_store.specs.Shape.{KeepsShape};
 ghost use Rattle.rp_engine.specs.ArgumentSteps.{with_arguments};
-ghost use Rattle.rp_expressions.specs.Arguments.{AsksLeft, Calls, NamedCalls};
+ghost use Rattle.rp_expressions.specs.Arguments.{AsksLeft, Calls, DoesAs, NamedCalls};
 ghost use Rattle.rp_access.specs.Calling.{CallComes, IsCallLeft};
 ghost use Rattle.rp_engine.specs.DefinitionSteps.{callee_of, with_called};
 ghost use Rattle.rp_engine.specs.Does as does;
 ghost use Rattle.rp_engine.specs.Law.{Evaluates, Resumes, frame_in, rest_of};
+ghost use Rattle.rp_engine.specs.Loads as loads;
 ghost use Rattle.rp_access.specs.Moment.{state_of};
 ghost use Rattle.rp_engine.specs.Ready.{IsReady};
 ghost use Rattle.rp_engine.specs.Rest.{gave, rest};
@@ -37,7 +37,7 @@ use rp_tree::{Arg, Expr, Trailer};
 /// Goes on with a call, with its step.
 ///
 /// # Errors
-/// `Memory` where a growth was refused, and at more than 2^32 - 1 arguments, as all that follow.
+/// `Memory` where a growth was refused, and `TooLong` at more than 2^32 - 1 arguments, as all that follow.
 #[inline(always)]
 #[tactic(auto, using(rp_store::proofs::CallerLemmas::goes_on, rp_engine::proofs::Worlds::shape_stored))]
 pub(crate) fn begin_call<'u>(
@@ -53,6 +53,8 @@ pub(crate) fn begin_call<'u>(
         machine.old world.old machine.new world.new) }
     ensures ready { IsReady machine.new.units.now machine.new.frame machine.new.values world.new }
     ensures shape { KeepsShape world.old.store.heap world.new.store.heap }
+    ensures fewer { world.new.running.meter.left ≤ world.old.running.meter.left }
+    ensures less { OnOk result (loads.Lowers 0 machine.old world.old machine.new world.new) }
 {
     match take_step(world) {
         Ok(()) => first_argument(machine, world, f, args, rest),
@@ -75,6 +77,7 @@ fn first_argument<'u>(
         machine.old world.old machine.new world.new) }
     ensures ready { IsReady machine.new.units.now machine.new.frame machine.new.values world.new }
     ensures shape { KeepsShape world.old.store.heap world.new.store.heap }
+    ensures fewer { world.new.running.meter.left ≤ world.old.running.meter.left }
 {
     machine.hold(f)?;
     arguments(machine, world, Hand { plain: 0, named: 0 }, args, rest)
@@ -94,6 +97,9 @@ pub(crate) fn arguments<'u>(
         machine.old world.old machine.new world.new) }
     ensures ready { IsReady machine.new.units.now machine.new.frame machine.new.values world.new }
     ensures shape { KeepsShape world.old.store.heap world.new.store.heap }
+    ensures fewer { world.new.running.meter.left ≤ world.old.running.meter.left }
+    ensures less { OnOk result (loads.Lowers (2 + loads.called + loads.args args.now)
+        machine.old world.old machine.new world.new) }
 {
     match args {
         [] => call_hand(machine, world, hand, rest),
@@ -114,10 +120,18 @@ fn argument<'u>(
         (does.trailers rest.now) machine.old w machine.new w) }
     ensures ready { (w : TheWorld) → IsReady machine.old.units.now machine.old.frame machine.old.values w
         → IsReady machine.new.units.now machine.new.frame machine.new.values w }
+    ensures less { OnOk result (loads.IsUnder (2 + loads.called + (loads.arg arg.now + loads.args args.now))
+        machine.old machine.new) }
 {
     match arg {
-        Arg::Plain(x) => unnamed(machine, hand, x, args, rest),
-        Arg::Star(x) => starred(machine, hand, x, args, rest),
+        Arg::Plain(x) => machine.wait(
+            Task::Expr(plain_task(hand, args, rest)),
+            Control::Expression(x),
+        ),
+        Arg::Star(x) => machine.wait(
+            Task::Expr(star_task(hand, args, rest)),
+            Control::Expression(x),
+        ),
         Arg::Key(name, x) => machine.wait(
             Task::Expr(ExprTask::NamedArgument(hand.plain, hand.named, *name, args, rest)),
             Control::Expression(x),
@@ -129,58 +143,28 @@ fn argument<'u>(
     }
 }
 
-/// Goes on with an argument without a name, which comes before those at hand that have one.
+/// What waits for an argument without a name, which comes before those at hand that have one.
 #[inline(always)]
-fn unnamed<'u>(
-    machine: &mut Machine<'u>,
-    hand: Hand,
-    x: &'u Expr,
-    args: &'u [Arg],
-    rest: &'u [Trailer],
-) -> Result<(), Halt>
-    ensures law { OnOk result ((w : TheWorld)
-        → NamedCalls hand (calls.plain_argument (does.expr x.now) ∷ does.args args.now)
-        (does.trailers rest.now) machine.old w machine.new w) }
-    ensures ready { (w : TheWorld) → IsReady machine.old.units.now machine.old.frame machine.old.values w
-        → IsReady machine.new.units.now machine.new.frame machine.new.values w }
+fn plain_task<'u>(hand: Hand, args: &'u [Arg], rest: &'u [Trailer]) -> ExprTask<'u>
+    ensures does { DoesAs result (ExprTask.LaterArgument hand.plain hand.named args.entry rest.entry) }
+    ensures held { loads.expr_task result ≡ loads.called + loads.args args.now }
 {
     if hand.named == 0 {
-        return machine.wait(
-            Task::Expr(ExprTask::Argument(hand.plain, args, rest)),
-            Control::Expression(x),
-        );
+        return ExprTask::Argument(hand.plain, args, rest);
     }
-    machine.wait(
-        Task::Expr(ExprTask::LaterArgument(hand.plain, hand.named, args, rest)),
-        Control::Expression(x),
-    )
+    ExprTask::LaterArgument(hand.plain, hand.named, args, rest)
 }
 
-/// Goes on with what is to be spread over arguments without a name, which come before those at hand that have one.
+/// The same of one with a star.
 #[inline(always)]
-fn starred<'u>(
-    machine: &mut Machine<'u>,
-    hand: Hand,
-    x: &'u Expr,
-    args: &'u [Arg],
-    rest: &'u [Trailer],
-) -> Result<(), Halt>
-    ensures law { OnOk result ((w : TheWorld)
-        → NamedCalls hand (calls.star_argument (does.expr x.now) ∷ does.args args.now)
-        (does.trailers rest.now) machine.old w machine.new w) }
-    ensures ready { (w : TheWorld) → IsReady machine.old.units.now machine.old.frame machine.old.values w
-        → IsReady machine.new.units.now machine.new.frame machine.new.values w }
+fn star_task<'u>(hand: Hand, args: &'u [Arg], rest: &'u [Trailer]) -> ExprTask<'u>
+    ensures does { DoesAs result (ExprTask.LaterStar hand.plain hand.named args.entry rest.entry) }
+    ensures held { loads.expr_task result ≡ loads.called + loads.args args.now }
 {
     if hand.named == 0 {
-        return machine.wait(
-            Task::Expr(ExprTask::StarArgument(hand.plain, args, rest)),
-            Control::Expression(x),
-        );
+        return ExprTask::StarArgument(hand.plain, args, rest);
     }
-    machine.wait(
-        Task::Expr(ExprTask::LaterStar(hand.plain, hand.named, args, rest)),
-        Control::Expression(x),
-    )
+    ExprTask::LaterStar(hand.plain, hand.named, args, rest)
 }
 
 /// With what is spread; the callee and so many arguments before it are at hand.
@@ -199,6 +183,9 @@ pub fn after_star<'u>(
         machine.old world.old machine.new world.new) }
     ensures ready { IsReady machine.new.units.now machine.new.frame machine.new.values world.new }
     ensures shape { KeepsShape world.old.store.heap world.new.store.heap }
+    ensures fewer { world.new.running.meter.left ≤ world.old.running.meter.left }
+    ensures less { OnOk result (loads.Lowers (2 + loads.called + loads.args args.now)
+        machine.old world.old machine.new world.new) }
 {
     let hand = Hand {
         plain: count,
@@ -223,6 +210,9 @@ pub fn after_argument<'u>(
         machine.old world.old machine.new world.new) }
     ensures ready { IsReady machine.new.units.now machine.new.frame machine.new.values world.new }
     ensures shape { KeepsShape world.old.store.heap world.new.store.heap }
+    ensures fewer { world.new.running.meter.left ≤ world.old.running.meter.left }
+    ensures less { OnOk result (loads.Lowers (2 + loads.called + loads.args args.now)
+        machine.old world.old machine.new world.new) }
 {
     machine.hold(value)?;
     let plain = one_more(count)?;
@@ -241,6 +231,8 @@ pub(crate) fn call_at_hand<'u>(
     ensures law { OnOk result (Calls count [] (does.trailers rest.now) machine.old world.old machine.new world.new) }
     ensures ready { IsReady machine.new.units.now machine.new.frame machine.new.values world.new }
     ensures shape { KeepsShape world.old.store.heap world.new.store.heap }
+    ensures fewer { world.new.running.meter.left ≤ world.old.running.meter.left }
+    ensures less { OnOk result (loads.Lowers (2 + loads.called) machine.old world.old machine.new world.new) }
 {
     match called(machine, world, count as usize) {
         Ok(Some(value)) => with_result(machine, count, value, rest),
@@ -263,6 +255,7 @@ fn ask_left<'u>(machine: &mut Machine<'u>, count: u32, trailers: &'u [Trailer]) 
     ensures law { OnOk result (AsksLeft count (does.trailers trailers.now) machine.old machine.new) }
     ensures ready { (w : TheWorld) → IsReady machine.old.units.now machine.old.frame machine.old.values w
         → IsReady machine.new.units.now machine.new.frame machine.new.values w }
+    ensures less { OnOk result (loads.IsUnder (2 + loads.called) machine.old machine.new) }
 {
     let nil = Value::Rock(Rock::Nil);
     if is_rock(machine.values.under(count as usize, &nil)) {
@@ -280,6 +273,7 @@ fn ask_call<'u>(machine: &mut Machine<'u>, count: u32, trailers: &'u [Trailer]) 
         (reverse (take count machine.old.values)) (frame_in base machine.old) s))) }
     ensures ready { (w : TheWorld) → IsReady machine.old.units.now machine.old.frame machine.old.values w
         → IsReady machine.new.units.now machine.new.frame machine.new.values w }
+    ensures less { OnOk result (loads.IsUnder (1 + loads.called) machine.old machine.new) }
 {
     machine.wait(
         Task::Expr(ExprTask::Trailers(trailers)),
@@ -301,6 +295,7 @@ fn with_result<'u>(
     ensures ready { (w : TheWorld) → IsReady machine.old.units.now machine.old.frame machine.old.values w
         → IsFit w.store.heap machine.old.frame.side value
         → IsReady machine.new.units.now machine.new.frame machine.new.values w }
+    ensures less { OnOk result (loads.IsUnder 3 machine.old machine.new) }
 {
     machine.forget(count as usize + 1);
     more_trailers(machine, value, trailers)
@@ -321,6 +316,7 @@ fn called<'u>(
     ensures faithful { IsFaithful world.new }
     ensures shape { KeepsShape world.old.store.heap world.new.store.heap }
     ensures fit { IfOk result (λ v. IfSome v (IsFit world.new.store.heap machine.now.frame.side)) }
+    ensures fewer { world.new.running.meter.left ≤ world.old.running.meter.left }
 {
     let nil = Value::Rock(Rock::Nil);
     call(

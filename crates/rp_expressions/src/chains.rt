@@ -1,13 +1,14 @@
 //! Chains of operators of one level.
 #![tactic(auto, using(rp_store::proofs::CallerLemmas::goes_on))]
 
-ghost use Rattle.std.specs.Prelude.{OnOk};
+ghost use Rattle.std.specs.Prelude.{◌+◌, ◌≤◌, OnOk};
 ghost use Rattle.rp_meaning.specs.Expressions as forms;
 ghost use Rattle.rp_proxy.specs.declared.world.World.{World as TheWorld};
 ghost use Rattle.rp_store.specs.Kept.{IsFit};
 ghost use Rattle.rp_store.specs.Shape.{KeepsShape};
 ghost use Rattle.rp_engine.specs.Does as does;
 ghost use Rattle.rp_engine.specs.Law.{Evaluates, Resumes};
+ghost use Rattle.rp_engine.specs.Loads as loads;
 ghost use Rattle.rp_engine.specs.Ready.{IsReady};
 ghost use Rattle.rp_engine.specs.Rest.{next_operand, with_operands};
 
@@ -34,6 +35,8 @@ pub fn chain<'u>(
         machine.old world.old machine.new world.new) }
     ensures ready { IsReady machine.new.units.now machine.new.frame machine.new.values world.new }
     ensures shape { KeepsShape world.old.store.heap world.new.store.heap }
+    ensures fewer { world.new.running.meter.left ≤ world.old.running.meter.left }
+    ensures less { OnOk result (loads.Lowers (2 + loads.inside first.now) machine.old world.old machine.new world.new) }
 {
     match machine.leaf(world, first) {
         Ok(Some(a)) => operands(machine, world, a, rest),
@@ -59,6 +62,8 @@ pub fn operands<'u>(
         (Evaluates (forms.operands (does.ops rest.now) a) machine.old world.old machine.new world.new) }
     ensures ready { IsReady machine.new.units.now machine.new.frame machine.new.values world.new }
     ensures shape { KeepsShape world.old.store.heap world.new.store.heap }
+    ensures fewer { world.new.running.meter.left ≤ world.old.running.meter.left }
+    ensures less { OnOk result (loads.Lowers 2 machine.old world.old machine.new world.new) }
 {
     match rest {
         [] => machine.back(a),
@@ -82,6 +87,8 @@ fn operand<'u>(
         machine.old world.old machine.new world.new) }
     ensures ready { IsReady machine.new.units.now machine.new.frame machine.new.values world.new }
     ensures shape { KeepsShape world.old.store.heap world.new.store.heap }
+    ensures fewer { world.new.running.meter.left ≤ world.old.running.meter.left }
+    ensures less { OnOk result (loads.Lowers 0 machine.old world.old machine.new world.new) }
 {
     match machine.next_leaf(world, x) {
         Ok(Some(b)) => operated(machine, world, op, a, b, rest),
@@ -111,6 +118,8 @@ fn operated<'u>(
         machine.old world.old machine.new world.new) }
     ensures ready { IsReady machine.new.units.now machine.new.frame machine.new.values world.new }
     ensures shape { KeepsShape world.old.store.heap world.new.store.heap }
+    ensures fewer { world.new.running.meter.left ≤ world.old.running.meter.left }
+    ensures less { OnOk result (loads.Lowers 3 machine.old world.old machine.new world.new) }
 {
     match operate(machine.alloc, world, machine.frame.side, op, &a, &b) {
         Ok(value) => more_operands(machine, value, rest),
@@ -130,6 +139,7 @@ fn more_operands<'u>(
     ensures ready { (w : TheWorld) → IsReady machine.old.units.now machine.old.frame machine.old.values w
         → IsFit w.store.heap machine.old.frame.side a
         → IsReady machine.new.units.now machine.new.frame machine.new.values w }
+    ensures less { OnOk result (loads.IsUnder 3 machine.old machine.new) }
 {
     match rest {
         [] => machine.back(a),
@@ -151,6 +161,8 @@ pub fn after_operand<'u>(
     ensures law { OnOk result (Resumes (ExprTask.Operand op rest.entry) b machine.old world.old machine.new world.new) }
     ensures ready { IsReady machine.new.units.now machine.new.frame machine.new.values world.new }
     ensures shape { KeepsShape world.old.store.heap world.new.store.heap }
+    ensures fewer { world.new.running.meter.left ≤ world.old.running.meter.left }
+    ensures less { OnOk result (loads.Lowers 3 machine.old world.old machine.new world.new) }
 {
     let a = machine.at_hand();
     operated(machine, world, op, a, b, rest)

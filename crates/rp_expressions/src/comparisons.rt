@@ -1,7 +1,7 @@
 //! Comparisons (Python Language Reference, Comparisons).
 #![tactic(auto, using(rp_store::proofs::CallerLemmas::goes_on))]
 
-ghost use Rattle.std.specs.Prelude.{OnOk};
+ghost use Rattle.std.specs.Prelude.{◌+◌, ◌≤◌, OnOk};
 ghost use Rattle.rp_meaning.specs.Expressions as forms;
 ghost use Rattle.rp_proxy.specs.declared.world.World.{World as TheWorld};
 ghost use Rattle.rp_store.specs.Kept.{IsFit};
@@ -10,6 +10,7 @@ ghost use Rattle.rp_engine.specs.ComparisonSteps.{by_test, with_test};
 ghost use Rattle.rp_engine.specs.Does as does;
 ghost use Rattle.rp_engine.specs.ExpressionSteps.{step_to};
 ghost use Rattle.rp_engine.specs.Law.{Evaluates, Resumes};
+ghost use Rattle.rp_engine.specs.Loads as loads;
 ghost use Rattle.rp_engine.specs.Ready.{IsReady};
 
 use crate::special_methods::test_by_method;
@@ -36,6 +37,8 @@ pub fn comparison<'u>(
         machine.old world.old machine.new world.new) }
     ensures ready { IsReady machine.new.units.now machine.new.frame machine.new.values world.new }
     ensures shape { KeepsShape world.old.store.heap world.new.store.heap }
+    ensures fewer { world.new.running.meter.left ≤ world.old.running.meter.left }
+    ensures less { OnOk result (loads.Lowers (2 + loads.inside first.now) machine.old world.old machine.new world.new) }
 {
     match machine.leaf(world, first) {
         Ok(Some(a)) => tests(machine, world, a, rest),
@@ -61,6 +64,8 @@ pub fn tests<'u>(
         (Evaluates (forms.tests (does.tests rest.now) a) machine.old world.old machine.new world.new) }
     ensures ready { IsReady machine.new.units.now machine.new.frame machine.new.values world.new }
     ensures shape { KeepsShape world.old.store.heap world.new.store.heap }
+    ensures fewer { world.new.running.meter.left ≤ world.old.running.meter.left }
+    ensures less { OnOk result (loads.Lowers 2 machine.old world.old machine.new world.new) }
 {
     match rest {
         [] => machine.back(Value::Rock(Rock::Truth(true))),
@@ -84,6 +89,8 @@ fn test<'u>(
         machine.old world.old machine.new world.new) }
     ensures ready { IsReady machine.new.units.now machine.new.frame machine.new.values world.new }
     ensures shape { KeepsShape world.old.store.heap world.new.store.heap }
+    ensures fewer { world.new.running.meter.left ≤ world.old.running.meter.left }
+    ensures less { OnOk result (loads.Lowers 0 machine.old world.old machine.new world.new) }
 {
     match machine.next_leaf(world, x) {
         Ok(Some(b)) => compared(machine, world, test, a, b, rest),
@@ -113,6 +120,8 @@ fn compared<'u>(
         machine.old world.old machine.new world.new) }
     ensures ready { IsReady machine.new.units.now machine.new.frame machine.new.values world.new }
     ensures shape { KeepsShape world.old.store.heap world.new.store.heap }
+    ensures fewer { world.new.running.meter.left ≤ world.old.running.meter.left }
+    ensures less { OnOk result (loads.Lowers (2 + loads.called) machine.old world.old machine.new world.new) }
 {
     match holds(machine.alloc, world, test, &a, &b) {
         Ok(Some(holds)) => by_test(machine, holds, b, rest),
@@ -134,6 +143,7 @@ pub(crate) fn by_test<'u>(
     ensures ready { (w : TheWorld) → IsReady machine.old.units.now machine.old.frame machine.old.values w
         → IsFit w.store.heap machine.old.frame.side b
         → IsReady machine.new.units.now machine.new.frame machine.new.values w }
+    ensures less { OnOk result (loads.IsUnder 3 machine.old machine.new) }
 {
     if holds {
         more_tests(machine, b, rest)
@@ -150,6 +160,7 @@ fn more_tests<'u>(machine: &mut Machine<'u>, b: Value, rest: &'u [(Test, Expr)])
     ensures ready { (w : TheWorld) → IsReady machine.old.units.now machine.old.frame machine.old.values w
         → IsFit w.store.heap machine.old.frame.side b
         → IsReady machine.new.units.now machine.new.frame machine.new.values w }
+    ensures less { OnOk result (loads.IsUnder 3 machine.old machine.new) }
 {
     match rest {
         [] => machine.back(Value::Rock(Rock::Truth(true))),
@@ -171,6 +182,8 @@ pub fn after_test<'u>(
     ensures law { OnOk result (Resumes (ExprTask.Test test rest.entry) b machine.old world.old machine.new world.new) }
     ensures ready { IsReady machine.new.units.now machine.new.frame machine.new.values world.new }
     ensures shape { KeepsShape world.old.store.heap world.new.store.heap }
+    ensures fewer { world.new.running.meter.left ≤ world.old.running.meter.left }
+    ensures less { OnOk result (loads.Lowers (2 + loads.called) machine.old world.old machine.new world.new) }
 {
     let a = machine.at_hand();
     compared(machine, world, test, a, b, rest)

@@ -1,7 +1,7 @@
 //! What goes on by the truth of a value (Python Language Reference, Boolean operations, Conditional expressions).
 #![tactic(auto, using(rp_store::proofs::CallerLemmas::goes_on))]
 
-ghost use Rattle.std.specs.Prelude.{OnOk};
+ghost use Rattle.std.specs.Prelude.{◌+◌, ◌≤◌, OnOk};
 ghost use Rattle.rp_meaning.specs.Expressions as forms;
 ghost use Rattle.rp_proxy.specs.declared.world.World.{World as TheWorld};
 ghost use Rattle.rp_store.specs.Kept.{IsFit};
@@ -9,6 +9,7 @@ ghost use Rattle.rp_store.specs.Shape.{KeepsShape};
 ghost use Rattle.rp_engine.specs.Does as does;
 ghost use Rattle.rp_engine.specs.ExpressionSteps.{either, not_of, one_of};
 ghost use Rattle.rp_engine.specs.Law.{Evaluates};
+ghost use Rattle.rp_engine.specs.Loads as loads;
 ghost use Rattle.rp_engine.specs.Ready.{IsReady};
 
 use rp_access::truth;
@@ -29,6 +30,8 @@ pub fn negation<'u>(machine: &mut Machine<'u>, world: &mut World, x: &'u Expr) -
         machine.old world.old machine.new world.new) }
     ensures ready { IsReady machine.new.units.now machine.new.frame machine.new.values world.new }
     ensures shape { KeepsShape world.old.store.heap world.new.store.heap }
+    ensures fewer { world.new.running.meter.left ≤ world.old.running.meter.left }
+    ensures less { OnOk result (loads.Lowers 0 machine.old world.old machine.new world.new) }
 {
     match machine.next_leaf(world, x) {
         Ok(Some(value)) => not_of(machine, world, value),
@@ -45,6 +48,8 @@ pub fn not_of<'u>(machine: &mut Machine<'u>, world: &mut World, value: Value) ->
     ensures law { OnOk result (Evaluates (not_of value) machine.old world.old machine.new world.new) }
     ensures ready { IsReady machine.new.units.now machine.new.frame machine.new.values world.new }
     ensures shape { KeepsShape world.old.store.heap world.new.store.heap }
+    ensures fewer { world.new.running.meter.left ≤ world.old.running.meter.left }
+    ensures less { OnOk result (loads.Lowers 2 machine.old world.old machine.new world.new) }
 {
     match truth(machine.alloc, world, &value) {
         Ok(truth) => machine.back(Value::Rock(Rock::Truth(!truth))),
@@ -67,6 +72,8 @@ pub fn conditional<'u>(
         machine.old world.old machine.new world.new) }
     ensures ready { IsReady machine.new.units.now machine.new.frame machine.new.values world.new }
     ensures shape { KeepsShape world.old.store.heap world.new.store.heap }
+    ensures fewer { world.new.running.meter.left ≤ world.old.running.meter.left }
+    ensures less { OnOk result (loads.Lowers 0 machine.old world.old machine.new world.new) }
 {
     match machine.next_leaf(world, test) {
         Ok(Some(value)) => either(machine, world, value, this, other),
@@ -93,6 +100,9 @@ pub fn either<'u>(
         machine.old world.old machine.new world.new) }
     ensures ready { IsReady machine.new.units.now machine.new.frame machine.new.values world.new }
     ensures shape { KeepsShape world.old.store.heap world.new.store.heap }
+    ensures fewer { world.new.running.meter.left ≤ world.old.running.meter.left }
+    ensures less { OnOk result (loads.Lowers (loads.expr_weight this.now + loads.expr_weight other.now)
+        machine.old world.old machine.new world.new) }
 {
     match truth(machine.alloc, world, &value) {
         Ok(truth) => one_of(machine, truth, this, other),
@@ -111,6 +121,8 @@ fn one_of<'u>(
         → Evaluates (one_of truth (does.expr this.now) (does.expr other.now)) machine.old w machine.new w }
     ensures ready { (w : TheWorld) → IsReady machine.old.units.now machine.old.frame machine.old.values w
         → IsReady machine.new.units.now machine.new.frame machine.new.values w }
+    ensures less { OnOk result (loads.IsUnder (loads.expr_weight this.now + loads.expr_weight other.now)
+        machine.old machine.new) }
 {
     if truth {
         machine.go(Control::Expression(this))

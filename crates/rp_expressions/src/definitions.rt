@@ -1,7 +1,7 @@
 //! Definitions of functions (Python Language Reference, Function definitions, Lambdas).
 #![tactic(auto, using(rp_store::proofs::CallerLemmas::goes_on))]
 
-ghost use Rattle.std.specs.Prelude.{◌≡◌, ◌∷◌, [], IfOk, MatchOption, OnOk};
+ghost use Rattle.std.specs.Prelude.{◌≡◌, ◌∷◌, ◌+◌, ◌≤◌, [], IfOk, IfSome, MatchOption, OnOk};
 ghost use Rattle.rp_meaning.specs.Expressions as forms;
 ghost use Rattle.rp_meaning.specs.Statements as stmt_forms;
 ghost use Rattle.rp_proxy.specs.Faithful.{IsFaithful};
@@ -14,6 +14,7 @@ ghost use Rattle.rp_engine.specs.DefinitionSteps.{function_of};
 ghost use Rattle.rp_engine.specs.DisplaySteps.{makes_of};
 ghost use Rattle.rp_engine.specs.Does as does;
 ghost use Rattle.rp_engine.specs.Law.{Evaluates, Executes, Resumes};
+ghost use Rattle.rp_engine.specs.Loads as loads;
 ghost use Rattle.rp_engine.specs.Ready.{IsReady};
 ghost use Rattle.rp_tree.specs.declared.expr.Params.{out-Params};
 
@@ -29,7 +30,7 @@ use rp_tree::{Expr, Named, Params};
 /// A `def`: the defaults of its parameters, then the function, which is bound to the name.
 ///
 /// # Errors
-/// `Memory` where a growth was refused, and at more than 2^32 - 1 defaults, as all that follow.
+/// `Memory` where a growth was refused, and `TooLong` at more than 2^32 - 1 defaults, as all that follow.
 #[inline(never)]
 pub fn definition<'u>(
     machine: &mut Machine<'u>,
@@ -44,6 +45,7 @@ pub fn definition<'u>(
         machine.old world.old machine.new world.new) }
     ensures ready { IsReady machine.new.units.now machine.new.frame machine.new.values world.new }
     ensures shape { KeepsShape world.old.store.heap world.new.store.heap }
+    ensures fewer { world.new.running.meter.left ≤ world.old.running.meter.left }
 {
     machine.tasks.push(Task::Stmt(StmtTask::Define(name)))?;
     defaults(machine, world, Some(name), block, 0, &params.plain)
@@ -64,6 +66,8 @@ pub fn lambda<'u>(
         machine.old world.old machine.new world.new) }
     ensures ready { IsReady machine.new.units.now machine.new.frame machine.new.values world.new }
     ensures shape { KeepsShape world.old.store.heap world.new.store.heap }
+    ensures fewer { world.new.running.meter.left ≤ world.old.running.meter.left }
+    ensures less { OnOk result (loads.Lowers 0 machine.old world.old machine.new world.new) }
 {
     match take_step(world) {
         Ok(()) => defaults(machine, world, None, block, 0, &params.plain),
@@ -86,6 +90,9 @@ pub fn defaults<'u>(
         machine.old world.old machine.new world.new) }
     ensures ready { IsReady machine.new.units.now machine.new.frame machine.new.values world.new }
     ensures shape { KeepsShape world.old.store.heap world.new.store.heap }
+    ensures fewer { world.new.running.meter.left ≤ world.old.running.meter.left }
+    ensures less { OnOk result (loads.Lowers (2 + loads.params params.now)
+        machine.old world.old machine.new world.new) }
 {
     match first_default(params) {
         None => make_function(machine, world, name, block, count),
@@ -113,6 +120,8 @@ pub fn after_default<'u>(
         machine.old world.old machine.new world.new) }
     ensures ready { IsReady machine.new.units.now machine.new.frame machine.new.values world.new }
     ensures shape { KeepsShape world.old.store.heap world.new.store.heap }
+    ensures fewer { world.new.running.meter.left ≤ world.old.running.meter.left }
+    ensures less { OnOk result (loads.Lowers (2 + loads.params rest.now) machine.old world.old machine.new world.new) }
 {
     machine.hold(value)?;
     let count = one_more(count)?;
@@ -132,6 +141,8 @@ fn make_function<'u>(
     ensures law { OnOk result (Defines name block count [] machine.old world.old machine.new world.new) }
     ensures ready { IsReady machine.new.units.now machine.new.frame machine.new.values world.new }
     ensures shape { KeepsShape world.old.store.heap world.new.store.heap }
+    ensures fewer { world.new.running.meter.left ≤ world.old.running.meter.left }
+    ensures less { OnOk result (loads.Lowers 2 machine.old world.old machine.new world.new) }
 {
     let defaults = machine.all_at_hand(count as usize)?;
     machine.give(new_function(
@@ -148,8 +159,10 @@ fn make_function<'u>(
 fn first_default<'u>(
     params: &'u [(Named, Option<Expr>)],
 ) -> Option<(&'u Expr, &'u [(Named, Option<Expr>)])>
-    ensures { MatchOption result (does.defaults params.now ≡ [])
+    ensures law { MatchOption result (does.defaults params.now ≡ [])
         (λ found. does.defaults params.now ≡ does.expr found.0.now ∷ does.defaults found.1.now) }
+    ensures less { IfSome result (λ found.
+        loads.inside found.0.now + loads.params found.1.now ≤ loads.params params.now) }
 {
     match params {
         [] => None,
@@ -177,6 +190,7 @@ fn new_function(
     ensures faithful { IsFaithful world.new }
     ensures shape { KeepsShape world.old.store.heap world.new.store.heap }
     ensures fit { IfOk result (IsFit world.new.store.heap side) }
+    ensures fewer { world.new.running.meter.left ≤ world.old.running.meter.left }
 {
     let function = Object::Function {
         name,

@@ -1,7 +1,7 @@
 //! Displays of dicts (Python Language Reference, Dictionary displays).
 #![tactic(auto, using(rp_store::proofs::CallerLemmas::goes_on))]
 
-ghost use Rattle.std.specs.Prelude.{◌∷◌, OnOk};
+ghost use Rattle.std.specs.Prelude.{◌+◌, ◌∷◌, ◌≤◌, OnOk};
 ghost use Rattle.rp_meaning.specs.Expressions as forms;
 ghost use Rattle.rp_store.specs.Kept.{IsFit};
 ghost use Rattle.rp_store.specs.Shape.{KeepsShape};
@@ -9,6 +9,7 @@ ghost use Rattle.rp_engine.specs.DisplaySteps.{parts};
 ghost use Rattle.rp_engine.specs.Does as does;
 ghost use Rattle.rp_engine.specs.GatheringSteps.{Gathers};
 ghost use Rattle.rp_engine.specs.Law.{Evaluates, Resumes};
+ghost use Rattle.rp_engine.specs.Loads as loads;
 ghost use Rattle.rp_engine.specs.Ready.{IsReady};
 
 use crate::displays::{make_display, no_element};
@@ -22,7 +23,7 @@ use rp_tree::Expr;
 /// A dict display.
 ///
 /// # Errors
-/// `Memory` where a growth was refused, and at 2^32 - 1 keys and values, as all that follow.
+/// `Memory` where a growth was refused, and `TooLong` at 2^32 - 1 keys and values, as all that follow.
 #[inline(never)]
 #[tactic(auto, using(rp_store::proofs::CallerLemmas::goes_on, rp_engine::proofs::Worlds::shape_stored))]
 pub fn dict_display<'u>(
@@ -35,6 +36,8 @@ pub fn dict_display<'u>(
         (Evaluates (forms.dict (does.pairs pairs.now)) machine.old world.old machine.new world.new) }
     ensures ready { IsReady machine.new.units.now machine.new.frame machine.new.values world.new }
     ensures shape { KeepsShape world.old.store.heap world.new.store.heap }
+    ensures fewer { world.new.running.meter.left ≤ world.old.running.meter.left }
+    ensures less { OnOk result (loads.Lowers 0 machine.old world.old machine.new world.new) }
 {
     match take_step(world) {
         Ok(()) => entries(machine, world, 0, pairs),
@@ -55,6 +58,8 @@ fn entries<'u>(
         machine.old world.old machine.new world.new) }
     ensures ready { IsReady machine.new.units.now machine.new.frame machine.new.values world.new }
     ensures shape { KeepsShape world.old.store.heap world.new.store.heap }
+    ensures fewer { world.new.running.meter.left ≤ world.old.running.meter.left }
+    ensures less { OnOk result (loads.Lowers (2 + loads.pairs rest.now) machine.old world.old machine.new world.new) }
 {
     match rest {
         [] => make_display(machine, world, Display::Dict, count),
@@ -78,6 +83,9 @@ fn dict_key<'u>(
         machine.old world.old machine.new world.new) }
     ensures ready { IsReady machine.new.units.now machine.new.frame machine.new.values world.new }
     ensures shape { KeepsShape world.old.store.heap world.new.store.heap }
+    ensures fewer { world.new.running.meter.left ≤ world.old.running.meter.left }
+    ensures less { OnOk result (loads.Lowers (4 + loads.inside key.now + loads.inside value.now + loads.pairs rest.now)
+        machine.old world.old machine.new world.new) }
 {
     match machine.leaf(world, key) {
         Ok(Some(k)) => machine.wait_with(
@@ -109,6 +117,9 @@ pub fn after_dict_key<'u>(
         machine.old world.old machine.new world.new) }
     ensures ready { IsReady machine.new.units.now machine.new.frame machine.new.values world.new }
     ensures shape { KeepsShape world.old.store.heap world.new.store.heap }
+    ensures fewer { world.new.running.meter.left ≤ world.old.running.meter.left }
+    ensures less { OnOk result (loads.Lowers (3 + loads.inside value.now + loads.pairs rest.now)
+        machine.old world.old machine.new world.new) }
 {
     machine.hold(key)?;
     let count = one_more(count)?;
@@ -129,6 +140,9 @@ fn dict_value<'u>(
         machine.old world.old machine.new world.new) }
     ensures ready { IsReady machine.new.units.now machine.new.frame machine.new.values world.new }
     ensures shape { KeepsShape world.old.store.heap world.new.store.heap }
+    ensures fewer { world.new.running.meter.left ≤ world.old.running.meter.left }
+    ensures less { OnOk result (loads.Lowers (3 + loads.inside value.now + loads.pairs rest.now)
+        machine.old world.old machine.new world.new) }
 {
     match machine.leaf(world, value) {
         Ok(Some(v)) => machine.wait_with(
@@ -159,6 +173,8 @@ pub fn after_dict_value<'u>(
         machine.old world.old machine.new world.new) }
     ensures ready { IsReady machine.new.units.now machine.new.frame machine.new.values world.new }
     ensures shape { KeepsShape world.old.store.heap world.new.store.heap }
+    ensures fewer { world.new.running.meter.left ≤ world.old.running.meter.left }
+    ensures less { OnOk result (loads.Lowers (2 + loads.pairs rest.now) machine.old world.old machine.new world.new) }
 {
     machine.hold(value)?;
     let count = one_more(count)?;

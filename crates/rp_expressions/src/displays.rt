@@ -1,7 +1,7 @@
 //! Displays, and the objects that they make (Python Language Reference, Displays for lists, sets and dictionaries).
 #![tactic(auto, using(rp_store::proofs::CallerLemmas::goes_on))]
 
-ghost use Rattle.std.specs.Prelude.{◌≡◌, ◌∷◌, [], OnOk, drop};
+ghost use Rattle.std.specs.Prelude.{◌+◌, ◌∷◌, ◌≡◌, ◌≤◌, [], OnOk, drop};
 ghost use Rattle.rp_base.specs.declared.value.Value.{Value as TheValue};
 ghost use Rattle.rp_meaning.specs.Frame.{Run};
 ghost use Rattle.rp_meaning.specs.State.{Outcome, State};
@@ -13,6 +13,7 @@ ghost use Rattle.rp_engine.specs.DisplaySteps.{display};
 ghost use Rattle.rp_engine.specs.Does as does;
 ghost use Rattle.rp_engine.specs.GatheringSteps.{Gathers};
 ghost use Rattle.rp_engine.specs.Law.{Evaluates, Resumes, frame_in, rest_of};
+ghost use Rattle.rp_engine.specs.Loads as loads;
 ghost use Rattle.rp_engine.specs.Ready.{IsReady};
 ghost use Rattle.rp_engine.specs.Rest.{gave, rest};
 
@@ -26,7 +27,7 @@ use rp_tree::Expr;
 /// A display.
 ///
 /// # Errors
-/// `Memory` where a growth was refused, and at more than 2^32 - 1 elements, as all that follow.
+/// `Memory` where a growth was refused, and `TooLong` at more than 2^32 - 1 elements, as all that follow.
 #[inline(never)]
 #[tactic(auto, using(rp_store::proofs::CallerLemmas::goes_on, rp_engine::proofs::Worlds::shape_stored))]
 pub fn display<'u>(
@@ -40,6 +41,8 @@ pub fn display<'u>(
         machine.old world.old machine.new world.new) }
     ensures ready { IsReady machine.new.units.now machine.new.frame machine.new.values world.new }
     ensures shape { KeepsShape world.old.store.heap world.new.store.heap }
+    ensures fewer { world.new.running.meter.left ≤ world.old.running.meter.left }
+    ensures less { OnOk result (loads.Lowers 0 machine.old world.old machine.new world.new) }
 {
     match take_step(world) {
         Ok(()) => gather(machine, world, kind, 0, items),
@@ -60,6 +63,8 @@ fn gather<'u>(
     ensures law { OnOk result (Gathers kind count (does.exprs rest.now) machine.old world.old machine.new world.new) }
     ensures ready { IsReady machine.new.units.now machine.new.frame machine.new.values world.new }
     ensures shape { KeepsShape world.old.store.heap world.new.store.heap }
+    ensures fewer { world.new.running.meter.left ≤ world.old.running.meter.left }
+    ensures less { OnOk result (loads.Lowers (2 + loads.exprs rest.now) machine.old world.old machine.new world.new) }
 {
     match rest {
         [] => make_display(machine, world, kind, count),
@@ -82,6 +87,9 @@ fn element<'u>(
         machine.old world.old machine.new world.new) }
     ensures ready { IsReady machine.new.units.now machine.new.frame machine.new.values world.new }
     ensures shape { KeepsShape world.old.store.heap world.new.store.heap }
+    ensures fewer { world.new.running.meter.left ≤ world.old.running.meter.left }
+    ensures less { OnOk result (loads.Lowers (3 + loads.inside x.now + loads.exprs rest.now)
+        machine.old world.old machine.new world.new) }
 {
     match machine.leaf(world, x) {
         Ok(Some(value)) => machine.wait_with(
@@ -105,6 +113,7 @@ pub(crate) fn no_element<'u>(machine: &mut Machine<'u>, count: u32, end: OpEnd) 
         ≡ rest machine.old.tasks (gave (frame_in base machine.old) (drop count machine.old.values) o)) }
     ensures ready { (w : TheWorld) → IsReady machine.old.units.now machine.old.frame machine.old.values w
         → IsReady machine.new.units.now machine.new.frame machine.new.values w }
+    ensures less { OnOk result (loads.IsUnder 0 machine.old machine.new) }
 {
     machine.forget(count as usize);
     machine.no_value(end)
@@ -126,6 +135,8 @@ pub fn after_item<'u>(
         machine.old world.old machine.new world.new) }
     ensures ready { IsReady machine.new.units.now machine.new.frame machine.new.values world.new }
     ensures shape { KeepsShape world.old.store.heap world.new.store.heap }
+    ensures fewer { world.new.running.meter.left ≤ world.old.running.meter.left }
+    ensures less { OnOk result (loads.Lowers (2 + loads.exprs rest.now) machine.old world.old machine.new world.new) }
 {
     machine.hold(value)?;
     let count = one_more(count)?;
@@ -144,6 +155,8 @@ pub(crate) fn make_display<'u>(
     ensures law { OnOk result (Gathers kind count [] machine.old world.old machine.new world.new) }
     ensures ready { IsReady machine.new.units.now machine.new.frame machine.new.values world.new }
     ensures shape { KeepsShape world.old.store.heap world.new.store.heap }
+    ensures fewer { world.new.running.meter.left ≤ world.old.running.meter.left }
+    ensures less { OnOk result (loads.Lowers 2 machine.old world.old machine.new world.new) }
 {
     let elements = machine.all_at_hand(count as usize)?;
     machine.give(new_display(machine.alloc, world, machine.frame.side, kind, elements))

@@ -1,7 +1,7 @@
 //! Arguments without a name behind some with one (Python Language Reference, Calls).
 #![tactic(auto, using(rp_store::proofs::CallerLemmas::goes_on))]
 
-ghost use Rattle.std.specs.Prelude.{◌≡◌, ◌+◌, ◌*◌, ◌∷◌, ◌++◌, [], IfOk, OnOk, drop, length, reverse, suc};
+ghost use Rattle.std.specs.Prelude.{◌≡◌, ◌+◌, ◌*◌, ◌∷◌, ◌++◌, ◌≤◌, [], IfOk, OnOk, drop, length, reverse, suc};
 ghost use Rattle.rp_access.specs.Moment.{state_of};
 ghost use Rattle.rp_frame.specs.Top.{top};
 ghost use Rattle.rp_meaning.specs.Calls.{with_plain};
@@ -13,6 +13,7 @@ ghost use Rattle.rp_engine.specs.ArgumentSteps.{with_all, with_all_named};
 ghost use Rattle.rp_engine.specs.Does as does;
 ghost use Rattle.rp_engine.specs.HandSteps.{held_by, size_of};
 ghost use Rattle.rp_engine.specs.Law.{Resumes, frame_in, rest_of};
+ghost use Rattle.rp_engine.specs.Loads as loads;
 ghost use Rattle.rp_engine.specs.Ready.{IsReady};
 ghost use Rattle.rp_engine.specs.Rest.{gave, rest};
 
@@ -30,7 +31,7 @@ use std::alloc::Global;
 /// With an argument without a name; the callee and these arguments before it are at hand.
 ///
 /// # Errors
-/// `Memory` where a growth was refused, and at more than 2^32 - 1 arguments, as all that follow.
+/// `Memory` where a growth was refused, and `TooLong` at more than 2^32 - 1 arguments, as all that follow.
 #[inline(never)]
 pub fn after_later<'u>(
     machine: &mut Machine<'u>,
@@ -46,6 +47,9 @@ pub fn after_later<'u>(
         machine.old world.old machine.new world.new) }
     ensures ready { IsReady machine.new.units.now machine.new.frame machine.new.values world.new }
     ensures shape { KeepsShape world.old.store.heap world.new.store.heap }
+    ensures fewer { world.new.running.meter.left ≤ world.old.running.meter.left }
+    ensures less { OnOk result (loads.Lowers (2 + loads.called + loads.args args.now)
+        machine.old world.old machine.new world.new) }
 {
     let values = alone(machine.alloc, value)?;
     plain_over(machine, world, hand, values, args, rest)
@@ -67,6 +71,9 @@ pub fn after_later_star<'u>(
         machine.old world.old machine.new world.new) }
     ensures ready { IsReady machine.new.units.now machine.new.frame machine.new.values world.new }
     ensures shape { KeepsShape world.old.store.heap world.new.store.heap }
+    ensures fewer { world.new.running.meter.left ≤ world.old.running.meter.left }
+    ensures less { OnOk result (loads.Lowers (2 + loads.called + loads.args args.now)
+        machine.old world.old machine.new world.new) }
 {
     match spread(machine.alloc, world, machine.frame.side, &value) {
         Ok(values) => plain_over(machine, world, hand, values, args, rest),
@@ -93,6 +100,9 @@ fn plain_over<'u>(
         (state_of world.old)))) }
     ensures ready { IsReady machine.new.units.now machine.new.frame machine.new.values world.new }
     ensures shape { KeepsShape world.old.store.heap world.new.store.heap }
+    ensures fewer { world.new.running.meter.left ≤ world.old.running.meter.left }
+    ensures less { OnOk result (loads.Lowers (2 + loads.called + loads.args args.now)
+        machine.old world.old machine.new world.new) }
 {
     let all = hold_plain(machine, hand, values)?;
     arguments(machine, world, all, args, trailers)
@@ -102,8 +112,7 @@ fn plain_over<'u>(
 /// arguments are at hand then.
 ///
 /// # Errors
-/// `Memory` where a growth was refused, at more than 2^32 - 1 arguments, and where the count of a text's owners is
-/// full.
+/// `Memory` where a growth was refused, and `TooLong` at more than 2^32 - 1 arguments.
 fn hold_plain<'u>(machine: &mut Machine<'u>, hand: Hand, values: Vec<Value>) -> Result<Hand, Halt>
     ensures held { OnOk result (machine.new ≡ record machine.old {
       values = with_all_named (held_by hand machine.old.values).named

@@ -1,7 +1,7 @@
 //! Calls with named arguments (Python Language Reference, Calls).
 #![tactic(auto, using(rp_store::proofs::CallerLemmas::goes_on))]
 
-ghost use Rattle.std.specs.Prelude.{◌≡◌, ◌≢◌, ◌∷◌, [], All, IfOk, OnOk, drop, suc};
+ghost use Rattle.std.specs.Prelude.{◌≡◌, ◌≢◌, ◌∷◌, ◌+◌, ◌≤◌, [], All, IfOk, OnOk, drop, suc};
 ghost use Rattle.rp_access.specs.Moment.{state_of};
 ghost use Rattle.rp_frame.specs.Top.{top};
 ghost use Rattle.rp_meaning.specs.Calls.{with_named};
@@ -18,6 +18,7 @@ ghost use Rattle.rp_expressions.specs.Arguments.{NamedCalls};
 ghost use Rattle.rp_engine.specs.Does as does;
 ghost use Rattle.rp_engine.specs.HandSteps.{held_by, size_of};
 ghost use Rattle.rp_engine.specs.Law.{Resumes, frame_in, rest_of};
+ghost use Rattle.rp_engine.specs.Loads as loads;
 ghost use Rattle.rp_engine.specs.Ready.{IsReady};
 ghost use Rattle.rp_engine.specs.Rest.{gave, rest};
 
@@ -35,7 +36,7 @@ use std::alloc::Global;
 /// With an argument with a name; the callee and these arguments before it are at hand.
 ///
 /// # Errors
-/// `Memory` where a growth was refused, and at more than 2^32 - 1 arguments, as all that follow.
+/// `Memory` where a growth was refused, and `TooLong` at more than 2^32 - 1 arguments, as all that follow.
 #[inline(never)]
 pub fn after_named<'u>(
     machine: &mut Machine<'u>,
@@ -52,6 +53,9 @@ pub fn after_named<'u>(
         value machine.old world.old machine.new world.new) }
     ensures ready { IsReady machine.new.units.now machine.new.frame machine.new.values world.new }
     ensures shape { KeepsShape world.old.store.heap world.new.store.heap }
+    ensures fewer { world.new.running.meter.left ≤ world.old.running.meter.left }
+    ensures less { OnOk result (loads.Lowers (2 + loads.called + loads.args args.now)
+        machine.old world.old machine.new world.new) }
 {
     let word = argument_word(machine.alloc, world, name)?;
     with_word(machine, world, hand, word, value, args, rest)
@@ -77,6 +81,9 @@ fn with_word<'u>(
         (state_of world.old)))) }
     ensures ready { IsReady machine.new.units.now machine.new.frame machine.new.values world.new }
     ensures shape { KeepsShape world.old.store.heap world.new.store.heap }
+    ensures fewer { world.new.running.meter.left ≤ world.old.running.meter.left }
+    ensures less { OnOk result (loads.Lowers (2 + loads.called + loads.args args.now)
+        machine.old world.old machine.new world.new) }
 {
     hold_pair(machine, word, value)?;
     let named = one_more(hand.named)?;
@@ -100,6 +107,9 @@ pub fn after_stars<'u>(
         machine.old world.old machine.new world.new) }
     ensures ready { IsReady machine.new.units.now machine.new.frame machine.new.values world.new }
     ensures shape { KeepsShape world.old.store.heap world.new.store.heap }
+    ensures fewer { world.new.running.meter.left ≤ world.old.running.meter.left }
+    ensures less { OnOk result (loads.Lowers (2 + loads.called + loads.args args.now)
+        machine.old world.old machine.new world.new) }
 {
     match spread_named(machine.alloc, world, machine.frame.side, &value) {
         Ok(named) => named_over(machine, world, hand, named, args, rest),
@@ -125,6 +135,9 @@ fn named_over<'u>(
         (with_named (held_by hand machine.old.values) named.items) (frame_in base machine.old) (state_of world.old)))) }
     ensures ready { IsReady machine.new.units.now machine.new.frame machine.new.values world.new }
     ensures shape { KeepsShape world.old.store.heap world.new.store.heap }
+    ensures fewer { world.new.running.meter.left ≤ world.old.running.meter.left }
+    ensures less { OnOk result (loads.Lowers (2 + loads.called + loads.args args.now)
+        machine.old world.old machine.new world.new) }
 {
     let count = more_by(hand.named, named.len())?;
     hold_named(machine, named)?;
@@ -191,6 +204,8 @@ pub(crate) fn call_hand<'u>(
         machine.old world.old machine.new world.new) }
     ensures ready { IsReady machine.new.units.now machine.new.frame machine.new.values world.new }
     ensures shape { KeepsShape world.old.store.heap world.new.store.heap }
+    ensures fewer { world.new.running.meter.left ≤ world.old.running.meter.left }
+    ensures less { OnOk result (loads.Lowers (2 + loads.called) machine.old world.old machine.new world.new) }
 {
     if hand.named == 0 {
         return call_at_hand(machine, world, hand.plain, rest);
@@ -216,6 +231,8 @@ fn call_named<'u>(
         machine.old world.old machine.new world.new) }
     ensures ready { IsReady machine.new.units.now machine.new.frame machine.new.values world.new }
     ensures shape { KeepsShape world.old.store.heap world.new.store.heap }
+    ensures fewer { world.new.running.meter.left ≤ world.old.running.meter.left }
+    ensures less { OnOk result (loads.Lowers (1 + loads.called) machine.old world.old machine.new world.new) }
 {
     let nil = Value::Rock(Rock::Nil);
     match ask_named(
@@ -239,6 +256,7 @@ pub fn without_hand<'u>(machine: &mut Machine<'u>, hand: Hand, end: OpEnd) -> Re
         ≡ rest machine.old.tasks (gave (frame_in base machine.old) (drop (suc (size_of hand)) machine.old.values) o)) }
     ensures ready { (w : TheWorld) → IsReady machine.old.units.now machine.old.frame machine.old.values w
         → IsReady machine.new.units.now machine.new.frame machine.new.values w }
+    ensures less { OnOk result (loads.IsUnder 0 machine.old machine.new) }
 {
     machine.forget(hand.size() + 1);
     machine.no_value(end)
@@ -251,6 +269,7 @@ pub fn without_hand<'u>(machine: &mut Machine<'u>, hand: Hand, end: OpEnd) -> Re
 fn argument_word(alloc: Global, world: &mut World, name: Name) -> Result<Text, Memory>
     ensures word { IfOk result (λ word. word ≡ word_of world.old.names name) }
     ensures same { world.new ≡ world.old }
+    ensures fewer { world.new.running.meter.left ≤ world.old.running.meter.left }
 {
     word_text(alloc, &mut world.store, &world.names, name)
 }

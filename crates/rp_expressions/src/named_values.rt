@@ -11,7 +11,7 @@ use std::alloc::Global;
 /// Copies of the arguments at hand that have a name, with it.
 ///
 /// # Errors
-/// `Memory` where a growth was refused, or the count of a text's owners is full.
+/// `Memory` where a growth was refused.
 pub fn named_at_hand<'u>(machine: &Machine<'u>, hand: Hand) -> Result<Vec<(Text, Value)>, Memory>
     ensures { IfOk result (λ all. all.items ≡ (held_by hand machine.now.values).named) }
 {
@@ -22,7 +22,7 @@ pub fn named_at_hand<'u>(machine: &Machine<'u>, hand: Hand) -> Result<Vec<(Text,
 /// Copies of arguments with names, each of which stands behind its name.
 ///
 /// # Errors
-/// `Memory` where a growth was refused, or the count of a text's owners is full.
+/// `Memory` where a growth was refused.
 fn all_named(alloc: Global, pairs: &[Value]) -> Result<Vec<(Text, Value)>, Memory>
     requires { length pairs.now < 2 ^ 34 }
     ensures { IfOk result (λ all. all.items ≡ named_in (reverse pairs.now)) }

@@ -1,7 +1,7 @@
 //! Unary operators and powers (Python Language Reference, Unary arithmetic and bitwise operations, The power operator).
 #![tactic(auto, using(rp_store::proofs::CallerLemmas::goes_on))]
 
-ghost use Rattle.std.specs.Prelude.{OnOk};
+ghost use Rattle.std.specs.Prelude.{◌+◌, ◌≤◌, OnOk};
 ghost use Rattle.rp_meaning.specs.Expressions as forms;
 ghost use Rattle.rp_meaning.specs.Operators.{operate, operate_unary};
 ghost use Rattle.rp_store.specs.Kept.{IsFit};
@@ -9,6 +9,7 @@ ghost use Rattle.rp_store.specs.Shape.{KeepsShape};
 ghost use Rattle.rp_engine.specs.Does as does;
 ghost use Rattle.rp_engine.specs.ExpressionSteps.{to_power};
 ghost use Rattle.rp_engine.specs.Law.{Evaluates, Resumes};
+ghost use Rattle.rp_engine.specs.Loads as loads;
 ghost use Rattle.rp_engine.specs.Ready.{IsReady};
 
 use rp_access::{operate, operate_unary};
@@ -34,6 +35,8 @@ pub fn unary<'u>(
         machine.old world.old machine.new world.new) }
     ensures ready { IsReady machine.new.units.now machine.new.frame machine.new.values world.new }
     ensures shape { KeepsShape world.old.store.heap world.new.store.heap }
+    ensures fewer { world.new.running.meter.left ≤ world.old.running.meter.left }
+    ensures less { OnOk result (loads.Lowers 0 machine.old world.old machine.new world.new) }
 {
     match machine.next_leaf(world, x) {
         Ok(Some(a)) => unary_of(machine, world, op, a),
@@ -55,6 +58,8 @@ pub fn unary_of<'u>(
     ensures law { OnOk result (Evaluates (operate_unary op a) machine.old world.old machine.new world.new) }
     ensures ready { IsReady machine.new.units.now machine.new.frame machine.new.values world.new }
     ensures shape { KeepsShape world.old.store.heap world.new.store.heap }
+    ensures fewer { world.new.running.meter.left ≤ world.old.running.meter.left }
+    ensures less { OnOk result (loads.Lowers 2 machine.old world.old machine.new world.new) }
 {
     machine.give(operate_unary(machine.alloc, world, op, &a))
 }
@@ -72,6 +77,8 @@ pub fn power<'u>(
         machine.old world.old machine.new world.new) }
     ensures ready { IsReady machine.new.units.now machine.new.frame machine.new.values world.new }
     ensures shape { KeepsShape world.old.store.heap world.new.store.heap }
+    ensures fewer { world.new.running.meter.left ≤ world.old.running.meter.left }
+    ensures less { OnOk result (loads.Lowers 0 machine.old world.old machine.new world.new) }
 {
     match machine.next_leaf(world, base) {
         Ok(Some(a)) => to_power(machine, world, a, exponent),
@@ -97,6 +104,9 @@ pub fn to_power<'u>(
         machine.old world.old machine.new world.new) }
     ensures ready { IsReady machine.new.units.now machine.new.frame machine.new.values world.new }
     ensures shape { KeepsShape world.old.store.heap world.new.store.heap }
+    ensures fewer { world.new.running.meter.left ≤ world.old.running.meter.left }
+    ensures less { OnOk result (loads.Lowers (2 + loads.inside exponent.now)
+        machine.old world.old machine.new world.new) }
 {
     match machine.leaf(world, exponent) {
         Ok(Some(b)) => power_of(machine, world, a, b),
@@ -123,6 +133,8 @@ fn power_of<'u>(
     ensures law { OnOk result (Evaluates (operate BinOp.Pow a b) machine.old world.old machine.new world.new) }
     ensures ready { IsReady machine.new.units.now machine.new.frame machine.new.values world.new }
     ensures shape { KeepsShape world.old.store.heap world.new.store.heap }
+    ensures fewer { world.new.running.meter.left ≤ world.old.running.meter.left }
+    ensures less { OnOk result (loads.Lowers 2 machine.old world.old machine.new world.new) }
 {
     machine.give(operate(machine.alloc, world, machine.frame.side, BinOp::Pow, &a, &b))
 }
@@ -139,6 +151,8 @@ pub fn after_exponent<'u>(
     ensures law { OnOk result (Resumes ExprTask.Exponent b machine.old world.old machine.new world.new) }
     ensures ready { IsReady machine.new.units.now machine.new.frame machine.new.values world.new }
     ensures shape { KeepsShape world.old.store.heap world.new.store.heap }
+    ensures fewer { world.new.running.meter.left ≤ world.old.running.meter.left }
+    ensures less { OnOk result (loads.Lowers 2 machine.old world.old machine.new world.new) }
 {
     let a = machine.at_hand();
     power_of(machine, world, a, b)

@@ -1,7 +1,7 @@
 //! Primaries: what trails an atom (Python Language Reference, Primaries).
 #![tactic(auto, using(rp_store::proofs::CallerLemmas::goes_on))]
 
-ghost use Rattle.std.specs.Prelude.{OnOk};
+ghost use Rattle.std.specs.Prelude.{◌+◌, ◌≤◌, OnOk};
 ghost use Rattle.rp_meaning.specs.Expressions as forms;
 ghost use Rattle.rp_proxy.specs.declared.world.World.{World as TheWorld};
 ghost use Rattle.rp_store.specs.Kept.{IsFit};
@@ -9,6 +9,7 @@ ghost use Rattle.rp_store.specs.Shape.{KeepsShape};
 ghost use Rattle.rp_engine.specs.Does as does;
 ghost use Rattle.rp_engine.specs.ExpressionSteps.{step_to};
 ghost use Rattle.rp_engine.specs.Law.{Evaluates, Resumes};
+ghost use Rattle.rp_engine.specs.Loads as loads;
 ghost use Rattle.rp_engine.specs.Ready.{IsReady};
 ghost use Rattle.rp_engine.specs.TrailerSteps.{next_trailer, with_attribute, with_item};
 
@@ -38,6 +39,8 @@ pub fn primary<'u>(
         machine.old world.old machine.new world.new) }
     ensures ready { IsReady machine.new.units.now machine.new.frame machine.new.values world.new }
     ensures shape { KeepsShape world.old.store.heap world.new.store.heap }
+    ensures fewer { world.new.running.meter.left ≤ world.old.running.meter.left }
+    ensures less { OnOk result (loads.Lowers (2 + loads.inside first.now) machine.old world.old machine.new world.new) }
 {
     match machine.leaf(world, first) {
         Ok(Some(value)) => trailers(machine, world, value, rest),
@@ -63,6 +66,8 @@ pub fn trailers<'u>(
         machine.old world.old machine.new world.new) }
     ensures ready { IsReady machine.new.units.now machine.new.frame machine.new.values world.new }
     ensures shape { KeepsShape world.old.store.heap world.new.store.heap }
+    ensures fewer { world.new.running.meter.left ≤ world.old.running.meter.left }
+    ensures less { OnOk result (loads.Lowers 2 machine.old world.old machine.new world.new) }
 {
     match rest {
         [] => machine.back(value),
@@ -85,6 +90,8 @@ fn trailer<'u>(
         machine.old world.old machine.new world.new) }
     ensures ready { IsReady machine.new.units.now machine.new.frame machine.new.values world.new }
     ensures shape { KeepsShape world.old.store.heap world.new.store.heap }
+    ensures fewer { world.new.running.meter.left ≤ world.old.running.meter.left }
+    ensures less { OnOk result (loads.Lowers 0 machine.old world.old machine.new world.new) }
 {
     match trailer {
         Trailer::Attr(name, _) => attribute(machine, world, value, name.name, rest),
@@ -110,6 +117,8 @@ fn attribute<'u>(
         machine.old world.old machine.new world.new) }
     ensures ready { IsReady machine.new.units.now machine.new.frame machine.new.values world.new }
     ensures shape { KeepsShape world.old.store.heap world.new.store.heap }
+    ensures fewer { world.new.running.meter.left ≤ world.old.running.meter.left }
+    ensures less { OnOk result (loads.Lowers 0 machine.old world.old machine.new world.new) }
 {
     match take_step(world) {
         Ok(()) => attribute_of(machine, world, value, name, rest),
@@ -131,6 +140,7 @@ fn attribute_of<'u>(
         machine.old world.old machine.new world.new) }
     ensures ready { IsReady machine.new.units.now machine.new.frame machine.new.values world.new }
     ensures shape { KeepsShape world.old.store.heap world.new.store.heap }
+    ensures fewer { world.new.running.meter.left ≤ world.old.running.meter.left }
 {
     match get_attribute(machine.alloc, world, machine.frame.side, &value, name) {
         Ok(value) => more_trailers(machine, value, rest),
@@ -153,6 +163,8 @@ fn item<'u>(
         machine.old world.old machine.new world.new) }
     ensures ready { IsReady machine.new.units.now machine.new.frame machine.new.values world.new }
     ensures shape { KeepsShape world.old.store.heap world.new.store.heap }
+    ensures fewer { world.new.running.meter.left ≤ world.old.running.meter.left }
+    ensures less { OnOk result (loads.Lowers 0 machine.old world.old machine.new world.new) }
 {
     match machine.next_leaf(world, key) {
         Ok(Some(key)) => item_at(machine, world, value, key, rest),
@@ -181,6 +193,8 @@ fn item_at<'u>(
         machine.old world.old machine.new world.new) }
     ensures ready { IsReady machine.new.units.now machine.new.frame machine.new.values world.new }
     ensures shape { KeepsShape world.old.store.heap world.new.store.heap }
+    ensures fewer { world.new.running.meter.left ≤ world.old.running.meter.left }
+    ensures less { OnOk result (loads.Lowers (1 + loads.called) machine.old world.old machine.new world.new) }
 {
     match get_item(machine.alloc, world, machine.frame.side, &value, &key) {
         Ok(Some(value)) => more_trailers(machine, value, rest),
@@ -201,6 +215,7 @@ pub(crate) fn more_trailers<'u>(
     ensures ready { (w : TheWorld) → IsReady machine.old.units.now machine.old.frame machine.old.values w
         → IsFit w.store.heap machine.old.frame.side value
         → IsReady machine.new.units.now machine.new.frame machine.new.values w }
+    ensures less { OnOk result (loads.IsUnder 3 machine.old machine.new) }
 {
     match rest {
         [] => machine.back(value),
@@ -221,6 +236,8 @@ pub fn after_key<'u>(
     ensures law { OnOk result (Resumes (ExprTask.Key rest.entry) key machine.old world.old machine.new world.new) }
     ensures ready { IsReady machine.new.units.now machine.new.frame machine.new.values world.new }
     ensures shape { KeepsShape world.old.store.heap world.new.store.heap }
+    ensures fewer { world.new.running.meter.left ≤ world.old.running.meter.left }
+    ensures less { OnOk result (loads.Lowers (1 + loads.called) machine.old world.old machine.new world.new) }
 {
     let value = machine.at_hand();
     item_at(machine, world, value, key, rest)

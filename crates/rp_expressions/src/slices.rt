@@ -1,7 +1,7 @@
 //! Slices (Python Language Reference, Slicings).
 #![tactic(auto, using(rp_store::proofs::CallerLemmas::goes_on))]
 
-ghost use Rattle.std.specs.Prelude.{OnOk};
+ghost use Rattle.std.specs.Prelude.{◌+◌, ◌≤◌, OnOk};
 ghost use Rattle.rp_meaning.specs.Expressions as forms;
 ghost use Rattle.rp_tree.specs.declared.expr.Arg.TheViews.{out-Slice};
 ghost use Rattle.rp_store.specs.Kept.{IsFit};
@@ -9,6 +9,7 @@ ghost use Rattle.rp_store.specs.Shape.{KeepsShape};
 ghost use Rattle.rp_engine.specs.Does as does;
 ghost use Rattle.rp_engine.specs.ExpressionSteps.{put_to};
 ghost use Rattle.rp_engine.specs.Law.{Evaluates, Resumes};
+ghost use Rattle.rp_engine.specs.Loads as loads;
 ghost use Rattle.rp_engine.specs.Ready.{IsReady};
 ghost use Rattle.rp_engine.specs.SliceSteps.{from_lower, from_stride, from_upper, with_slice};
 ghost use Rattle.rp_engine.specs.TrailerSteps.{next_trailer};
@@ -41,6 +42,8 @@ pub(crate) fn sliced<'u>(
         value) machine.old world.old machine.new world.new) }
     ensures ready { IsReady machine.new.units.now machine.new.frame machine.new.values world.new }
     ensures shape { KeepsShape world.old.store.heap world.new.store.heap }
+    ensures fewer { world.new.running.meter.left ≤ world.old.running.meter.left }
+    ensures less { OnOk result (loads.Lowers 0 machine.old world.old machine.new world.new) }
 {
     crate::slices::slice(
         machine,
@@ -73,6 +76,8 @@ fn slice<'u>(
         machine.old world.old machine.new world.new) }
     ensures ready { IsReady machine.new.units.now machine.new.frame machine.new.values world.new }
     ensures shape { KeepsShape world.old.store.heap world.new.store.heap }
+    ensures fewer { world.new.running.meter.left ≤ world.old.running.meter.left }
+    ensures less { OnOk result (loads.Lowers 0 machine.old world.old machine.new world.new) }
 {
     match take_step(world) {
         Ok(()) => lower(machine, world, value, from, to, stride, rest),
@@ -97,6 +102,7 @@ fn lower<'u>(
         (does.maybe stride.now) (does.trailers rest.now) value) machine.old world.old machine.new world.new) }
     ensures ready { IsReady machine.new.units.now machine.new.frame machine.new.values world.new }
     ensures shape { KeepsShape world.old.store.heap world.new.store.heap }
+    ensures fewer { world.new.running.meter.left ≤ world.old.running.meter.left }
 {
     match from {
         None => upper(
@@ -128,6 +134,7 @@ fn lower_at<'u>(
         (does.maybe stride.now) (does.trailers rest.now))) machine.old world.old machine.new world.new) }
     ensures ready { IsReady machine.new.units.now machine.new.frame machine.new.values world.new }
     ensures shape { KeepsShape world.old.store.heap world.new.store.heap }
+    ensures fewer { world.new.running.meter.left ≤ world.old.running.meter.left }
 {
     match machine.leaf(world, x) {
         Ok(Some(bound)) => upper(machine, world, value, bound, to, stride, rest),
@@ -158,6 +165,9 @@ fn upper<'u>(
         (does.trailers rest.now) from) machine.old world.old machine.new world.new) }
     ensures ready { IsReady machine.new.units.now machine.new.frame machine.new.values world.new }
     ensures shape { KeepsShape world.old.store.heap world.new.store.heap }
+    ensures fewer { world.new.running.meter.left ≤ world.old.running.meter.left }
+    ensures less { OnOk result (loads.Lowers (3 + loads.maybe to.now + loads.maybe stride.now)
+        machine.old world.old machine.new world.new) }
 {
     match to {
         None => crate::slices::stride(
@@ -190,6 +200,9 @@ fn upper_at<'u>(
         (does.maybe stride.now) (does.trailers rest.now))) machine.old world.old machine.new world.new) }
     ensures ready { IsReady machine.new.units.now machine.new.frame machine.new.values world.new }
     ensures shape { KeepsShape world.old.store.heap world.new.store.heap }
+    ensures fewer { world.new.running.meter.left ≤ world.old.running.meter.left }
+    ensures less { OnOk result (loads.Lowers (3 + loads.inside x.now + loads.maybe stride.now)
+        machine.old world.old machine.new world.new) }
 {
     match machine.leaf(world, x) {
         Ok(Some(bound)) => crate::slices::stride(machine, world, value, from, bound, stride, rest),
@@ -222,6 +235,8 @@ fn stride<'u>(
         (does.trailers rest.now) to) machine.old world.old machine.new world.new) }
     ensures ready { IsReady machine.new.units.now machine.new.frame machine.new.values world.new }
     ensures shape { KeepsShape world.old.store.heap world.new.store.heap }
+    ensures fewer { world.new.running.meter.left ≤ world.old.running.meter.left }
+    ensures less { OnOk result (loads.Lowers (3 + loads.maybe stride.now) machine.old world.old machine.new world.new) }
 {
     match stride {
         None => slice_of(
@@ -255,6 +270,8 @@ fn stride_at<'u>(
         (does.trailers rest.now))) machine.old world.old machine.new world.new) }
     ensures ready { IsReady machine.new.units.now machine.new.frame machine.new.values world.new }
     ensures shape { KeepsShape world.old.store.heap world.new.store.heap }
+    ensures fewer { world.new.running.meter.left ≤ world.old.running.meter.left }
+    ensures less { OnOk result (loads.Lowers (3 + loads.inside x.now) machine.old world.old machine.new world.new) }
 {
     match machine.leaf(world, x) {
         Ok(Some(stride)) => slice_of(machine, world, value, from, to, stride, rest),
@@ -286,6 +303,8 @@ fn slice_of<'u>(
         machine.old world.old machine.new world.new) }
     ensures ready { IsReady machine.new.units.now machine.new.frame machine.new.values world.new }
     ensures shape { KeepsShape world.old.store.heap world.new.store.heap }
+    ensures fewer { world.new.running.meter.left ≤ world.old.running.meter.left }
+    ensures less { OnOk result (loads.Lowers 3 machine.old world.old machine.new world.new) }
 {
     let parts = SliceParts {
         from: &from,
@@ -314,6 +333,9 @@ pub fn after_from<'u>(
         machine.old world.old machine.new world.new) }
     ensures ready { IsReady machine.new.units.now machine.new.frame machine.new.values world.new }
     ensures shape { KeepsShape world.old.store.heap world.new.store.heap }
+    ensures fewer { world.new.running.meter.left ≤ world.old.running.meter.left }
+    ensures less { OnOk result (loads.Lowers (3 + loads.maybe to.now + loads.maybe stride.now)
+        machine.old world.old machine.new world.new) }
 {
     let value = machine.at_hand();
     upper(machine, world, value, from, to, stride, rest)
@@ -334,6 +356,8 @@ pub fn after_to<'u>(
         machine.old world.old machine.new world.new) }
     ensures ready { IsReady machine.new.units.now machine.new.frame machine.new.values world.new }
     ensures shape { KeepsShape world.old.store.heap world.new.store.heap }
+    ensures fewer { world.new.running.meter.left ≤ world.old.running.meter.left }
+    ensures less { OnOk result (loads.Lowers (3 + loads.maybe stride.now) machine.old world.old machine.new world.new) }
 {
     let from = machine.at_hand();
     let value = machine.at_hand();
@@ -354,6 +378,8 @@ pub fn after_stride<'u>(
         machine.old world.old machine.new world.new) }
     ensures ready { IsReady machine.new.units.now machine.new.frame machine.new.values world.new }
     ensures shape { KeepsShape world.old.store.heap world.new.store.heap }
+    ensures fewer { world.new.running.meter.left ≤ world.old.running.meter.left }
+    ensures less { OnOk result (loads.Lowers 3 machine.old world.old machine.new world.new) }
 {
     let to = machine.at_hand();
     let from = machine.at_hand();

@@ -1,7 +1,7 @@
 //! Expressions that special methods of instances do (Python Language Reference, Special method names).
 #![tactic(auto, using(rp_store::proofs::CallerLemmas::goes_on))]
 
-ghost use Rattle.std.specs.Prelude.{◌≡◌, ◌∷◌, [], OnOk, drop, suc};
+ghost use Rattle.std.specs.Prelude.{◌+◌, ◌∷◌, ◌≡◌, [], OnOk, drop, suc};
 ghost use Rattle.rp_base.specs.declared.word.TheConstants.{CONTAINS, GET_ITEM, LEN};
 ghost use Rattle.rp_frame.specs.Top.{top};
 ghost use Rattle.rp_meaning.specs.Expressions as forms;
@@ -12,6 +12,7 @@ ghost use Rattle.rp_proxy.specs.declared.world.World.{World as TheWorld};
 ghost use Rattle.rp_store.specs.Kept.{IsFit};
 ghost use Rattle.rp_engine.specs.Does as does;
 ghost use Rattle.rp_engine.specs.Law.{Resumes, frame_in, rest_of};
+ghost use Rattle.rp_engine.specs.Loads as loads;
 ghost use Rattle.rp_engine.specs.Ready.{IsReady};
 ghost use Rattle.rp_engine.specs.Rest.{gave, rest};
 ghost use Rattle.rp_engine.specs.SpecialSteps.{holds_by, special_called, with_contained, with_length};
@@ -45,6 +46,7 @@ pub(crate) fn item_by_method<'u>(
     ensures ready { (w : TheWorld) → IsReady machine.old.units.now machine.old.frame machine.old.values w
         → IsFit w.store.heap machine.old.frame.side o → IsFit w.store.heap machine.old.frame.side key
         → IsReady machine.new.units.now machine.new.frame machine.new.values w }
+    ensures less { OnOk result (loads.IsUnder (1 + loads.called) machine.old machine.new) }
 {
     machine.wait_with_two(
         o,
@@ -70,6 +72,7 @@ pub(crate) fn test_by_method<'u>(
     ensures ready { (w : TheWorld) → IsReady machine.old.units.now machine.old.frame machine.old.values w
         → IsFit w.store.heap machine.old.frame.side a → IsFit w.store.heap machine.old.frame.side b
         → IsReady machine.new.units.now machine.new.frame machine.new.values w }
+    ensures less { OnOk result (loads.IsUnder (2 + loads.called) machine.old machine.new) }
 {
     machine.hold_copy(&b)?;
     machine.wait_with_two(
@@ -94,6 +97,7 @@ pub fn after_contained<'u>(
     ensures law { OnOk result (Resumes (ExprTask.Contained test rest.entry) value
         machine.old world.now machine.new world.now) }
     ensures ready { IsReady machine.new.units.now machine.new.frame machine.new.values world.now }
+    ensures less { OnOk result (loads.IsUnder 3 machine.old machine.new) }
 {
     let b = machine.at_hand();
     let within = truth(&world.store, &value);
@@ -114,6 +118,7 @@ pub(crate) fn length_by_method<'u>(
         (λ r s. with_length (does.trailers trailers.now) r (frame_in base machine.old) s)))) }
     ensures ready { (w : TheWorld) → IsReady machine.old.units.now machine.old.frame machine.old.values w
         → IsReady machine.new.units.now machine.new.frame machine.new.values w }
+    ensures less { OnOk result (loads.IsUnder (2 + loads.called) machine.old machine.new) }
 {
     let o = machine.at_hand();
     machine.forget(count as usize);
@@ -135,6 +140,7 @@ pub fn after_length<'u>(
         machine.old w machine.new w) }
     ensures ready { (w : TheWorld) → IsReady machine.old.units.now machine.old.frame machine.old.values w
         → IsReady machine.new.units.now machine.new.frame machine.new.values w }
+    ensures less { OnOk result (loads.IsUnder 3 machine.old machine.new) }
 {
     match length_of(machine.alloc, &value) {
         Ok(length) => more_trailers(machine, length, rest),

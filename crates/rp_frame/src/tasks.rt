@@ -64,7 +64,8 @@ impl<'u> Tasks<'u> {
         ensures pushed { OnOk result (self.new ≡ task.entry ∷ self.old) }
         ensures same { OnErr result (self.new ≡ self.old) }
     {
-        self.tasks.push(task)?;
+        self.tasks.reserve(1)?;
+        self.tasks.push_reserved(task);
         Ok(())
     }
 
@@ -74,6 +75,9 @@ impl<'u> Tasks<'u> {
         ensures last { MatchOption result (self.old ≡ []) (λ task. self.old ≡ task ∷ self.new) }
         ensures none { self.old ≡ [] → self.new ≡ [] }
     {
-        self.tasks.pop()
+        if self.tasks.is_empty() {
+            return None;
+        }
+        Some(self.tasks.take_last())
     }
 }

@@ -41,7 +41,8 @@ impl Values {
         ensures pushed { OnOk result (self.new ≡ value ∷ self.old) }
         ensures same { OnErr result (self.new ≡ self.old) }
     {
-        self.values.push(value)?;
+        self.values.reserve(1)?;
+        self.values.push_reserved(value);
         Ok(())
     }
 

@@ -195,7 +195,7 @@ fn no_answers(alloc: Global) -> Result<LruCache<Perm, bool>, AllocError>
 {
     match NonZeroUsize::new(MOST_KEPT) {
         Some(most) => LruCache::new(alloc, most),
-        None => Err(AllocError),
+        None => unreachable!(),
     }
 }
 

@@ -32,8 +32,7 @@ use std::alloc::Global;
 /// - `Raised` with `TypeError`, whose text is `item` where `a` is no list and no dict, `index` where `i` is no index,
 ///   or `key` where it can be no key, or with `IndexError` and the text `index`, where `i` is outside the elements.
 /// - `StopCells` where a cell for a new key is over the limit.
-/// - `Memory` where a growth was refused, there is none for the text of an exception, or the count of a text's owners
-///   is full.
+/// - `Memory` where a growth was refused.
 ///
 /// The store is then as before.
 pub fn set_item(
@@ -183,8 +182,7 @@ fn put_entry(store: &mut Store, at: Oid, rock: &Rock, v: Value) -> Result<(), Op
 /// - `Raised` with `TypeError`, whose text is `item` where `a` is no list and no dict, `index` where `i` is no index,
 ///   or `key` where it can be no key, with `IndexError` and the text `index`, where `i` is outside the elements, or
 ///   with `KeyError`, whose text is the key as it is shown inside a container, where the dict has no such key.
-/// - `Memory` where there is none for the text of an exception, the count of a text's owners is full, or the store
-///   holds no more bytes of such texts.
+/// - `Memory` where a growth was refused, or the store holds no more bytes of the texts of exceptions.
 ///
 /// The store is then as before.
 pub fn del_item(alloc: Global, store: &mut Store, a: &Value, i: &Value) -> Result<(), OpEnd>

@@ -30,8 +30,8 @@ use std::alloc::Global;
 ///   where it can be no key, with `IndexError` and the text `index`, where `i` is outside the elements, or with
 ///   `KeyError`, whose text is the key as it is shown inside a container, where the dict has no such key.
 /// - `StopCells` where the cells are over the limit; then the store is as before.
-/// - `Memory` where a growth was refused, the count of a text's owners is full, or the store holds no more bytes of the
-///   texts of exceptions. Then cells may be used; the limit stays, and no used cell is given back.
+/// - `Memory` where a growth was refused, or the store holds no more bytes of the texts of exceptions. Then cells may
+///   be used; the limit stays, and no used cell is given back.
 pub fn item(alloc: Global, store: &mut Store, a: &Value, i: &Value) -> Result<Value, OpEnd>
     requires a { IsSound store.old.heap a.now }
     ensures plain { (steps : ℕ) → Meets result (state_of store.new steps)

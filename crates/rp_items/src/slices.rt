@@ -36,8 +36,8 @@ use std::alloc::Global;
 /// - `Raised` with `TypeError`, whose text is `item` where `a` is no text, list or tuple, or `index` where a part is
 ///   neither a number nor a truth value nor None, or with `ValueError` and the text `slice`, where the step is 0.
 /// - `StopCells` where the cells are over the limit; then the store is as before.
-/// - `Memory` where a growth was refused, or the count of a text's owners is full. Then cells may be used, no used cell
-///   is given back, the limit stays, and no object is made.
+/// - `Memory` where a growth was refused. Then cells may be used, no used cell is given back, the limit stays, and no
+///   object is made.
 pub fn slice(
     alloc: Global,
     store: &mut Store,

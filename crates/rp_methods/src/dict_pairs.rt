@@ -65,7 +65,7 @@ fn list_items(alloc: Global, store: &mut Store, at: Oid) -> Result<Value, OpEnd>
 /// The rock of each entry, and its value, lent or as it is.
 ///
 /// # Errors
-/// `Memory` where a growth was refused, or the count of a text's owners is full.
+/// `Memory` where a growth was refused.
 fn pairs_of(
     alloc: Global,
     entries: &Dict<Key, (Rock, Value)>,
@@ -163,7 +163,7 @@ fn make_tuples(
 /// A tuple of a key and a value, whose cells are used already.
 ///
 /// # Errors
-/// `Memory` where a growth was refused, or the count of a text's owners is full.
+/// `Memory` where a growth was refused.
 fn make_pair(
     alloc: Global,
     store: &mut Store,
@@ -311,7 +311,7 @@ fn put_room(
 /// How many of the keys a dict does not have.
 ///
 /// # Errors
-/// `Memory` where the count of a text's owners is full.
+/// `Memory` where a growth was refused.
 fn new_keys(store: &Store, at: Oid, entries: &[(Rock, Value)]) -> Result<usize, Memory>
     requires { IsHeld store.now.heap at }
     ensures { IfOk result (λ n. n ≡ new_keys store.now.heap at 0 entries.now) }
@@ -336,7 +336,7 @@ fn with_new(count: usize, is_held: bool) -> usize
 /// Whether a dict has a rock as a key.
 ///
 /// # Errors
-/// `Memory` where the count of a text's owners is full.
+/// `Memory` where a growth was refused.
 fn has_key(store: &Store, at: Oid, rock: &Rock) -> Result<bool, Memory>
     requires { IsHeld store.now.heap at }
     ensures { IfOk result (λ b. b ≡ is_some (entry_of store.now.heap at rock.now)) }

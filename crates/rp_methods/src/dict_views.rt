@@ -68,7 +68,7 @@ fn list_keys(alloc: Global, store: &mut Store, at: Oid) -> Result<Value, OpEnd>
 /// The keys as first written.
 ///
 /// # Errors
-/// `Memory` where a growth was refused, or the count of a text's owners is full.
+/// `Memory` where a growth was refused.
 fn keys_of(alloc: Global, entries: &Dict<Key, (Rock, Value)>) -> Result<Vec<Value>, Memory>
     ensures { IfOk result (λ v. v.items ≡ map key_rock entries.now) }
 {

@@ -247,7 +247,7 @@ pub(crate) fn reverse(
 /// Copies of values in the opposite order.
 ///
 /// # Errors
-/// `Memory` where a growth was refused, or the count of a text's owners is full.
+/// `Memory` where a growth was refused.
 fn backwards(alloc: Global, values: &[Value]) -> Result<Vec<Value>, Memory>
     ensures { IfOk result (λ v. v.items ≡ reverse values.now) }
 {

@@ -43,8 +43,7 @@ use std::alloc::Global;
 ///   with `KeyError` and the key as it is shown inside a container, where `pop` finds neither the key nor a default; or
 ///   what walking or comparing an argument raises.
 /// - `StopSteps` where no step is left, `StopCells` where the cells are over the limit.
-/// - `Memory` where a growth was refused, there is none for the text of an exception, or the count of a text's owners
-///   is full. Then cells may be used; the limit stays, and no used cell is given back.
+/// - `Memory` where a growth was refused. Then cells may be used; the limit stays, and no used cell is given back.
 pub fn call_method(
     alloc: Global,
     store: &mut Store,

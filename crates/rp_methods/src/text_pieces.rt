@@ -1,6 +1,6 @@
 //! The pieces into which a part cuts a text.
 
-ghost use Rattle.std.specs.Prelude.{◌≡◌, ◌+◌, ◌-◌, ◌<◌, ◌≤◌, ◌∷◌, [], List, chars, length, IfOk, IfSome, MatchOption};
+ghost use Rattle.std.specs.Prelude.{◌≡◌, ◌+◌, ◌-◌, ◌<◌, ◌^◌, ◌∷◌, [], List, chars, length, IfOk, IfSome, MatchOption};
 ghost use Rattle.std.specs.Str.{IsUtf8};
 ghost use Rattle.std.specs.Str.Pattern.{FindsText, MatchBeginsAt};
 ghost use Rattle.rp_store.specs.Heap.{Owned};
@@ -11,7 +11,7 @@ ghost use Rattle.rp_methods.specs.Texts.{count, count_text, pieces};
 
 use crate::fault::Fault;
 use crate::text_tests::{is_some, number, text_of};
-use rp_base::{Memory, OpEnd, Text, Value};
+use rp_base::{OpEnd, Text, Value};
 use std::alloc::Global;
 
 /// What stands before the first place of a part in a text, and what stands behind it.
@@ -63,13 +63,13 @@ fn count_text(alloc: Global, text: &Text, part: &Text) -> Result<Value, OpEnd>
     if !is_some(part) {
         return Err(Fault::Empty.end(alloc));
     }
-    Ok(count_in(text, part)?)
+    Ok(count_in(text, part))
 }
 
 /// How often a text stands in another, at places behind one another, as a number.
-fn count_in(text: &Text, part: &Text) -> Result<Value, Memory>
+fn count_in(text: &Text, part: &Text) -> Value
     requires { 0 < length part.now }
-    ensures { IfOk result (λ v. v ≡ number (length (pieces part.now text.now) - 1)) }
+    ensures { result ≡ number (length (pieces part.now text.now) - 1) }
 {
     number(count_of(text.as_str(), part.as_str()))
 }
@@ -78,7 +78,7 @@ fn count_in(text: &Text, part: &Text) -> Result<Value, Memory>
 fn count_of(text: &str, part: &str) -> usize
     requires { 0 < length (chars part.now) }
     ensures count { result ≡ length (pieces (chars part.now) (chars text.now)) - 1 }
-    ensures within { result ≤ length text.now }
+    ensures small { result < 2 ^ 63 }
 {
     let mut count = 0;
     let mut rest = text;

@@ -1,8 +1,7 @@
 //! The methods of texts that make no text.
 
-ghost use Rattle.std.specs.Prelude.{◌≡◌, ◌<◌, ◌≤◌, ◌&&◌, List, chars, encode_utf8_all, length, take, pos, FitsSigned};
-ghost use Rattle.std.specs.Prelude.{IfOk, IfSome, IsTrue, SomeIff};
-ghost use Rattle.std.specs.Int.{w64};
+ghost use Rattle.std.specs.Prelude.{◌≡◌, ◌<◌, ◌≤◌, ◌&&◌, ◌^◌, List, chars, encode_utf8_all, length, take};
+ghost use Rattle.std.specs.Prelude.{IfOk, IfSome, IsTrue};
 ghost use Rattle.std.specs.Str.{IsCharBoundary};
 ghost use Rattle.std.specs.List.{list_all};
 ghost use Rattle.std.specs.Option.{option_copied};
@@ -16,7 +15,7 @@ ghost use Rattle.rp_methods.specs.Texts.{ends, endswith, find, is_digit, isdigit
 ghost use Rattle.rp_methods.specs.Texts.{rock_text, startswith, text_in};
 
 use crate::fault::Fault;
-use rp_base::{Memory, OpEnd, Rock, Text, Value};
+use rp_base::{OpEnd, Rock, Text, Value};
 use std::alloc::Global;
 
 /// The text that a value is.
@@ -116,44 +115,33 @@ pub(crate) fn find(alloc: Global, text: &Text, args: &[Value]) -> Result<Value, 
         return Err(Fault::Arguments.end(alloc));
     };
     match text_of(part) {
-        Some(part) => Ok(found_in(text, part)?),
+        Some(part) => Ok(found_in(text, part)),
         None => Err(Fault::Argument.end(alloc)),
     }
 }
 
 /// The first place of a part in a text as a number, which is -1 where there is none.
-fn found_in(text: &Text, part: &Text) -> Result<Value, Memory>
-    ensures { IfOk result (λ v. v ≡ place_number (place_in part.now text.now)) }
+fn found_in(text: &Text, part: &Text) -> Value
+    ensures { result ≡ place_number (place_in part.now text.now) }
 {
     match place_in(text.as_str(), part.as_str()) {
         Some(place) => number(place),
-        None => Ok(Value::Rock(Rock::Int(-1))),
+        None => Value::Rock(Rock::Int(-1)),
     }
 }
 
 /// A length as a number.
-///
-/// # Errors
-/// `Memory` from 2^63 on, which the length of no text reaches.
-pub(crate) fn number(length: usize) -> Result<Value, Memory>
-    ensures { IfOk result (λ v. v ≡ number length) }
+pub(crate) fn number(length: usize) -> Value
+    requires { length < 2 ^ 63 }
+    ensures { result ≡ number length }
 {
-    match fitted(length) {
-        Some(n) => Ok(Value::Rock(Rock::Int(n))),
-        None => Err(Memory),
-    }
-}
-
-fn fitted(length: usize) -> Option<i64>
-    ensures { SomeIff result (FitsSigned w64 (pos length)) (pos length) }
-{
-    i64::try_from(length).ok()
+    Value::Rock(Rock::Int(length as i64))
 }
 
 /// The first place of a part in a text, in characters.
 fn place_in(text: &str, part: &str) -> Option<usize>
     ensures place { result ≡ place_in (chars part.now) (chars text.now) }
-    ensures within { IfSome result (λ place. place ≤ length text.now) }
+    ensures small { IfSome result (λ place. place < 2 ^ 63) }
 {
     match text.find(part) {
         Some(at) => Some(letters_before(text, at)),

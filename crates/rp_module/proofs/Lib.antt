@@ -1,4 +1,5 @@
 pub mod GlobalNames
+pub mod Heights
 pub mod LaterWorlds
 mod LoadedWorlds
 pub mod ProgramsOn

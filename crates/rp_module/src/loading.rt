@@ -55,7 +55,7 @@ pub struct Loaded {
 ///
 /// # Errors
 /// `Raised`, `StopSteps` or `StopCells` where the module ended so; `Unbound` with the least exposed name in byte order
-/// that has no value. `TooLong` where the machine of the module has made 2^64 - 1 steps; whether it does is not said.
+/// that has no value. `TooLong` where a count of the machine of the module is full; whether one is, is not said.
 /// `Memory` where a growth was refused.
 pub fn load(
     alloc: Global,

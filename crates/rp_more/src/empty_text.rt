@@ -19,7 +19,7 @@ impl EmptyText {
         Ok(EmptyText { text })
     }
 
-    /// A copy, which allocates nothing.
+    /// A copy, which shares the characters.
     pub(crate) fn copy(&self) -> Result<Text, Memory>
         ensures { IfOk result (λ t. t ≡ []) }
     {

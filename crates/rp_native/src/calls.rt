@@ -46,8 +46,7 @@ use std::slice;
 ///   least or greatest, or `range`, where a range goes by a step of 0.
 /// - `Raised` with `OverflowError` and the text `int`, where a number is outside 64 bits, and with what showing raises.
 /// - `StopSteps` where no step is left, `StopCells` where the cells are over the limit.
-/// - `Memory` where a growth was refused, there is none for the text of the exception, or the count of a text's owners
-///   is full. Then cells may be used; the limit stays, and no used cell is given back.
+/// - `Memory` where a growth was refused. Then cells may be used; the limit stays, and no used cell is given back.
 pub fn call_native(
     alloc: Global,
     store: &mut Store,

@@ -105,7 +105,7 @@ fn object_copy(
 /// The entries of the dict at a place as they are handed out; None where there is no dict.
 ///
 /// # Errors
-/// `Memory` where a growth was refused, or the count of a text's owners is full.
+/// `Memory` where a growth was refused.
 fn entries_copied(
     alloc: Global,
     store: &Store,

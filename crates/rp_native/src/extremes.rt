@@ -33,7 +33,7 @@ pub enum Extreme {
 /// - As `elements`, for the walk.
 /// - `Raised` with `ValueError` and the text `empty`, where there is no element, or with `TypeError` and the text
 ///   `argument`, where they are neither all numbers and truth values nor all texts.
-/// - `Memory` where there is none for the text of the exception, or the count of a text's owners is full.
+/// - `Memory` where a growth was refused.
 pub(crate) fn extreme_of(
     alloc: Global,
     store: &mut Store,

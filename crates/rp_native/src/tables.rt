@@ -1,7 +1,7 @@
 //! Lists of tuples.
 #![tactic(auto, using(rp_store::proofs::CallerLemmas::goes_on))]
 
-ghost use Rattle.std.specs.Prelude.{◌≡◌, ◌∷◌, ◌+◌, ◌≤◌, [], ℕ, length, pos, All, IfOk, OnOk};
+ghost use Rattle.std.specs.Prelude.{◌≡◌, ◌∷◌, ◌+◌, ◌<◌, ◌≤◌, ◌^◌, [], ℕ, length, pos, All, IfOk, OnOk};
 ghost use Rattle.rp_store.specs.Counters.{KeepsCounters};
 ghost use Rattle.rp_store.specs.Kept.{AreSound, IsSound};
 ghost use Rattle.rp_ops.specs.Growth.{Gains};
@@ -120,18 +120,25 @@ fn add_pairs(
 /// A value behind an index.
 ///
 /// # Errors
-/// `Memory` where a growth was refused, or the index is past what memory could hold.
+/// `Memory` where a growth was refused.
 #[inline(always)]
 fn row_of(alloc: Global, index: usize, value: Value) -> Result<Vec<Value>, Memory>
+    requires { index < 2 ^ 63 }
     ensures { IfOk result (λ row. row.items ≡ Value.Rock (Rock.Int (pos index)) ∷ value ∷ []) }
 {
-    let Ok(index) = i64::try_from(index) else {
-        return Err(Memory);
-    };
     let mut row = Vec::with_capacity(alloc, 2)?;
-    row.push(Value::Rock(Rock::Int(index)))?;
+    row.push(number(index))?;
     row.push(value)?;
     Ok(row)
+}
+
+/// An index as a number.
+#[inline(always)]
+fn number(index: usize) -> Value
+    requires { index < 2 ^ 63 }
+    ensures { result ≡ Value.Rock (Rock.Int (pos index)) }
+{
+    Value::Rock(Rock::Int(index as i64))
 }
 
 /// A new list of a side, of new tuples of so many elements each, which are charged together.

@@ -28,8 +28,7 @@ use std::alloc::Global;
 /// # Errors
 /// - `Raised` with `TypeError` and the text `iterate`, where one of them cannot be walked.
 /// - `StopSteps` where no step is left for a tuple, `StopCells` where the cells are over the limit.
-/// - `Memory` where a growth was refused, there is none for the text of the exception, or the count of a text's owners
-///   is full.
+/// - `Memory` where a growth was refused.
 pub(crate) fn zip(
     alloc: Global,
     store: &mut Store,

@@ -60,7 +60,7 @@ impl Model for Cursor {
 ///
 /// # Errors
 /// - `Raised` with `TypeError`, where the value cannot be walked.
-/// - `Memory` where there is none for the text of the exception, or the count of the owners of a text is full.
+/// - `Memory` where a growth was refused.
 pub fn walk_of(alloc: Global, store: &Store, value: &Value) -> Result<Cursor, OpEnd>
     requires sound { IsSound store.now.heap value.now }
     ensures plain { Answers result (walk_of store.now.heap value.now) }

@@ -145,7 +145,7 @@ fn joined(alloc: Global, store: &Store, x: Elements, y: Elements) -> Result<Vec<
 /// The elements of a sequence so many times over.
 ///
 /// # Errors
-/// As `append`, and `Memory` where there are more elements than a vector can have.
+/// As `append`.
 pub(crate) fn copied(
     alloc: Global,
     store: &Store,
@@ -156,8 +156,7 @@ pub(crate) fn copied(
     ensures { IfOk result (λ v. v.items ≡ repeat copies (elements_of store.now.heap x)) }
 {
     let size = elements_at(store, x.at).len();
-    let count = copies.checked_mul(size).ok_or(Memory)?;
-    let mut all = Vec::with_capacity(alloc, count)?;
+    let mut all = Vec::with_capacity(alloc, copies.saturating_mul(size))?;
     if size == 0 {
         return Ok(all);
     }
@@ -170,7 +169,7 @@ pub(crate) fn copied(
 /// Puts the elements of a sequence last.
 ///
 /// # Errors
-/// `Memory` where a growth was refused, or the count of the owners of a text is full.
+/// `Memory` where a growth was refused.
 pub(crate) fn append(store: &Store, x: Elements, all: &mut Vec<Value>) -> Result<(), Memory>
     requires { IsHeld store.now.heap x.at }
     ensures { OnOk result (all.new.items ≡ all.old.items ++ elements_of store.now.heap x) }
@@ -193,10 +192,10 @@ pub(crate) fn put(values: &mut Vec<Value>, value: Value) -> Result<(), Memory>
     Ok(())
 }
 
-/// An element as it is handed out: lent, or as it is. It allocates nothing.
+/// An element as it is handed out: lent, or as it is. Its text is shared.
 ///
 /// # Errors
-/// `Memory` where the count of the owners of its text is full.
+/// `Memory` where a growth was refused.
 #[inline(always)]
 pub fn handed(value: &Value, lent: bool) -> Result<Value, Memory>
     ensures { IfOk result (λ v. v ≡ handed lent value.now) }
@@ -212,7 +211,7 @@ pub fn handed(value: &Value, lent: bool) -> Result<Value, Memory>
 /// Copies of values.
 ///
 /// # Errors
-/// `Memory` where a growth was refused, or the count of a text's owners is full.
+/// `Memory` where a growth was refused.
 pub fn copies(alloc: Global, values: &[Value]) -> Result<Vec<Value>, Memory>
     ensures { IfOk result (λ all. all.items ≡ values.now) }
 {

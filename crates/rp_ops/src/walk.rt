@@ -162,7 +162,7 @@ fn walked(alloc: Global, store: &Store, meter: &mut Meter, x: Elements) -> Resul
 /// The elements of a list or tuple as they are handed out.
 ///
 /// # Errors
-/// `Memory` where a growth was refused, or the count of the owners of a text is full.
+/// `Memory` where a growth was refused.
 fn handed_out(alloc: Global, store: &Store, x: Elements) -> Result<Vec<Value>, Memory>
     requires { IsHeld store.now.heap x.at }
     ensures { IfOk result (λ v. v.items ≡ elements_of store.now.heap x) }

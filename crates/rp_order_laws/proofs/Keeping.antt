@@ -21,10 +21,11 @@ use Rattle.rp_apart_laws.proofs.Lists.{each_append, each_get}
 use Rattle.rp_apart_laws.specs.Apart.{Each, OnSome}
 use Rattle.rp_owner_laws.specs.Kept as kept
 use Rattle.rp_owner_laws.specs.Kept.{own}
-use Rattle.rp_owner_laws.proofs.PlainKeepers.{Mild, rest}
+use Rattle.rp_keeper_laws.specs.PlainKeepers.{Mild, rest}
 use Rattle.rp_order_laws.specs.Ordered.{AllAreOrdered, AreOrdered, ClassesAreTrusted, IsCallee, IsHeldBy, IsOf}
 use Rattle.rp_order_laws.specs.Ordered.{IsReceiver, Suits, place_of}
-use Rattle.rp_order_laws.proofs.Mildly.{IsMade, StayFrom, Stays}
+use Rattle.rp_keeper_laws.proofs.Mildly.{IsMade, StayFrom, Stays}
+use Rattle.rp_keeper_laws.proofs.Everything.{each_more, some_more}
 
 -- ---- owners stay
 
@@ -36,14 +37,6 @@ grows_not heap at side h = h
 
 pub grows_on : (a b c : List Owned) → Grows a b → Grows b c → Grows a c
 grows_on a b c g h at side p = h at side (g at side p)
-
-pub each_more : {A : Type 0} (P Q : A → Type 0) → ((x : A) → P x → Q x) → (xs : List A) → Each P xs → Each Q xs
-each_more P Q f [] h = tt
-each_more P Q f (x ∷ xs) h = (f x h.0, each_more P Q f xs h.1)
-
-pub some_more : {A : Type 0} (P Q : A → Type 0) → ((x : A) → P x → Q x) → (o : Option A) → OnSome P o → OnSome Q o
-some_more P Q f None h = tt
-some_more P Q f (Some x) h = f x h
 
 module _ (old new : List Owned) (g : Grows old new) where
   pub held_later : (side : Side) (v : Value) → IsHeldBy old side v → IsHeldBy new side v
@@ -223,12 +216,6 @@ mildly_ordered old heap h p =
     mildly_each heap old heap h (all_later old heap (mildly_grows old heap h) old p)
 
 -- ---- what is read of objects
-
--- of what is read, whatever there is
-pub read_on : {X A : Type 0} (P : X → Type 0) (Q : A → Type 0) (f : X → A) (d : A) (o : Option X) → OnSome P o
-    → ((x : X) → P x → Q (f x)) → Q d → Q (option_map_or f o d)
-read_on P Q f d None h some none = none
-read_on P Q f d (Some x) h some none = some x h
 
 pub owned_suits : (heap : List Owned) (at : Oid) → AreOrdered heap
     → OnSome (λ (o : Owned). Suits heap o.owner o.content) (slice_get heap at.0)

@@ -1,12 +1,5 @@
-pub mod Mildly
 pub mod Keeping
-pub mod Going
-pub mod Forms
-pub mod Calling
-pub mod Parts
-pub mod Statements
-pub mod Trees
-pub mod Programs
+pub mod OrderKeeper
 pub mod Laws
 pub mod Worlds
 pub mod Loading

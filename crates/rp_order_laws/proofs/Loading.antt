@@ -33,13 +33,19 @@ use Rattle.rp_apart_laws.specs.Apart.{Each, OnSome}
 use Rattle.rp_fixed_laws.specs.Fixed.{IsQuietRun}
 use Rattle.rp_order_laws.specs.Ordered.{AreOrdered, ClassesAreTrusted, IsHeldBy, IsOf, Suits}
 use Rattle.rp_order_laws.specs.Worlds.{IsOrderlyWorld, WorldsAreLoadedOrderly}
-use Rattle.rp_order_laws.proofs.Going.{Anything, IsOrderly, Keeps, by_option}
-use Rattle.rp_order_laws.proofs.Keeping.{any_held, changed_grows, changed_ordered, classes_later, each_more, some_more}
+use Rattle.rp_keeper_laws.proofs.Going.{Anything, IsKept, Keeps, by_option}
+use Rattle.rp_keeper_laws.proofs.Programs.{frame_fits, spot}
+use Rattle.rp_keeper_laws.proofs.Trees.{block}
+use Rattle.rp_scope.specs.Blocks.{stmts_blocks}
+use Rattle.rp_meaning.specs.Blocks.{of_stmts}
+use Rattle.rp_keeper_laws.specs.Blocks.{telling_around}
+use Rattle.rp_order_laws.proofs.Keeping.{any_held, changed_grows, changed_ordered, classes_later}
 use Rattle.rp_order_laws.proofs.Keeping.{spares_of}
-use Rattle.rp_order_laws.proofs.Mildly.{IsMade, made_mild}
-use Rattle.rp_owner_laws.proofs.Plainly.{rock_spares}
-use Rattle.rp_order_laws.proofs.Programs.{frame_fits}
-use Rattle.rp_order_laws.proofs.Trees.{block}
+use Rattle.rp_keeper_laws.proofs.Mildly.{IsMade, made_mild}
+use Rattle.rp_keeper_laws.proofs.Plainly.{rock_spares}
+use Rattle.rp_keeper_laws.proofs.Everything.{each_more, some_more}
+use Rattle.rp_order_laws.proofs.Laws.{any_has}
+use Rattle.rp_order_laws.proofs.OrderKeeper.{order_keeper}
 
 -- ---- places
 
@@ -210,7 +216,7 @@ slots_suit heap exposed (object.class name declared ms) h = h
 slots_suit heap exposed (object.function name unit number within ds) h = h
 slots_suit heap exposed (object.method v called) h = h
 
-world_orderly : (limit : ℕ) (exposed : List (Option Value)) (s : State) → IsOrderly s
+world_orderly : (limit : ℕ) (exposed : List (Option Value)) (s : State) → IsKept order_keeper s
     → IsOf (heap_of s) trusted (record { 0 = 0 }) → IsOrderlyWorld (world_of limit exposed s)
 world_orderly limit exposed s h p =
     let change : Content → Content = on_slots (λ _. exposed) in
@@ -222,13 +228,13 @@ world_orderly limit exposed s h p =
       sessions = tt;
     }
 
-loaded_orderly : (limit : ℕ) (exposed : List (Option Value)) (s : State) → IsOrderly s
+loaded_orderly : (limit : ℕ) (exposed : List (Option Value)) (s : State) → IsKept order_keeper s
     → IsOf (heap_of s) trusted (record { 0 = 0 }) → OnOk IsOrderlyWorld (loaded limit exposed s)
 loaded_orderly limit exposed s h p =
     by_option (least (unbound s.declarations.expose exposed)) (λ e. rw e (world_orderly limit exposed s h p))
     (λ word e. rw e tt)
 
-after_orderly : (locals : List Name) (limit : ℕ) (globals : Oid) (o : Outcome Flow) → IsOrderly o.state
+after_orderly : (locals : List Name) (limit : ℕ) (globals : Oid) (o : Outcome Flow) → IsKept order_keeper o.state
     → IsOf (heap_of o.state) trusted (record { 0 = 0 }) → OnOk IsOrderlyWorld (loaded_after locals limit globals o)
 after_orderly locals limit globals o h p = by o.answer where
   by : (answer : Result Flow End)
@@ -287,16 +293,18 @@ load_orderly run quiet names d limit =
             } ∷ []) in
             omega (arith, count)
 
-    orderly : IsOrderly s
+    orderly : IsKept order_keeper s
     orderly = (
       declared_ordered last heap good_all.0 enough,
       classes_trusted last heap d.classes good_all.0 (omega (arith, enough)),
     )
 
-    i : Keeps (program_frame run trusted globals) heap Anything
+    i : Keeps order_keeper (program_frame run trusted globals) heap Anything
         (meaning.block (run.programs trusted).body (program_frame run trusted globals) s)
-    i = block (run.programs trusted).body (program_frame run trusted globals)
-        (frame_fits run quiet trusted 0 globals) s (orderly, own)
+    i = block order_keeper (spot trusted 0) (run.programs trusted).body
+        (any_has trusted (of_stmts (run.programs trusted).body)
+        (stmts_blocks telling_around 0 (run.programs trusted).body))
+        (program_frame run trusted globals) (frame_fits order_keeper run quiet trusted 0 globals tt) s (orderly, own)
 
 pub worlds_are_loaded_orderly : WorldsAreLoadedOrderly
 worlds_are_loaded_orderly run quiet names d limit w e =

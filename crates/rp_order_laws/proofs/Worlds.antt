@@ -1,8 +1,6 @@
 -- Worlds stay such that their objects are as code of their owners makes them.
-use Rattle.std.proofs.Common.{◌≡◌, ◌∙◌, refl, sym, subst, ap, ℕ, zero, suc, ◌≤◌, nat_eq, cond, if◌then◌else◌, Bool}
-use Rattle.std.proofs.Common.{true}
-use Rattle.std.proofs.Common.{false, List, [], ◌∷◌, ◌++◌, find, length, Option, Some, None, arith}
-use Rattle.std.proofs.lemmas.Bool.{eqb-true}
+use Rattle.std.proofs.Common.{◌≡◌, ◌∙◌, refl, sym, subst, ap, ℕ, zero, suc, ◌≤◌, nat_eq}
+use Rattle.std.proofs.Common.{List, [], ◌∷◌, ◌++◌, find, length, Option, Some, None, arith}
 use Rattle.rp_base.specs.declared.native.NativeId.TheVariants as native
 use Rattle.rp_base.specs.declared.value.Oid.{Oid}
 use Rattle.rp_base.specs.declared.value.Side.{Side}
@@ -18,7 +16,7 @@ use Rattle.rp_meaning.specs.Meaning.{exec}
 use Rattle.rp_meaning.specs.Running.{program_frame}
 use Rattle.rp_meaning.specs.Sessions.{Session, SessionEnd, World, count, finished, played, run_all, session_after}
 use Rattle.rp_meaning.specs.Sessions.{state_of}
-use Rattle.rp_meaning.specs.Sessions.{statement_at, turn, turn_of, turns, turns_of, unless_ended, with_session}
+use Rattle.rp_meaning.specs.Sessions.{statement_at, turn, turn_of, turns, turns_of, unless_ended}
 use Rattle.rp_meaning.specs.Sessions.{world_after}
 use Rattle.rp_meaning.specs.State.{Flow, Outcome, State, heap_of}
 use Rattle.rp_meaning.specs.Unmonitored.{monitored}
@@ -34,12 +32,19 @@ use Rattle.rp_order_laws.specs.Ordered.{AreOrdered, IsHeldBy, IsOf}
 use Rattle.rp_order_laws.specs.Worlds.{HasScope, IsOrderlyWorld, RunsKeepOrder, SessionsBeginOrderly, TurnsKeepOrder}
 use Rattle.rp_order_laws.specs.Worlds.{ListedTurnsLeaveUnallowed, RunsLeaveTrustedUnallowed, SideStays}
 use Rattle.rp_order_laws.specs.Worlds.{TurnsLeaveOthersUnallowed}
-use Rattle.rp_order_laws.proofs.Going.{Keeps, Anything}
+use Rattle.rp_scope.specs.Blocks.{stmt_blocks}
+use Rattle.rp_meaning.specs.Blocks.{of_stmt}
+use Rattle.rp_keeper_laws.specs.Blocks.{telling_around}
+use Rattle.rp_keeper_laws.proofs.Going.{Anything, Keeps}
+use Rattle.rp_keeper_laws.proofs.Programs.{frame_fits, spot}
+use Rattle.rp_keeper_laws.proofs.Trees.{statement}
+use Rattle.rp_keeper_laws.proofs.Turns as going
+use Rattle.rp_keeper_laws.proofs.Turns.{found_session, session_put}
+use Rattle.rp_keeper_laws.proofs.Everything.{each_more}
 use Rattle.rp_order_laws.proofs.Keeping.{Grows, all_are_ordered, appended_grows, appended_ordered, classes_later}
-use Rattle.rp_order_laws.proofs.Keeping.{each_more}
 use Rattle.rp_order_laws.proofs.Keeping.{last_owner, own_place}
-use Rattle.rp_order_laws.proofs.Programs.{frame_fits}
-use Rattle.rp_order_laws.proofs.Trees.{statement}
+use Rattle.rp_order_laws.proofs.Laws.{any_has}
+use Rattle.rp_order_laws.proofs.OrderKeeper.{order_keeper}
 
 -- ---- sessions
 
@@ -48,27 +53,6 @@ Own heap k = HasScope heap k
 
 sessions_later : (old new : List Owned) → Grows old new → (ks : List Session) → Each (Own old) ks → Each (Own new) ks
 sessions_later old new g ks p = each_more (Own old) (Own new) (λ k q. (q.0, g k.globals k.side q.1)) ks p
-
--- a session in place of another of its number
-session_put : (heap : List Owned) (k : Session) → Own heap k → (ks : List Session) → Each (Own heap) ks
-    → Each (Own heap) (with_session k ks)
-session_put heap k q [] p = tt
-session_put heap k q (j ∷ ks) p = (by (nat_eq j.side.0 k.side.0), session_put heap k q ks p.1) where
-  by : (b : Bool) → Own heap (if b then k else j)
-  by true = q
-  by false = p.0
-
--- the session that is found by a number
-found_session : (P : Session → Type 0) (n : ℕ) (ks : List Session) → Each P ks
-    → OnSome (λ (k : Session). P k × (k.side.0 ≡ n)) (find (λ (k : Session). nat_eq k.side.0 n) ks)
-found_session P n [] p = tt
-found_session P n (k ∷ ks) p = by (nat_eq k.side.0 n) refl (found_session P n ks p.1) where
-  by : (b : Bool) → nat_eq k.side.0 n ≡ b
-      → OnSome (λ (k : Session). P k × (k.side.0 ≡ n)) (find (λ (k : Session). nat_eq k.side.0 n) ks)
-      → OnSome (λ (k : Session). P k × (k.side.0 ≡ n))
-      (cond b (Some k) (find (λ (k : Session). nat_eq k.side.0 n) ks))
-  by true e q = (p.0, eqb-true k.side.0 n e)
-  by false e q = q
 
 pub sessions_begin_orderly : SessionsBeginOrderly
 sessions_begin_orderly run who steps w h =
@@ -89,61 +73,50 @@ sessions_begin_orderly run who steps w h =
 
 module _ (run : Run) (quiet : IsQuietRun run) where
   statement_keeps : (w : World) → IsOrderlyWorld w → (k : Session) → Own w.store.heap k → (x : stmt_tree.Stmt)
-      → Keeps (program_frame run k.side k.globals) w.store.heap Anything
+      → Keeps order_keeper (program_frame run k.side k.globals) w.store.heap Anything
       (exec x (program_frame run k.side k.globals) (state_of w k))
-  statement_keeps w h k mine x = statement x (program_frame run k.side k.globals)
-      (frame_fits run quiet k.side 0 k.globals) (state_of w k) ((h.objects, h.classes), mine.1)
+  statement_keeps w h k mine x =
+      statement order_keeper (spot k.side 0) x (any_has k.side (of_stmt x) (stmt_blocks telling_around 0 x))
+      (program_frame run k.side k.globals) (frame_fits order_keeper run quiet k.side 0 k.globals tt) (state_of w k)
+      ((h.objects, h.classes), mine.1)
 
-  world_keeps : (w : World) → IsOrderlyWorld w → (k : Session) → Own w.store.heap k → (n : ℕ) (o : Outcome Flow)
-      → Keeps (program_frame run k.side k.globals) w.store.heap Anything o → IsOrderlyWorld (world_after w n k o)
-  world_keeps w h k mine n o i = record {
-    objects = i.there.0.0;
-    classes = classes_later w.store.heap (heap_of o.state) i.grows w.declarations.classes h.classes;
-    sessions = session_put (heap_of o.state) (session_after n k o) (mine.0, i.grows k.globals k.side mine.1) w.sessions
-        (sessions_later w.store.heap (heap_of o.state) i.grows w.sessions h.sessions);
-  }
-
-  played_keeps : (w : World) → IsOrderlyWorld w → (k : Session) → Own w.store.heap k → (x : Option stmt_tree.Stmt)
-      → IsOrderlyWorld (played run w k x)
-  played_keeps w h k mine None = h
-  played_keeps w h k mine (Some x) =
-      world_keeps w h k mine (count (run.programs k.side).body)
-      (exec x (program_frame run k.side k.globals) (state_of w k)) (statement_keeps w h k mine x)
-
-  unless_keeps : (w : World) → IsOrderlyWorld w → (k : Session) → Own w.store.heap k → (end : Option SessionEnd)
-      → IsOrderlyWorld (unless_ended run w k end)
-  unless_keeps w h k mine (Some e) = h
-  unless_keeps w h k mine None = played_keeps w h k mine (statement_at k.next (run.programs k.side).body)
+  -- behind the statement
+  world_keeps : (w : World) → IsOrderlyWorld w → (k : Session) → Own w.store.heap k → (x : stmt_tree.Stmt)
+      → statement_at k.next (run.programs k.side).body ≡ Some x
+      → IsOrderlyWorld (world_after w (count (run.programs k.side).body) k
+      (exec x (program_frame run k.side k.globals) (state_of w k)))
+  world_keeps w h k mine x e =
+      let o : Outcome Flow = exec x (program_frame run k.side k.globals) (state_of w k) in
+      let i = statement_keeps w h k mine x in
+      record {
+        objects = i.there.0.0;
+        classes = classes_later w.store.heap (heap_of o.state) i.grows w.declarations.classes h.classes;
+        sessions = session_put (Own (heap_of o.state)) (session_after (count (run.programs k.side).body) k o)
+            (mine.0, i.grows k.globals k.side mine.1) w.sessions
+            (sessions_later w.store.heap (heap_of o.state) i.grows w.sessions h.sessions);
+      }
 
   turn_keeps : (n : ℕ) (w : World) → IsOrderlyWorld w → IsOrderlyWorld (turn run n w)
-  turn_keeps n w h = by (find (λ (k : Session). nat_eq k.side.0 n) w.sessions)
-      (found_session (Own w.store.heap) n w.sessions h.sessions)
-    where
-      by : (o : Option Session) → OnSome (λ (k : Session). Own w.store.heap k × (k.side.0 ≡ n)) o
-          → IsOrderlyWorld (turn_of run w o)
-      by None p = h
-      by (Some k) p = unless_keeps w h k p.0 k.end
+  turn_keeps n w h =
+      going.turn_keeps run IsOrderlyWorld (λ w. Own w.store.heap) (λ w h. h.sessions) world_keeps n w h
 
   turns_keep : (ns : List ℕ) (w : World) → IsOrderlyWorld w → IsOrderlyWorld (turns run ns w)
-  turns_keep [] w h = h
-  turns_keep (n ∷ ns) w h = turns_keep ns (turn run n w) (turn_keeps n w h)
+  turns_keep ns w h =
+      going.turns_keep run IsOrderlyWorld (λ w. Own w.store.heap) (λ w h. h.sessions) world_keeps ns w h
 
   turns_of_keep : (i n : ℕ) (w : World) → IsOrderlyWorld w → IsOrderlyWorld (turns_of run i n w)
-  turns_of_keep zero n w h = h
-  turns_of_keep (suc i) n w h = turns_of_keep i n (turn run n w) (turn_keeps n w h)
+  turns_of_keep i n w h =
+      going.turns_of_keep run IsOrderlyWorld (λ w. Own w.store.heap) (λ w h. h.sessions) world_keeps i n w h
 
-  finished_keep : (ks : List Session) (w : World) → IsOrderlyWorld w → IsOrderlyWorld (finished run ks w)
-  finished_keep [] w h = h
-  finished_keep (k ∷ ks) w h =
-      finished_keep ks (turns_of run (count (run.programs k.side).body) k.side.0 w)
-      (turns_of_keep (count (run.programs k.side).body) k.side.0 w h)
+  run_keeps : (listed : List ℕ) (w : World) → IsOrderlyWorld w → IsOrderlyWorld (run_all run listed w)
+  run_keeps listed w h =
+      going.run_keeps run IsOrderlyWorld (λ w. Own w.store.heap) (λ w h. h.sessions) world_keeps listed w h
 
 pub turns_keep_order : TurnsKeepOrder
 turns_keep_order run quiet n w h = turn_keeps run quiet n w h
 
 pub runs_keep_order : RunsKeepOrder
-runs_keep_order run quiet listed w h =
-    finished_keep run quiet w.sessions (turns run listed w) (turns_keep run quiet listed w h)
+runs_keep_order run quiet listed w h = run_keeps run quiet listed w h
 
 -- ---- the objects of others
 

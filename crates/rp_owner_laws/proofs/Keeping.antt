@@ -23,7 +23,7 @@ use Rattle.rp_apart_laws.specs.Apart.{Each, OnSome}
 use Rattle.rp_owner_laws.specs.Kept.{Acts, Bare, CalleeFits, Fits, Holds, IsNew, IsOwn, Keeper, Kept}
 use Rattle.rp_owner_laws.specs.Kept.{StayFrom, Stays, StaysBy}
 use Rattle.rp_owner_laws.specs.Kept.{Usable, old_of, own, shapes}
-use Rattle.rp_owner_laws.proofs.PlainKeepers.{AllFit, Mild, PlainKeeper, rest}
+use Rattle.rp_keeper_laws.specs.PlainKeepers.{AllFit, Mild, PlainKeeper, rest}
 
 -- ---- lists
 
@@ -219,12 +219,6 @@ read_fits k heap at h p = by (slice_get heap at.0) (owned_fits k heap at h p)
     by : (o : Option Owned) → OnSome (OwnedFits k) o → OnSome (Fits k) (option_map (λ (o : Owned). o.content) o)
     by None h = h
     by (Some o) h = h
-
--- of what is read, whatever there is
-pub read_on : {X A : Type 0} (P : X → Type 0) (Q : A → Type 0) (f : X → A) (d : A) (o : Option X) → OnSome P o
-    → ((x : X) → P x → Q (f x)) → Q d → Q (option_map_or f o d)
-read_on P Q f d None h some none = none
-read_on P Q f d (Some x) h some none = some x h
 
 -- ---- what code of a side takes
 

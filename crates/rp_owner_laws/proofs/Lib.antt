@@ -1,19 +1,5 @@
-pub mod PlainKeepers
 pub mod Keeping
-pub mod Plainly
-pub mod Operations
-pub mod Objects
-pub mod Natives
-pub mod Methods
-pub mod BuiltIns
-pub mod Attributes
-pub mod Going
-pub mod Forms
-pub mod Calling
-pub mod Parts
-pub mod Statements
-pub mod Trees
-pub mod Programs
+pub mod OwnerKeeper
 pub mod Owners
 pub mod CutGoing
 pub mod CutForms
@@ -25,3 +11,4 @@ pub mod CutPrograms
 pub mod Stores
 pub mod Items
 pub mod Uses
+pub mod Receivers

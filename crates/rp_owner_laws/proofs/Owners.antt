@@ -17,14 +17,23 @@ use Rattle.rp_meaning.specs.Meaning.{eval, exec}
 use Rattle.rp_meaning.specs.Running.{calls, frame_in}
 use Rattle.rp_meaning.specs.State.{Outcome, State, heap_of}
 use Rattle.rp_apart_laws.specs.Apart.{Each}
-use Rattle.rp_owner_laws.specs.Code.{FlowHolds, IsEnd, Keeping}
-use Rattle.rp_owner_laws.specs.Kept.{Fits, Holds, Keeper, Kept, StayFrom, StaysBy, own, shapes}
+use Rattle.rp_owner_laws.specs.Code.{IsEnd, IsSuch}
+use Rattle.rp_owner_laws.specs.Kept.{Acts, Fits, Keeper, Kept, StayFrom, StaysBy, Usable, own, shapes}
 use Rattle.rp_owner_laws.specs.Owners.{BlocksKeepOwners, BlocksLeaveOthers, CutRunsAreSuch, ExpressionsKeepOwners}
 use Rattle.rp_owner_laws.specs.Owners.{ExpressionsLeaveOthers, FunctionsKeepOwners, FunctionsLeaveOthers}
 use Rattle.rp_owner_laws.specs.Owners.{KeepsOwners, LeavesOthers, OthersStay, OwnersStay, StatementsKeepOwners}
 use Rattle.rp_owner_laws.specs.Owners.{StatementsLeaveOthers, decide_until, stopping}
-use Rattle.rp_owner_laws.proofs.Programs.{calls_keep, frame_fits}
-use Rattle.rp_owner_laws.proofs.Trees.{block, expression, statement}
+use Rattle.rp_scope.specs.Blocks.{expr_blocks, stmt_blocks, stmts_blocks}
+use Rattle.rp_meaning.specs.Blocks.{Codes, of_expr, of_stmt, of_stmts}
+use Rattle.rp_keeper_laws.specs.Blocks.{Around, telling_around}
+use Rattle.rp_keeper_laws.proofs.Going.{Any, Held, KeepsAt, Saying}
+use Rattle.rp_keeper_laws.proofs.Programs.{calls_keep, frame_fits, spot}
+use Rattle.rp_keeper_laws.proofs.Trees.{Has, block, expression, statement}
+use Rattle.rp_keeper_laws.proofs.Everything.{any_each}
+use Rattle.rp_base.specs.declared.value.Oid.{Oid}
+use Rattle.rp_base.specs.declared.value.Side.{Side}
+use Rattle.rp_meaning.specs.Frame.{Run}
+use Rattle.rp_owner_laws.proofs.OwnerKeeper.{owner_keeper}
 
 -- ---- owners and kinds
 
@@ -43,28 +52,54 @@ shapes_stay old (p ∷ ps) (x ∷ xs) (suc i) o h e = shapes_stay old ps xs i o 
 owners_stay : (old heap : List Owned) → Kept (shapes old) heap → OwnersStay old heap
 owners_stay old heap h at o e = shapes_stay old old heap at.0 o h e
 
-keeps_owners : {A : Type 0} {P : Keeper → A → Type 0} (does : Frame → State → Outcome A) → Keeping P does
+-- what is done in a frame keeps it
+abbrev Keeping : {A : Type 0} → (Keeper → Frame → Saying A) → (Frame → State → Outcome A) → Type 0
+Keeping P does = (k : Keeper) (side : Side) (number : ℕ) → KeepsAt (owner_keeper k) (spot side number) (P k) does
+
+-- nothing is asked of functions and blocks
+any_has : (k : Keeper) (side : Side) (codes : Codes) (blocks : List Around) → Has (owner_keeper k) side codes blocks
+any_has k side codes blocks = record { functions = any_each codes; blocks = any_each blocks }
+
+kept_behind : {A : Type 0} {P : Keeper → Frame → Saying A} (does : Frame → State → Outcome A) → Keeping P does
+    → (k : Keeper) (run : Run) → IsSuch k run → (side : Side) (number : ℕ) (scope : Oid) (s : State) → Acts k side
+    → Usable k scope → Kept k (heap_of s)
+    → Kept k (heap_of (does (frame_in run (calls run) side number scope) s).state)
+kept_behind does i k run such side number scope s acts usable h =
+    (i k side number (frame_in run (calls run) side number scope)
+    (frame_fits (owner_keeper k) run such side number scope acts) s (h, usable)).there.0
+
+expression_keeps : (x : _) → Keeping (λ k. Held (owner_keeper k)) (eval x)
+expression_keeps x k side number = expression (owner_keeper k) (spot side number) x
+    (any_has k side (of_expr x) (expr_blocks telling_around number x))
+
+statement_keeps : (x : _) → Keeping (λ k. Any) (exec x)
+statement_keeps x k side number = statement (owner_keeper k) (spot side number) x
+    (any_has k side (of_stmt x) (stmt_blocks telling_around number x))
+
+block_keeps : (b : _) → Keeping (λ k. Any) (meaning.block b)
+block_keeps b k side number = block (owner_keeper k) (spot side number) b
+    (any_has k side (of_stmts b) (stmts_blocks telling_around number b))
+
+keeps_owners : {A : Type 0} {P : Keeper → Frame → Saying A} (does : Frame → State → Outcome A) → Keeping P does
     → KeepsOwners does
-keeps_owners does i run quiet side number scope s =
-    let k : Keeper = shapes (heap_of s) in
-    let these = i k (frame_in run (calls run) side number scope)
-    (frame_fits run k (record { quiet = quiet; tight = tt }) side number scope tt tt) s
-    (shapes_from (heap_of s) (heap_of s)) in
-    owners_stay (heap_of s) _ these.there
+keeps_owners {P = P} does i run quiet side number scope s =
+    owners_stay (heap_of s) _ (kept_behind {P = P} does i (shapes (heap_of s)) run
+    (record { quiet = quiet; tight = tt })
+    side number scope s tt tt (shapes_from (heap_of s) (heap_of s)))
 
 pub expressions_keep_owners : ExpressionsKeepOwners
-expressions_keep_owners x = keeps_owners {P = Holds} (eval x) (expression x)
+expressions_keep_owners x = keeps_owners {P = λ k. Held (owner_keeper k)} (eval x) (expression_keeps x)
 
 pub statements_keep_owners : StatementsKeepOwners
-statements_keep_owners x = keeps_owners {P = FlowHolds} (exec x) (statement x)
+statements_keep_owners x = keeps_owners {P = λ k. Any} (exec x) (statement_keeps x)
 
 pub blocks_keep_owners : BlocksKeepOwners
-blocks_keep_owners b = keeps_owners {P = FlowHolds} (meaning.block b) (block b)
+blocks_keep_owners b = keeps_owners {P = λ k. Any} (meaning.block b) (block_keeps b)
 
 pub functions_keep_owners : FunctionsKeepOwners
 functions_keep_owners run quiet at a s =
-    owners_stay (heap_of s) _ (calls_keep run (shapes (heap_of s)) (record { quiet = quiet; tight = tt }) at a s tt
-    (shapes_from (heap_of s) (heap_of s))).there
+    owners_stay (heap_of s) _ (calls_keep (owner_keeper (shapes (heap_of s))) run (record { quiet = quiet; tight = tt })
+    at a s tt (shapes_from (heap_of s) (heap_of s))).there
 
 -- ---- the objects of others
 
@@ -100,28 +135,26 @@ others_stay_from n old (p ∷ ps) (x ∷ xs) (suc i) o h e other = others_stay_f
 pub others_stay : (n : ℕ) (old heap : List Owned) → Kept (own n old) heap → OthersStay n old heap
 others_stay n old heap h at o e other = others_stay_from n old old heap at.0 o h e other
 
-leaves_others : {A : Type 0} {P : Keeper → A → Type 0} (does : Frame → State → Outcome A) → Keeping P does
+leaves_others : {A : Type 0} {P : Keeper → Frame → Saying A} (does : Frame → State → Outcome A) → Keeping P does
     → LeavesOthers does
-leaves_others does i run quiet tight n number scope s ordered mine =
-    let k : Keeper = own n (heap_of s) in
-    let these = i k (frame_in run (calls run) (record { 0 = suc n }) number scope)
-    (frame_fits run k (record { quiet = quiet; tight = tight }) (record { 0 = suc n }) number scope refl mine) s
-    (others_from n (heap_of s) (heap_of s) ordered) in
-    others_stay n (heap_of s) _ these.there
+leaves_others {P = P} does i run quiet tight n number scope s ordered mine =
+    others_stay n (heap_of s) _
+    (kept_behind {P = P} does i (own n (heap_of s)) run (record { quiet = quiet; tight = tight }) (record { 0 = suc n })
+    number scope s refl mine (others_from n (heap_of s) (heap_of s) ordered))
 
 pub expressions_leave_others : ExpressionsLeaveOthers
-expressions_leave_others x = leaves_others {P = Holds} (eval x) (expression x)
+expressions_leave_others x = leaves_others {P = λ k. Held (owner_keeper k)} (eval x) (expression_keeps x)
 
 pub statements_leave_others : StatementsLeaveOthers
-statements_leave_others x = leaves_others {P = FlowHolds} (exec x) (statement x)
+statements_leave_others x = leaves_others {P = λ k. Any} (exec x) (statement_keeps x)
 
 pub blocks_leave_others : BlocksLeaveOthers
-blocks_leave_others b = leaves_others {P = FlowHolds} (meaning.block b) (block b)
+blocks_leave_others b = leaves_others {P = λ k. Any} (meaning.block b) (block_keeps b)
 
 pub functions_leave_others : FunctionsLeaveOthers
 functions_leave_others run quiet tight n at a s ordered mine =
     others_stay n (heap_of s) _
-    (calls_keep run (own n (heap_of s)) (record { quiet = quiet; tight = tight }) at a s mine
+    (calls_keep (owner_keeper (own n (heap_of s))) run (record { quiet = quiet; tight = tight }) at a s mine
     (others_from n (heap_of s) (heap_of s) ordered)).there
 
 -- ---- up to the first that is allowed

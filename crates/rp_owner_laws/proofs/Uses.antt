@@ -7,6 +7,7 @@ use Rattle.std.specs.Map.{lookup}
 use Rattle.std.specs.Option.{option_map, option_map_or}
 use Rattle.rp_attributes.specs.Attributes as attributes
 use Rattle.rp_base.specs.Names.{word_of}
+use Rattle.rp_base.specs.declared.native.NativeId.TheVariants as native
 use Rattle.rp_base.specs.declared.operator.BinOp.{BinOp}
 use Rattle.rp_base.specs.declared.value.Name.{Name}
 use Rattle.rp_base.specs.declared.value.Oid.{Oid}
@@ -14,7 +15,7 @@ use Rattle.rp_base.specs.declared.value.Raised.{Raised}
 use Rattle.rp_base.specs.declared.value.Side.{Side}
 use Rattle.rp_base.specs.declared.value.Value.{Value}
 use Rattle.rp_base.specs.declared.value.Value.TheVariants as value
-use Rattle.rp_base.specs.declared.word.TheConstants.{CALL, CONTAINS, DEL_ITEM, GET_ITEM, ITER, SET_ITEM}
+use Rattle.rp_base.specs.declared.word.TheConstants.{CALL, CONTAINS, DEL_ITEM, GET_ITEM, ITER, LEN, SET_ITEM}
 use Rattle.rp_compare.specs.Membership as membership
 use Rattle.rp_compare.specs.Order as order
 use Rattle.rp_items.specs.Items as items
@@ -22,6 +23,7 @@ use Rattle.rp_items.specs.Slices as slices
 use Rattle.rp_native.specs.Functions.{function}
 use Rattle.rp_ops.specs.Binary as binary
 use Rattle.rp_ops.specs.Inplace as inplace
+use Rattle.rp_ops.specs.Keys.{index_number}
 use Rattle.rp_ops.specs.Operand.{lent, truth_of}
 use Rattle.rp_ops.specs.Outcome as plain
 use Rattle.rp_ops.specs.Outcome.{End, ends, gives, no_cell, on_answer, on_found, on_value}
@@ -38,8 +40,9 @@ use Rattle.rp_store.specs.declared.object.Callee.{Callee}
 use Rattle.rp_trail.specs.Entry.{Entry, Verdict, allowed, denied, forbidden}
 use Rattle.rp_meaning.specs.Access.{called}
 use Rattle.rp_meaning.specs.Binding.{only}
+use Rattle.rp_meaning.specs.BuiltIn.{applied, given, length_given, length_of}
 use Rattle.rp_meaning.specs.Calls.{found_call}
-use Rattle.rp_meaning.specs.Frame.{Frame, asked_for, decided, got, takes}
+use Rattle.rp_meaning.specs.Frame.{Frame, asked_for, asked_if, decided, got, takes}
 use Rattle.rp_meaning.specs.Operators.{augmented_name, comparison_name, in_place_name, left_name, mirrored, right_name}
 use Rattle.rp_meaning.specs.Operators.{unary_name}
 use Rattle.rp_meaning.specs.Special.{Special, on_special, special}
@@ -50,7 +53,8 @@ use Rattle.rp_owner_laws.specs.Cut.{decided_frame}
 use Rattle.rp_owner_laws.specs.Items.{HasNoRow, IsListOrDict}
 use Rattle.rp_owner_laws.specs.Kept.{Fits, own}
 use Rattle.rp_owner_laws.specs.Stores.{ChangesBehind, IsBehind, entry_to_set}
-use Rattle.rp_owner_laws.specs.Uses.{AllStay, Calling, Changes, EachUseIsDecided, FunctionsChangeNothing, all_stay}
+use Rattle.rp_owner_laws.specs.Uses.{AllStay, Calling, Changes, EachLengthIsDecided, EachUseIsDecided}
+use Rattle.rp_owner_laws.specs.Uses.{FunctionsChangeNothing, all_stay, special_call}
 use Rattle.rp_owner_laws.specs.Uses.{augments, call_of}
 use Rattle.rp_owner_laws.specs.Uses.{calls, compares, deletes, deletes_item, entry_to_read, makes_call, noted, operates}
 use Rattle.rp_owner_laws.specs.Uses.{operates_alone, reads, reads_item, reads_slice, seeks, sets_field, stores}
@@ -58,12 +62,14 @@ use Rattle.rp_owner_laws.specs.Uses.{stores_item, walks}
 use Rattle.rp_owner_laws.proofs.CutGoing.{entry_as}
 use Rattle.rp_owner_laws.proofs.Items.{del_no_row, forbidden_at, in_place_no_row, set_no_row}
 use Rattle.rp_owner_laws.proofs.Keeping.{plain_keeper}
-use Rattle.rp_owner_laws.proofs.Natives.{function_leaves}
-use Rattle.rp_owner_laws.proofs.Objects.{item, slice}
-use Rattle.rp_owner_laws.proofs.Operations.{binary_leaves, compare, contains}
+use Rattle.rp_keeper_laws.proofs.BuiltIns.{function_done}
+use Rattle.rp_keeper_laws.proofs.Forms.{by_number}
+use Rattle.rp_keeper_laws.proofs.Natives.{function_leaves}
+use Rattle.rp_keeper_laws.proofs.Objects.{item, slice}
+use Rattle.rp_keeper_laws.proofs.Operations.{binary_leaves, compare, contains}
 use Rattle.rp_owner_laws.proofs.Owners.{decided_as, others_from, others_stay}
-use Rattle.rp_owner_laws.proofs.PlainKeepers.{PlainKeeper}
-use Rattle.rp_owner_laws.proofs.Plainly.{Leaves, There}
+use Rattle.rp_keeper_laws.specs.PlainKeepers.{PlainKeeper}
+use Rattle.rp_keeper_laws.proofs.Plainly.{Leaves, There}
 use Rattle.rp_owner_laws.proofs.Stores.{deletes_one_field, stores_one_field}
 
 -- ---- objects that stay
@@ -436,6 +442,31 @@ each_use_is_decided f at (calls a) s g =
       same_heap (found_call at (slice_get (heap_of t) at.0) a (decided_frame f) t)
           (λ r s. got (value.Prox at) r (decided_frame f) s) (λ r t. refl),
     ))
+
+-- `len`
+
+length_same : (v : Value) (s : State) → heap_of (length_given v s).state ≡ heap_of s
+length_same v s = by_number (index_number v) (λ n e. rw e refl) (λ n e. rw e refl) (λ e. rw e refl)
+
+pub each_length_is_decided : EachLengthIsDecided
+each_length_is_decided f at s natives e =
+    subst (λ (m : Option Name). Changes None called at s
+    (asked_if (decided_frame f) m (value.Prox at) s
+    (λ s. applied native.Len (value.Prox at ∷ []) (decided_frame f) s)).state)
+    (sym e) (asked_by (λ (t : State). Changes None called at s t) f LEN at s
+    (λ s. length_of (value.Prox at) (decided_frame f) s)
+    (λ t e. all_stay (equal_heaps (heap_of s) (heap_of t) e))
+    (λ h. let t : State = noted s (entry_to_read LEN at s) in
+    by_special LEN [] at (decided_frame f) s
+    (λ m s. on_value (f.calls m.function (only (m.of ∷ [])) s) length_given)
+    (given native.Len (value.Prox at ∷ []) (decided_frame f)) h
+    (λ m t. same_heap (f.calls m.function (only (m.of ∷ [])) t) length_given (λ v t. length_same v t))
+    (stays (f.run.natives.function t.names f.side native.Len (value.Prox at ∷ []) t.plain) t.plain
+    (λ k h. function_done {k = k} natives t.names f.side native.Len (value.Prox at ∷ []) t.plain h))
+    (special (heap_of s) (value.Prox at) LEN)))
+  where
+    called : Option Calling
+    called = special_call LEN [] at (decided_frame f) s
 
 pub functions_change_nothing : FunctionsChangeNothing
 functions_change_nothing names side id vs s =

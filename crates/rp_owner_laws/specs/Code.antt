@@ -1,19 +1,14 @@
--- What is done in a frame keeps what is kept of objects, and what code of a side gets it holds as such code may
--- (zope.security, proxies).
+-- Runs in which what is kept of objects is kept (zope.security, proxies).
 use Rattle.std.specs.Prelude.{◌≡◌, Some, Ok, Err}
 use Rattle.rp_base.specs.declared.native.NativeId.TheVariants as native
 use Rattle.rp_base.specs.declared.value.Oid.{Oid}
-use Rattle.rp_base.specs.declared.value.Side.{Side}
 use Rattle.rp_base.specs.declared.value.Value.TheVariants as value
 use Rattle.rp_base.specs.declared.word.TheConstants.{LEN}
 use Rattle.rp_checker.specs.RowOf.{Operation}
 use Rattle.rp_proxy.specs.Decide.{Decision, Monitor}
-use Rattle.rp_meaning.specs.Binding.{Arguments}
-use Rattle.rp_meaning.specs.Frame.{Calls, Frame, Run}
-use Rattle.rp_meaning.specs.State.{Flow, Outcome, State, heap_of, returned}
-use Rattle.rp_apart_laws.specs.Apart.{Nothing, OnValue}
+use Rattle.rp_meaning.specs.Frame.{Run}
 use Rattle.rp_fixed_laws.specs.Fixed.{IsQuietRun}
-use Rattle.rp_owner_laws.specs.Kept.{Acts, Holds, Keeper, Kept, Usable, own, shapes}
+use Rattle.rp_owner_laws.specs.Kept.{Keeper, own, shapes}
 
 -- ---- runs
 
@@ -36,34 +31,3 @@ IsTight (own n old) run = LetsNothingThrough run
 pub record IsSuch (k : Keeper) (run : Run) : Type 0 where
   pub quiet : IsQuietRun run
   pub tight : IsTight k run
-
--- ---- what something comes to
-
-abbrev pub IsIn : Keeper → State → Type 0
-IsIn k s = Kept k (heap_of s)
-
--- it is kept, however that ends, and this holds of a value that is given
-pub record Keeps {A : Type 0} (k : Keeper) (P : A → Type 0) (o : Outcome A) : Type 0 where
-  pub there : IsIn k o.state
-  pub gives : OnValue P o.answer
-
-abbrev pub FlowHolds : Keeper → Flow → Type 0
-FlowHolds k (returned v) = Holds k v
-FlowHolds k flow = Unit {0}
-
--- calls of functions that are the code's own, with whatever arguments
-abbrev pub CallsKeep : Keeper → Calls → Type 0
-CallsKeep k calls = (at : Oid) (a : Arguments) (s : State) → Usable k at → IsIn k s → Keeps k Nothing (calls at a s)
-
--- a frame of such code
-pub record Fit (k : Keeper) (called : Calls) (run : Run) (acting : Side) (inside : Oid) : Type 0 where
-  pub calls : CallsKeep k called
-  pub such : IsSuch k run
-  pub side : Acts k acting
-  pub scope : Usable k inside
-
-abbrev pub FitIn : Keeper → Frame → Type 0
-FitIn k f = Fit k f.calls f.run f.side f.scope
-
-abbrev pub Keeping : {A : Type 0} → (Keeper → A → Type 0) → (Frame → State → Outcome A) → Type 0
-Keeping P does = (k : Keeper) (frame : Frame) → FitIn k frame → (s : State) → IsIn k s → Keeps k (P k) (does frame s)

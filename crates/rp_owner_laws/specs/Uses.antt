@@ -5,6 +5,7 @@ use Rattle.std.specs.Prelude.{◌≡◌, ℕ, List, [], ◌∷◌, slice_get, Op
 use Rattle.std.specs.Option.{option_map}
 use Rattle.rp_base.specs.Names.{GrowsTo, first_words, word_of}
 use Rattle.rp_base.specs.declared.native.NativeId.{NativeId}
+use Rattle.rp_base.specs.declared.native.NativeId.TheVariants as native
 use Rattle.rp_base.specs.declared.operator.BinOp.{BinOp}
 use Rattle.rp_base.specs.declared.operator.CmpOp.{CmpOp}
 use Rattle.rp_base.specs.declared.operator.UnOp.{UnOp}
@@ -13,8 +14,9 @@ use Rattle.rp_base.specs.declared.value.Oid.{Oid}
 use Rattle.rp_base.specs.declared.value.Side.{Side}
 use Rattle.rp_base.specs.declared.value.Value.{Value}
 use Rattle.rp_base.specs.declared.value.Value.TheVariants as value
-use Rattle.rp_base.specs.declared.word.TheConstants.{CALL, CONTAINS, DEL_ITEM, GET_ITEM, SET_ITEM}
+use Rattle.rp_base.specs.declared.word.TheConstants.{CALL, CONTAINS, DEL_ITEM, GET_ITEM, LEN, SET_ITEM}
 use Rattle.rp_checker.specs.RowOf.{reading}
+use Rattle.rp_methods.specs.Methods.{method}
 use Rattle.rp_native.specs.Functions.{function}
 use Rattle.rp_ops.specs.Outcome as plain
 use Rattle.rp_proxy.specs.Decide.{class_at, entry_of, logged}
@@ -26,6 +28,7 @@ use Rattle.rp_tree.specs.declared.parts.Test.TheVariants as test
 use Rattle.rp_meaning.specs.Access.{del_attribute, del_item, get_attribute, get_item, get_slice, is_within}
 use Rattle.rp_meaning.specs.Access.{set_attribute, set_item}
 use Rattle.rp_meaning.specs.Binding.{Arguments, only}
+use Rattle.rp_meaning.specs.BuiltIn.{decided_and_applied}
 use Rattle.rp_meaning.specs.Calls.{call, found_call}
 use Rattle.rp_meaning.specs.Frame.{Frame}
 use Rattle.rp_meaning.specs.Operators.{augment, operate, operate_unary, tested}
@@ -33,6 +36,7 @@ use Rattle.rp_meaning.specs.Special.{special}
 use Rattle.rp_meaning.specs.State.{Outcome, State, heap_of, monitor_of, with_monitor}
 use Rattle.rp_meaning.specs.Unmonitored.{IsAllowed}
 use Rattle.rp_meaning.specs.Walks.{walk}
+use Rattle.rp_fixed_laws.specs.Fixed.{AreBuiltIn}
 use Rattle.rp_owner_laws.specs.Cut.{decided_frame}
 use Rattle.rp_owner_laws.specs.Stores.{ChangesInstance, IsBehind, entry_to_set}
 
@@ -133,8 +137,25 @@ abbrev pub EachUseIsDecided : Type 0
 EachUseIsDecided = (f : Frame) (at : Oid) (u : Use) (s : State) → GrowsTo first_words s.names
     → Changes (field_of u) (call_of u at (decided_frame f) s) at s (left_by u at (decided_frame f) s)
 
+-- So it is with `len` of a proxy, where that is decided as the reading of `__len__`, which it may call.
+abbrev pub EachLengthIsDecided : Type 0
+EachLengthIsDecided = (f : Frame) (at : Oid) (s : State) → AreBuiltIn f.run.natives
+    → f.run.natives.needs native.Len 0 1 ≡ Some LEN
+    → Changes None (special_call LEN [] at (decided_frame f) s) at s
+    (decided_and_applied native.Len (value.Prox at ∷ []) (decided_frame f) s).state
+
 -- A built-in function changes none, whatever it is given. (`getattr` and `setattr` are uses as above, and `len` of an
 -- instance calls its `__len__` instead.)
 abbrev pub FunctionsChangeNothing : Type 0
 FunctionsChangeNothing = (names : List (List ℕ)) (side : Side) (id : NativeId) (vs : List Value) (s : plain.State)
     → AllStay s.store.heap (function names side id vs s).state.store.heap
+
+-- each object that was there is as it was, but that at a place
+abbrev pub AllStayBut : Oid → List Owned → List Owned → Type 0
+AllStayBut at old new =
+    (x : Oid) (o : Owned) → (x.0 ≡ at.0 → ⊥) → slice_get old x.0 ≡ Some o → slice_get new x.0 ≡ Some o
+
+-- A built-in method changes its receiver alone, whatever it is given: so does a call of one that is bound to an object.
+abbrev pub MethodsChangeTheirReceiverAlone : Type 0
+MethodsChangeTheirReceiverAlone = (side : Side) (at : Oid) (id : NativeId) (vs : List Value) (s : plain.State)
+    → AllStayBut at s.store.heap (method side (value.Ref at) id vs s).state.store.heap

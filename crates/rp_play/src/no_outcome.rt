@@ -9,7 +9,7 @@ use rp_session::SessionHalt;
 pub enum NoOutcome {
     /// A growth was refused.
     Memory,
-    /// The machine of a session has made 2^64 - 1 steps.
+    /// A count of the machine of a session is full: of the parts of one form.
     TooLong,
 }
 

@@ -34,8 +34,8 @@ use std::alloc::Global;
 /// for the principals at its place. It gives the sessions as they ended.
 ///
 /// # Errors
-/// `TooLong` where the machine of a session has made 2^64 - 1 steps. Whether there is one is not said. `Memory` where a
-/// growth was refused.
+/// `TooLong` where a count of the machine of a session is full; whether one is, is not said. `Memory` where a growth
+/// was refused.
 pub fn play(
     alloc: Global,
     loaded: Loaded,

@@ -1,6 +1,6 @@
 //! The text that grows while a tree is printed.
 
-ghost use Rattle.std.specs.Prelude.{◌≡◌, [], chars, codes, decimal, string_bytes, IsTrue, OnOk};
+ghost use Rattle.std.specs.Prelude.{◌≡◌, [], chars, codes, decimal, string_bytes, suc, IfOk, IsTrue, OnOk};
 ghost use Rattle.std.specs.Char.{is_ascii};
 ghost use Rattle.std.specs.List.{list_all};
 ghost use Rattle.rp_base.specs.Names.{word_of};
@@ -118,6 +118,20 @@ impl Page {
     {
         let shown = shown_inside(self.alloc, rock)?;
         self.add(shown.as_str())
+    }
+
+    /// One block further within than so many. Room is made for part of the spaces that a line there begins with: so many
+    /// blocks are then no more than a text has bytes, and one more can be counted.
+    ///
+    /// # Errors
+    /// `Memory` where a growth was refused.
+    pub(crate) fn deeper(&mut self, depth: usize) -> Result<usize, Memory>
+        ensures deeper { IfOk result (λ inner. inner ≡ suc depth) }
+        ensures same { OnOk result (self.new ≡ self.old) }
+    {
+        self.text.reserve(depth)?;
+        let inner = depth + 1;
+        Ok(inner)
     }
 
     /// Begins a line within so many blocks.

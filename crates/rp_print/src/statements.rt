@@ -332,18 +332,8 @@ fn write_block(names: &Names, page: &mut Page, depth: usize, stmts: &[Stmt]) -> 
     ensures { OnOk result (page.new
         ≡ step.put_stmts (word_of names.now) (suc depth) (stmt_views.view_stmts stmts.now) page.old) }
 {
-    let inner = deeper(depth)?;
+    let inner = page.deeper(depth)?;
     write_stmts(names, page, inner, stmts)
-}
-
-/// One block further within. More blocks than a number can count are want of memory.
-fn deeper(depth: usize) -> Result<usize, Memory>
-    ensures { IfOk result (λ inner. inner ≡ suc depth) }
-{
-    if depth == usize::MAX {
-        return Err(Memory);
-    }
-    Ok(depth + 1)
 }
 
 /// The line of a simple statement.
@@ -494,7 +484,7 @@ fn write_branch(
     ensures { let b = stmt_views.view_branch branch.now in
         OnOk result (page.new ≡ step.put_branch (word_of names.now) depth first b.0 b.1 page.old) }
 {
-    let inner = deeper(depth)?;
+    let inner = page.deeper(depth)?;
     write_test_head(names, page, depth, branch_keyword(first), &branch.test)?;
     write_stmts(names, page, inner, &branch.body)
 }
@@ -536,7 +526,7 @@ fn write_handler(
     ensures { OnOk result (page.new
         ≡ step.put_except (word_of names.now) depth (stmt_views.view_except handler.now) page.old) }
 {
-    let inner = deeper(depth)?;
+    let inner = page.deeper(depth)?;
     page.indent(depth)?;
     page.mark("except")?;
     write_behind(names, page, " ", &handler.kind)?;

@@ -1,5 +1,5 @@
 -- A decision that is logged, as the program makes it, is the one that is meant.
-use Rattle.std.proofs.Common.{◌≡◌, ◌+◌, ◌≤◌, [], ◌∷◌, ◌++◌, Option, Some, refl, sym, ap, ◌∙◌, unwrap_or}
+use Rattle.std.proofs.Common.{◌≡◌, ◌+◌, ◌≤◌, ℕ, Bool, List, [], ◌∷◌, ◌++◌, Option, Some, refl, sym, ap, ◌∙◌, unwrap_or}
 use Rattle.std.proofs.lemmas.Bool.{le-ltb}
 use Rattle.std.proofs.lemmas.List.{map-append}
 use Rattle.std.specs.Option.{option_map_or}
@@ -13,10 +13,10 @@ use Rattle.rp_decl.specs.View.{declarations_view, name_text}
 use Rattle.rp_interact.specs.Interacting.{Interacting}
 use Rattle.rp_store.specs.Heap.{tag_at}
 use Rattle.rp_trail.specs.Entry.{Entry}
-use Rattle.rp_trail.specs.View.{class_text, entry_view, op_name, op_word, verdict_view}
+use Rattle.rp_trail.specs.View.{class_text, entry_view, is_named, op_name, op_word, told_name, verdict_view}
 use Rattle.rp_trail.specs.declared.entry.Entry.{Entry as Placed}
 use Rattle.rp_trail.specs.declared.entry.Verdict.{Verdict}
-use Rattle.rp_proxy.proofs.Verdicts.{name_same, word_same}
+use Rattle.rp_proxy.proofs.Verdicts.{name_same, told_same, word_same}
 use Rattle.rp_proxy.proofs.Worlds.{after}
 use Rattle.rp_proxy.specs.Decide.{Monitor, class_at, decide_entry, entry_of, go, logged, outcome, refusal, refuses, verdict_of}
 use Rattle.rp_proxy.specs.View.{monitor_of}
@@ -29,18 +29,19 @@ monitor-keeping w i e = ap (λ (j : Interacting). monitor_of (after w w.store.us
 within_limit : (m : Monitor) (e : Entry) → m.store.used + 1 ≤ m.store.limit → decide_entry m e ≡ (outcome e.name e.verdict, logged m e)
 within_limit m e few = rw (le-ltb m.store.limit (m.store.used + 1) few) refl
 
-module _ (w : World) (op : Op) (class : ClassTag) (v : Verdict) (i : Interacting)
+module _ (w : World) (op : Op) (named : Bool) (class : ClassTag) (v : Verdict) (i : Interacting)
+    (told : named ≡ is_named w.names op)
     (keeps : i ≡ record w.running.interaction { kept = i.kept })
     (verdict_is : verdict_view w.decl.permissions v ≡ verdict_of (declarations_view w.names w.decl) w.running.interaction.ids (tag_view w.names class) (operation_view w.names op)) where
   abbrev pub placed : Placed
-  placed = record { session = w.running.session; op = op; class = class; verdict = v }
+  placed = record { session = w.running.session; named = named; op = op; class = class; verdict = v }
 
   abbrev pub entry : Entry
   entry = record {
     session = w.running.session;
     op = op_word op;
     class = class_text w.names class;
-    name = name_text w.names (op_name op);
+    name = told_name w.names named (op_name op);
     verdict = verdict_view w.decl.permissions v;
   }
 
@@ -49,7 +50,7 @@ module _ (w : World) (op : Op) (class : ClassTag) (v : Verdict) (i : Interacting
     session = w.running.session;
     op = word_same w.names op j;
     class = class_text w.names class;
-    name = name_same w.names op j;
+    name = (told_same w.names op named told ∙ name_same w.names op) j;
     verdict = verdict_is j;
   }
 
@@ -68,7 +69,9 @@ module _ (w : World) (op : Op) (class : ClassTag) (v : Verdict) (i : Interacting
       → decide_entry (monitor_of w) (entry_of (monitor_of w) (operation_view w.names op) (class_at w.store.heap at))
       ≡ (option_map_or refuses r go, monitor_of (after w (w.store.used + 1) (w.trail ++ placed ∷ []) i))
   decided at r few found refused =
+      let refused_told : r ≡ refusal (told_name w.names named (op_name op)) (verdict_view w.decl.permissions v) =
+      refused ∙ ap (λ (name : List ℕ). refusal name (verdict_view w.decl.permissions v)) (sym (told_same w.names op named told)) in
       ap (λ (t : Option ClassTag). decide_entry (monitor_of w) (entry_of (monitor_of w) (operation_view w.names op) (unwrap_or t Other))) found
       ∙ ap (decide_entry (monitor_of w)) (sym entry_is)
       ∙ within_limit (monitor_of w) entry few
-      ∙ (λ j. (option_map_or refuses (sym refused j) go, logged_is j))
+      ∙ (λ j. (option_map_or refuses (sym refused_told j) go, logged_is j))

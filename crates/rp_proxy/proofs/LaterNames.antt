@@ -1,22 +1,24 @@
 -- A world whose names have grown answers as its declarations say, and its decisions read the same but for the names.
-use Rattle.std.proofs.Common.{◌≡◌, ℕ, true, false, List, get_or, option_and_then, slice_get, refl, sym, ap, subst, ◌∙◌}
+use Rattle.std.proofs.Common.{◌≡◌, ℕ, Bool, true, false, List, get_or, option_and_then, slice_get, refl, sym, ap, subst, ◌∙◌}
 use Rattle.std.specs.List.{All}
 use Rattle.rp_base.specs.Names.{HoldsEachOnce, first_words}
 use Rattle.rp_base.specs.declared.value.ClassTag.{ClassTag}
 use Rattle.rp_base.specs.declared.value.ClassTag.TheVariants as tag
-use Rattle.rp_checker.specs.Answers.{AnswersAs as AnswerRows, IsReadWith}
+use Rattle.rp_base.specs.declared.value.Name.{Name}
+use Rattle.rp_checker.specs.Answers.{AnswersAs as AnswerRows, HasWords, IsReadWith}
 use Rattle.rp_checker.specs.Tables.{Tables}
 use Rattle.rp_decl.proofs.Growth.{GrowsTo-refl, GrowsTo-trans}
 use Rattle.rp_decl.specs.Consistency.{IsConsistent}
 use Rattle.rp_decl.specs.InOrder.{AreInOrder}
 use Rattle.rp_decl.specs.Places.{GrowsTo}
+use Rattle.rp_decl.specs.Records.{Declarations}
 use Rattle.rp_decl.specs.View.{Placed, perm_text}
 use Rattle.rp_interact.specs.Answers.{AnswersAs as AnswerGrants}
 use Rattle.rp_interact.specs.Interacting.{Interacting}
 use Rattle.rp_interact.specs.Why as text
 use Rattle.rp_store.specs.Heap.{Owned}
 use Rattle.rp_store.specs.Object.{Content, list, tuple, dict, instance, class, function, method, scope}
-use Rattle.rp_trail.specs.View.{IsClassHeld, IsEntryHeld, class_text, entry_view, op_name, op_word, trail_view, verdict_view}
+use Rattle.rp_trail.specs.View.{IsClassHeld, IsEntryHeld, IsToldHeld, class_text, entry_view, op_name, op_word, told_name, trail_view, verdict_view}
 use Rattle.rp_trail.specs.declared.entry.Entry.{Entry as PlacedEntry}
 use Rattle.rp_proxy.proofs.LaterRecords.{declarations-later, held-later, map-agree, name-held-later, name-later}
 use Rattle.rp_proxy.specs.Faithful.{IsFaithful, MayGrowTo}
@@ -33,12 +35,15 @@ MayGrowTo-trans names later last first second = record { grown = GrowsTo-trans n
 
 -- the declarations stay those that were read
 pub read-later : (names later : List (List ℕ)) (d : Placed) → MayGrowTo names later → IsReadWith names d → IsReadWith later d
-read-later names later d grows read = record {
-  first = GrowsTo-trans first_words names later read.first grows.grown;
-  distinct = grows.distinct;
-  held = held-later names later grows.grown d read.held;
-  consistent = subst IsConsistent (sym (declarations-later names later grows.grown d read.held)) read.consistent;
-}
+read-later names later d grows read =
+    let same = declarations-later names later grows.grown d read.held in
+    record {
+      first = GrowsTo-trans first_words names later read.first grows.grown;
+      distinct = grows.distinct;
+      held = held-later names later grows.grown d read.held;
+      consistent = subst IsConsistent (sym same) read.consistent;
+      words = subst (λ (ds : Declarations). All HasWords ds.classes) (sym same) read.words;
+    }
 
 -- checkers that answer with all names that declarations are read with do so with all that come later
 pub rows-later : (names : List (List ℕ)) (d : Placed) (t : Tables) → IsReadWith names d → ((any : List (List ℕ)) → IsReadWith any d → AnswerRows any d t)
@@ -89,15 +94,23 @@ module _ (names later : List (List ℕ)) (grown : GrowsTo names later) where
   class-same (tag.Declared name) held = name-later names later grown name held
   class-same tag.Other held = refl
 
+  told-held : (named : Bool) (name : Name) → IsToldHeld names named name → IsToldHeld later named name
+  told-held true name held = name-held-later names later grown name held
+  told-held false name held = tt
+
+  told-same : (named : Bool) (name : Name) → IsToldHeld names named name → told_name later named name ≡ told_name names named name
+  told-same true name held = name-later names later grown name held
+  told-same false name held = refl
+
   entry-held : (permissions : List (List ℕ)) (e : PlacedEntry) → IsEntryHeld names permissions e → IsEntryHeld later permissions e
-  entry-held permissions e held = record { name = name-held-later names later grown (op_name e.op) held.name; class = class-held e.class held.class; permission = held.permission }
+  entry-held permissions e held = record { name = told-held e.named (op_name e.op) held.name; class = class-held e.class held.class; permission = held.permission }
 
   pub entries-later : (permissions : List (List ℕ)) (trail : List PlacedEntry) → All (IsEntryHeld names permissions) trail → All (IsEntryHeld later permissions) trail
   entries-later permissions trail held k e inside = entry-held permissions (get_or trail k e) (held k e inside)
 
   entry-same : (permissions : List (List ℕ)) (e : PlacedEntry) → IsEntryHeld names permissions e → entry_view later permissions e ≡ entry_view names permissions e
   entry-same permissions e held =
-      let name = name-later names later grown (op_name e.op) held.name in
+      let name = told-same e.named (op_name e.op) held.name in
       let class = class-same e.class held.class in
       λ k. record { session = e.session; op = op_word e.op; class = class k; name = name k; verdict = verdict_view permissions e.verdict }
 

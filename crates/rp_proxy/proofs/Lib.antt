@@ -4,5 +4,6 @@ pub mod LaterRecords
 pub mod LaterStores
 pub mod Named
 pub mod Pushed
+pub mod RowWords
 pub mod Verdicts
 pub mod Worlds

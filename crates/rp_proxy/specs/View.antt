@@ -14,7 +14,7 @@ use Rattle.rp_decl.specs.declared.row.Row.TheVariants.{Public, Needs, Default, F
 use Rattle.rp_decl.specs.declared.records.Perm.{Perm}
 use Rattle.rp_interact.specs.Interacting.{Interacting, has_in}
 use Rattle.rp_interact.specs.Kept.{IsKeptOrNot, is_perm, used}
-use Rattle.rp_trail.specs.View.{trail_view}
+use Rattle.rp_trail.specs.View.{is_named, trail_view}
 use Rattle.rp_trail.specs.declared.entry.Entry.{Entry}
 use Rattle.rp_trail.specs.declared.entry.Verdict.{Verdict}
 use Rattle.rp_trail.specs.declared.entry.Verdict.TheVariants as verdict
@@ -66,6 +66,7 @@ verdict_in i Forbidden = verdict.Forbidden
 abbrev pub entry_in : World → Oid → Op → Entry
 entry_in w at op = record {
   session = w.running.session;
+  named = is_named w.names op;
   op = op;
   class = class_at w.store.heap at;
   verdict = verdict_in w.running.interaction (row_in w.checkers (class_at w.store.heap at) op);

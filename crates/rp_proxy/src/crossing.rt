@@ -2,12 +2,12 @@
 
 ghost use Rattle.std.specs.Prelude.{◌≡◌, IfOk, IsTrue, Some, chars, true};
 ghost use Rattle.rp_base.specs.declared.value.Oid.{Oid};
-ghost use Rattle.rp_checker.specs.Answers.{IsOpHeld, operation_view};
+ghost use Rattle.rp_checker.specs.Answers.{operation_view};
 ghost use Rattle.rp_checker.specs.Tables.{row_in};
 ghost use Rattle.rp_decl.specs.View.{name_text};
 ghost use Rattle.rp_interact.specs.Interacting.{has_in};
 ghost use Rattle.rp_store.specs.Heap.{IsHeld, tag_at};
-ghost use Rattle.rp_trail.specs.View.{IsVerdictDeclared, op_name, verdict_view};
+ghost use Rattle.rp_trail.specs.View.{IsVerdictDeclared, is_named, op_name, verdict_view};
 ghost use Rattle.rp_proxy.specs.Decide.{class_at, decide, refusal};
 ghost use Rattle.rp_proxy.specs.Faithful.{IsFaithful};
 ghost use Rattle.rp_proxy.specs.Held.{IsValueHeld};
@@ -15,7 +15,7 @@ ghost use Rattle.rp_proxy.specs.View.{GivesDecision, IsAsked, IsAskedBy, IsDecid
 ghost use Rattle.rp_proxy.specs.View.{entry_in, monitor_of, verdict_in};
 
 use crate::world::World;
-use rp_base::{ClassTag, Kind, Memory, Names, Oid, Op, OpEnd, Raised, Text, Value};
+use rp_base::{ClassTag, Kind, Memory, Names, Oid, Op, OpEnd, Raised, Text, Value, word_of};
 use rp_decl::{Decl, Perm, Row};
 use rp_interact::Interaction;
 use rp_store::{Store, StoreFault, bytes_of};
@@ -24,7 +24,8 @@ use std::alloc::Global;
 
 /// Decides on an operation on a value (zope.security: checkers). Only one on a proxy is decided: for one cell, an entry
 /// of the session that runs is added to the trail, with the verdict of the object's class on its principals. An
-/// operation on a rock or a plain reference takes no memory, and nothing is changed.
+/// operation on a rock or a plain reference takes no memory, and nothing is changed. A name that is none of the
+/// program's has the empty word, for which no class has a row.
 ///
 /// # Errors
 /// - `StopCells` exactly where the cell is over the limit; then nothing is changed.
@@ -35,7 +36,6 @@ use std::alloc::Global;
 pub fn cross(alloc: Global, world: &mut World, value: &Value, op: Op) -> Result<(), OpEnd>
     requires faithful { IsFaithful world.old }
     requires held { IsValueHeld world.old.store.heap value.now }
-    requires named { IsOpHeld world.old.names op }
     ensures faithful { IsFaithful world.new }
     ensures decided { GivesDecision result (monitor_of world.old) (monitor_of world.new)
         (decide value.now (operation_view world.old.names op) (monitor_of world.old)) }
@@ -59,7 +59,6 @@ pub fn cross(alloc: Global, world: &mut World, value: &Value, op: Op) -> Result<
 fn cross_proxy(alloc: Global, world: &mut World, at: Oid, op: Op) -> Result<(), OpEnd>
     requires faithful { IsFaithful world.old }
     requires held { IsHeld world.old.store.heap at }
-    requires named { IsOpHeld world.old.names op }
     ensures faithful { IsFaithful world.new }
     ensures decided { GivesDecision result (monitor_of world.old) (monitor_of world.new)
         (decide (Value.Prox at) (operation_view world.old.names op) (monitor_of world.old)) }
@@ -107,7 +106,6 @@ fn is_last_yes(interaction: &Interaction, permission: Perm) -> bool
 #[inline(always)]
 fn pass(world: &mut World, at: Oid, op: Op, class: ClassTag, row: Row) -> Result<(), OpEnd>
     requires faithful { IsFaithful world.old }
-    requires named { IsOpHeld world.old.names op }
     requires found { tag_at world.old.store.heap at ≡ Some class }
     requires row_is { row ≡ row_in world.old.checkers class op }
     requires verdict { Verdict.Allowed row ≡ verdict_in world.old.running.interaction row }
@@ -123,6 +121,7 @@ fn pass(world: &mut World, at: Oid, op: Op, class: ClassTag, row: Row) -> Result
 {
     let entry = Entry {
         session: world.running.session,
+        named: is_named(op, &world.names),
         op,
         class,
         verdict: Verdict::Allowed(row),
@@ -145,7 +144,6 @@ fn ask(
     row: Row,
 ) -> Result<(), OpEnd>
     requires faithful { IsFaithful world.old }
-    requires named { IsOpHeld world.old.names op }
     requires found { tag_at world.old.store.heap at ≡ Some class }
     requires row_is { row ≡ row_in world.old.checkers class op }
     ensures faithful { IsFaithful world.new }
@@ -171,6 +169,7 @@ fn ask(
     )?;
     let entry = Entry {
         session: world.running.session,
+        named: is_named(op, &world.names),
         op,
         class,
         verdict,
@@ -217,8 +216,7 @@ fn refusal_of(
     decl: &Decl,
     names: &Names,
 ) -> Result<Option<Raised>, Memory>
-    requires declared { IsVerdictDeclared decl.now.permissions verdict }
-    requires named { IsOpHeld names.now op }
+    requires { IsVerdictDeclared decl.now.permissions verdict }
     ensures refusal { IfOk result (λ r. r ≡ refusal (name_text names.now (op_name op))
         (verdict_view decl.now.permissions verdict)) }
     ensures same { store.new ≡ store.old }
@@ -249,13 +247,23 @@ fn held_text(alloc: Global, store: &mut Store, word: &str) -> Result<Text, Memor
     Ok(text)
 }
 
-/// The name that is read or set.
+/// The word of the name that is read or set; empty where it is no name of the program.
 fn name_text(op: Op, names: &Names) -> &str
-    requires { IsOpHeld names.now op }
     ensures { chars result.now ≡ name_text names.now (op_name op) }
 {
     match op {
-        Op::Get(name) => names.text(name),
-        Op::Set(name) => names.text(name),
+        Op::Get(name) => word_of(names, name),
+        Op::Set(name) => word_of(names, name),
+    }
+}
+
+/// Whether the name that is read or set is one of the program's.
+#[inline(always)]
+fn is_named(op: Op, names: &Names) -> bool
+    ensures { result ≡ is_named names.now op }
+{
+    match op {
+        Op::Get(name) => name.0 < names.len(),
+        Op::Set(name) => name.0 < names.len(),
     }
 }

@@ -79,7 +79,7 @@ impl World {
         ensures store { IfOk result (λ w. w.store ≡ record { heap = []; used = 0; limit = limit }) }
         ensures trail { IfOk result (λ w. w.trail ≡ []) }
     {
-        // Names tell with each word that they hold it once.
+        // Names tell with each word that all are identifiers, each held once.
         let _first = names.text(word::GET_ITEM);
         let checkers = Checkers::new(alloc, &decl)?;
         Ok(World {

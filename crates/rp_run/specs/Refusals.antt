@@ -83,8 +83,7 @@ RefusesUndeclared permissions id a = (is_among permissions id ≡ false) × (a.t
 
 -- ---- the world
 
--- why there is no world, in words; of a machine that made all the steps that it counts, and of want of memory, there
--- are none
+-- why there is no world, in words; of a machine whose count is full, and of want of memory, there are none
 abbrev pub cause_words : NoWorld → List ℕ
 cause_words (cause.Raised r) = world_cause (module_ended (raised r))
 cause_words cause.StopSteps = world_cause (module_ended no_step)

@@ -146,7 +146,7 @@ fn read_ready(alloc: Global, command: &Run, files: SureFiles) -> Result<Ready, S
 }
 
 /// Runs the script of the large input, tells behind these lines what it took and what it came to, and hands out its
-/// session. It is refused only for want of memory, for which a machine is taken that made all the steps that it counts.
+/// session. It is refused only for want of memory, for which a machine is taken whose count is full.
 fn play_large(
     alloc: Global,
     command: &Run,

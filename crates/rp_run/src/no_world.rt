@@ -29,7 +29,7 @@ pub fn answer_module(alloc: Global, refusal: &Refusal, names: &Names) -> Result<
 }
 
 /// The answer to declarations that have no world. It is refused only for want of memory, which may be the cause; a
-/// machine that made all the steps that it counts is taken for that.
+/// machine whose count is full is taken for that.
 pub fn answer_cause(alloc: Global, cause: &NoWorld) -> Result<Answer, Memory>
     ensures said { IfOk result (λ a. (a.text ≡ line_of (cause_words cause.now)) × (a.status.0 ≡ 3)) }
     ensures counted { OnOk result (cause.now ≢ NoWorld.TooLong) }
@@ -45,8 +45,8 @@ pub fn answer_cause(alloc: Global, cause: &NoWorld) -> Result<Answer, Memory>
     })
 }
 
-/// Appends why there is no world. It is refused only for want of memory, which may be the cause; a machine that made
-/// all the steps that it counts is taken for that.
+/// Appends why there is no world. It is refused only for want of memory, which may be the cause; a machine whose count
+/// is full is taken for that.
 fn add_cause(text: &mut Printed, cause: &NoWorld) -> Result<(), Memory>
     ensures added { OnOk result (text.new ≡ text.old ++ cause_words cause.now) }
     ensures counted { OnOk result (cause.now ≢ NoWorld.TooLong) }
@@ -59,8 +59,7 @@ fn add_cause(text: &mut Printed, cause: &NoWorld) -> Result<(), Memory>
     }
 }
 
-/// Appends the words for why there is no world; a machine that made all the steps that it counts, and want of memory,
-/// have none.
+/// Appends the words for why there is no world; a machine whose count is full, and want of memory, have none.
 fn add_words(text: &mut Printed, cause: &NoWorld) -> Result<(), Memory>
     ensures { OnOk result (text.new ≡ text.old ++ cause_words cause.now) }
 {

@@ -58,7 +58,7 @@ pub fn answer_run<F: Files>(
 }
 
 /// What scripts come to that stand under no offence, and their sessions. It is refused only for want of memory, for
-/// which a machine is taken that made all the steps that it counts.
+/// which a machine is taken whose count is full.
 fn run_scripts(
     alloc: Global,
     command: &Run,
@@ -85,7 +85,7 @@ fn run_scripts(
 /// The sessions of the scripts of a run, as they ended.
 ///
 /// # Errors
-/// `TooLong` where a machine made all the steps that it counts, `Memory` where a growth was refused.
+/// `TooLong` where a count of a machine is full, `Memory` where a growth was refused.
 pub fn play_ready(alloc: Global, command: &Run, ready: Ready) -> Result<Sessions, NoOutcome>
     requires ready { IsSetUp (run_view command.now) ready }
     requires few { length command.now.pairs.items ≤ 16 }

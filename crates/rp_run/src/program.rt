@@ -60,7 +60,7 @@ impl Ran {
 /// | 5 | a session was stopped, as no step or no cell was left |
 /// | 6 | a read failed; nothing is written |
 /// | 7 | a write failed; a front of the text is written |
-/// | 8 | want of memory, or a machine made all the steps that it counts; nothing is written |
+/// | 8 | want of memory, or a count of a machine is full; nothing is written |
 /// | 9 | a file has more than 4,194,304 bytes |
 pub fn run<F: Files, K: Sink>(alloc: Global, words: &[String], files: &mut F, out: &mut K) -> Ran
     requires unread { F.begun files.old ≡ 0 }

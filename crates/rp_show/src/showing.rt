@@ -55,9 +55,8 @@ impl Page {
 /// # Errors
 /// `Raised` with a `RecursionError` and the text `depth` at a container within 200 others that is none of them,
 /// `StopSteps` where no step is left, `StopCells` at the first character that does not fit; what was charged before
-/// stays charged. `Memory` where a growth was refused, where there is none for the text of the exception, or where the
-/// count of a text's owners is full. Whatever is answered, the limit of the cells stays, and no used cell is given
-/// back.
+/// stays charged. `Memory` where a growth was refused. Whatever is answered, the limit of the cells stays, and no used
+/// cell is given back.
 pub fn show(
     alloc: Global,
     store: &mut Store,

@@ -1,13 +1,14 @@
 //! The assert statement (Python Language Reference, The assert statement).
 #![tactic(auto, using(rp_store::proofs::CallerLemmas::goes_on))]
 
-ghost use Rattle.std.specs.Prelude.{OnOk};
+ghost use Rattle.std.specs.Prelude.{◌+◌, ◌≤◌, OnOk};
 ghost use Rattle.rp_meaning.specs.Statements as stmt_forms;
 ghost use Rattle.rp_proxy.specs.declared.world.World.{World as TheWorld};
 ghost use Rattle.rp_store.specs.Kept.{IsFit};
 ghost use Rattle.rp_store.specs.Shape.{KeepsShape};
 ghost use Rattle.rp_engine.specs.Does as does;
 ghost use Rattle.rp_engine.specs.Law.{Executes};
+ghost use Rattle.rp_engine.specs.Loads as loads;
 ghost use Rattle.rp_engine.specs.Ready.{IsReady};
 ghost use Rattle.rp_engine.specs.Rest.{asserted, failed_with};
 
@@ -36,6 +37,9 @@ pub fn asserted<'u>(
         machine.old world.old machine.new world.new) }
     ensures ready { IsReady machine.new.units.now machine.new.frame machine.new.values world.new }
     ensures shape { KeepsShape world.old.store.heap world.new.store.heap }
+    ensures fewer { world.new.running.meter.left ≤ world.old.running.meter.left }
+    ensures less { OnOk result (loads.Lowers (2 + loads.maybe message.now)
+        machine.old world.old machine.new world.new) }
 {
     match truth(machine.alloc, world, &value) {
         Ok(true) => machine.go(Control::Next),
@@ -51,6 +55,7 @@ fn fail<'u>(machine: &mut Machine<'u>, message: &'u Option<Expr>) -> Result<(), 
         → Executes (stmt_forms.failed (does.maybe message.now)) machine.old w machine.new w) }
     ensures ready { (w : TheWorld) → IsReady machine.old.units.now machine.old.frame machine.old.values w
         → IsReady machine.new.units.now machine.new.frame machine.new.values w }
+    ensures less { OnOk result (loads.IsUnder (2 + loads.maybe message.now) machine.old machine.new) }
 {
     match message {
         None => machine.cut_off(raised(machine.alloc, Kind::AssertionError, "")),
@@ -73,6 +78,8 @@ pub fn fail_with<'u>(
     ensures law { OnOk result (Executes (failed_with message) machine.old world.old machine.new world.new) }
     ensures ready { IsReady machine.new.units.now machine.new.frame machine.new.values world.new }
     ensures shape { KeepsShape world.old.store.heap world.new.store.heap }
+    ensures fewer { world.new.running.meter.left ≤ world.old.running.meter.left }
+    ensures less { OnOk result (loads.Lowers 0 machine.old world.old machine.new world.new) }
 {
     match text_of(machine.alloc, world, &message) {
         Ok(text) => machine.cut_off(OpEnd::Raised(Raised {

@@ -1,7 +1,7 @@
 //! Augmented assignment (Python Language Reference, Augmented assignment statements).
 #![tactic(auto, using(rp_store::proofs::CallerLemmas::goes_on))]
 
-ghost use Rattle.std.specs.Prelude.{OnOk};
+ghost use Rattle.std.specs.Prelude.{◌≤◌, OnOk};
 ghost use Rattle.rp_meaning.specs.Frame.{bind_name};
 ghost use Rattle.rp_meaning.specs.Statements as stmt_forms;
 ghost use Rattle.rp_store.specs.Kept.{IsFit};
@@ -9,6 +9,7 @@ ghost use Rattle.rp_store.specs.Shape.{KeepsShape};
 ghost use Rattle.rp_engine.specs.AugmentSteps.{name_augmented};
 ghost use Rattle.rp_engine.specs.Does as does;
 ghost use Rattle.rp_engine.specs.Law.{Executes, ResumesStmt};
+ghost use Rattle.rp_engine.specs.Loads as loads;
 ghost use Rattle.rp_engine.specs.Ready.{IsReady};
 
 use crate::augmented_places::{augment_attribute, augment_item};
@@ -36,6 +37,7 @@ pub fn augmented<'u>(
         machine.old world.old machine.new world.new) }
     ensures ready { IsReady machine.new.units.now machine.new.frame machine.new.values world.new }
     ensures shape { KeepsShape world.old.store.heap world.new.store.heap }
+    ensures fewer { world.new.running.meter.left ≤ world.old.running.meter.left }
 {
     match place {
         Place::Name(name) => augment_name(machine, world, name.name, op, value),
@@ -60,6 +62,7 @@ fn augment_name<'u>(
         machine.old world.old machine.new world.new) }
     ensures ready { IsReady machine.new.units.now machine.new.frame machine.new.values world.new }
     ensures shape { KeepsShape world.old.store.heap world.new.store.heap }
+    ensures fewer { world.new.running.meter.left ≤ world.old.running.meter.left }
 {
     match machine.read(world, name) {
         Ok(a) => augment_by(machine, world, name, op, a, value),
@@ -83,6 +86,7 @@ fn augment_by<'u>(
         machine.old world.old machine.new world.new) }
     ensures ready { IsReady machine.new.units.now machine.new.frame machine.new.values world.new }
     ensures shape { KeepsShape world.old.store.heap world.new.store.heap }
+    ensures fewer { world.new.running.meter.left ≤ world.old.running.meter.left }
 {
     match machine.leaf(world, value) {
         Ok(Some(b)) => bind_augmented(machine, world, name, op, a, b),
@@ -113,6 +117,8 @@ pub fn after_augment<'u>(
         machine.old world.old machine.new world.new) }
     ensures ready { IsReady machine.new.units.now machine.new.frame machine.new.values world.new }
     ensures shape { KeepsShape world.old.store.heap world.new.store.heap }
+    ensures fewer { world.new.running.meter.left ≤ world.old.running.meter.left }
+    ensures less { OnOk result (loads.Lowers 2 machine.old world.old machine.new world.new) }
 {
     let a = machine.at_hand();
     bind_augmented(machine, world, name, op, a, b)
@@ -134,6 +140,8 @@ fn bind_augmented<'u>(
     ensures law { OnOk result (Executes (name_augmented name op a b) machine.old world.old machine.new world.new) }
     ensures ready { IsReady machine.new.units.now machine.new.frame machine.new.values world.new }
     ensures shape { KeepsShape world.old.store.heap world.new.store.heap }
+    ensures fewer { world.new.running.meter.left ≤ world.old.running.meter.left }
+    ensures less { OnOk result (loads.Lowers 2 machine.old world.old machine.new world.new) }
 {
     match augment(machine.alloc, world, machine.frame.side, op, &a, &b) {
         Ok(value) => bind_next(machine, world, name, value),
@@ -154,6 +162,8 @@ pub fn bind_next<'u>(
     ensures law { OnOk result (Executes (bind_name name value) machine.old world.old machine.new world.new) }
     ensures ready { IsReady machine.new.units.now machine.new.frame machine.new.values world.new }
     ensures shape { KeepsShape world.old.store.heap world.new.store.heap }
+    ensures fewer { world.new.running.meter.left ≤ world.old.running.meter.left }
+    ensures less { OnOk result (loads.Lowers 2 machine.old world.old machine.new world.new) }
 {
     machine.bind(world, name, value);
     machine.go(Control::Next)

@@ -1,7 +1,7 @@
 //! Augmented assignments to attributes and items (Python Language Reference, Augmented assignment statements).
 #![tactic(auto, using(rp_store::proofs::CallerLemmas::goes_on))]
 
-ghost use Rattle.std.specs.Prelude.{◌≡◌, ◌∷◌, [], OnOk};
+ghost use Rattle.std.specs.Prelude.{◌*◌, ◌+◌, ◌∷◌, ◌≡◌, ◌≤◌, [], OnOk};
 ghost use Rattle.rp_base.specs.declared.word.TheConstants.{GET_ITEM};
 ghost use Rattle.rp_meaning.specs.Frame.{Run};
 ghost use Rattle.rp_meaning.specs.State.{State};
@@ -13,6 +13,7 @@ ghost use Rattle.rp_store.specs.Shape.{KeepsShape};
 ghost use Rattle.rp_engine.specs.AugmentSteps.{attribute_augmented, attribute_from, item_augmented, item_from, key_from};
 ghost use Rattle.rp_engine.specs.Does as does;
 ghost use Rattle.rp_engine.specs.Law.{Executes, ResumesStmt, frame_in, rest_of};
+ghost use Rattle.rp_engine.specs.Loads as loads;
 ghost use Rattle.rp_engine.specs.Ready.{IsReady};
 ghost use Rattle.rp_engine.specs.Rest.{did, rest};
 ghost use Rattle.rp_engine.specs.SpecialSteps.{from_got, special_called};
@@ -42,6 +43,7 @@ pub(crate) fn augment_attribute<'u>(
         machine.old world.old machine.new world.new) }
     ensures ready { IsReady machine.new.units.now machine.new.frame machine.new.values world.new }
     ensures shape { KeepsShape world.old.store.heap world.new.store.heap }
+    ensures fewer { world.new.running.meter.left ≤ world.old.running.meter.left }
 {
     match machine.leaf(world, object) {
         Ok(Some(o)) => augment_read(machine, world, o, name, op, value),
@@ -72,6 +74,8 @@ pub fn augment_read<'u>(
         machine.old world.old machine.new world.new) }
     ensures ready { IsReady machine.new.units.now machine.new.frame machine.new.values world.new }
     ensures shape { KeepsShape world.old.store.heap world.new.store.heap }
+    ensures fewer { world.new.running.meter.left ≤ world.old.running.meter.left }
+    ensures less { OnOk result (loads.Lowers (2 + loads.inside value.now) machine.old world.old machine.new world.new) }
 {
     match get_attribute(machine.alloc, world, machine.frame.side, &o, name) {
         Ok(a) => attribute_by(machine, world, o, name, op, a, value),
@@ -97,6 +101,8 @@ fn attribute_by<'u>(
         machine.old world.old machine.new world.new) }
     ensures ready { IsReady machine.new.units.now machine.new.frame machine.new.values world.new }
     ensures shape { KeepsShape world.old.store.heap world.new.store.heap }
+    ensures fewer { world.new.running.meter.left ≤ world.old.running.meter.left }
+    ensures less { OnOk result (loads.Lowers (2 + loads.inside value.now) machine.old world.old machine.new world.new) }
 {
     match machine.leaf(world, value) {
         Ok(Some(b)) => set_augmented(machine, world, o, name, op, a, b),
@@ -128,6 +134,8 @@ pub fn after_attribute<'u>(
         machine.old world.old machine.new world.new) }
     ensures ready { IsReady machine.new.units.now machine.new.frame machine.new.values world.new }
     ensures shape { KeepsShape world.old.store.heap world.new.store.heap }
+    ensures fewer { world.new.running.meter.left ≤ world.old.running.meter.left }
+    ensures less { OnOk result (loads.Lowers 2 machine.old world.old machine.new world.new) }
 {
     let a = machine.at_hand();
     let o = machine.at_hand();
@@ -153,6 +161,8 @@ fn set_augmented<'u>(
         machine.old world.old machine.new world.new) }
     ensures ready { IsReady machine.new.units.now machine.new.frame machine.new.values world.new }
     ensures shape { KeepsShape world.old.store.heap world.new.store.heap }
+    ensures fewer { world.new.running.meter.left ≤ world.old.running.meter.left }
+    ensures less { OnOk result (loads.Lowers 2 machine.old world.old machine.new world.new) }
 {
     match augment(machine.alloc, world, machine.frame.side, op, &a, &b) {
         Ok(value) => set_attribute(machine, world, o, name, value),
@@ -175,6 +185,7 @@ pub(crate) fn augment_item<'u>(
         (does.expr value.now)) machine.old world.old machine.new world.new) }
     ensures ready { IsReady machine.new.units.now machine.new.frame machine.new.values world.new }
     ensures shape { KeepsShape world.old.store.heap world.new.store.heap }
+    ensures fewer { world.new.running.meter.left ≤ world.old.running.meter.left }
 {
     match machine.leaf(world, object) {
         Ok(Some(o)) => augment_key(machine, world, o, key, op, value),
@@ -205,6 +216,9 @@ pub fn augment_key<'u>(
         machine.old world.old machine.new world.new) }
     ensures ready { IsReady machine.new.units.now machine.new.frame machine.new.values world.new }
     ensures shape { KeepsShape world.old.store.heap world.new.store.heap }
+    ensures fewer { world.new.running.meter.left ≤ world.old.running.meter.left }
+    ensures less { OnOk result (loads.Lowers (2 + 2 * loads.called + loads.inside key.now + loads.inside value.now)
+        machine.old world.old machine.new world.new) }
 {
     match machine.leaf(world, key) {
         Ok(Some(i)) => augment_read_item(machine, world, o, i, op, value),
@@ -235,6 +249,9 @@ pub fn after_augmented_key<'u>(
         machine.old world.old machine.new world.new) }
     ensures ready { IsReady machine.new.units.now machine.new.frame machine.new.values world.new }
     ensures shape { KeepsShape world.old.store.heap world.new.store.heap }
+    ensures fewer { world.new.running.meter.left ≤ world.old.running.meter.left }
+    ensures less { OnOk result (loads.Lowers (2 + 2 * loads.called + loads.inside value.now)
+        machine.old world.old machine.new world.new) }
 {
     let o = machine.at_hand();
     augment_read_item(machine, world, o, i, op, value)
@@ -257,6 +274,9 @@ fn augment_read_item<'u>(
         machine.old world.old machine.new world.new) }
     ensures ready { IsReady machine.new.units.now machine.new.frame machine.new.values world.new }
     ensures shape { KeepsShape world.old.store.heap world.new.store.heap }
+    ensures fewer { world.new.running.meter.left ≤ world.old.running.meter.left }
+    ensures less { OnOk result (loads.Lowers (2 + 2 * loads.called + loads.inside value.now)
+        machine.old world.old machine.new world.new) }
 {
     match get_item(machine.alloc, world, machine.frame.side, &o, &i) {
         Ok(Some(a)) => item_by(machine, world, o, i, op, a, value),
@@ -285,6 +305,7 @@ fn augment_by_method<'u>(
     ensures ready { (w : TheWorld) → IsReady machine.old.units.now machine.old.frame machine.old.values w
         → IsFit w.store.heap machine.old.frame.side o → IsFit w.store.heap machine.old.frame.side i
         → IsReady machine.new.units.now machine.new.frame machine.new.values w }
+    ensures less { OnOk result (loads.IsUnder (1 + 2 * loads.called + loads.inside value.now) machine.old machine.new) }
 {
     machine.hold_copy(&o)?;
     machine.hold_copy(&i)?;
@@ -314,6 +335,9 @@ pub fn after_got<'u>(
         machine.old world.old machine.new world.new) }
     ensures ready { IsReady machine.new.units.now machine.new.frame machine.new.values world.new }
     ensures shape { KeepsShape world.old.store.heap world.new.store.heap }
+    ensures fewer { world.new.running.meter.left ≤ world.old.running.meter.left }
+    ensures less { OnOk result (loads.Lowers (2 + loads.called + loads.inside value.now)
+        machine.old world.old machine.new world.new) }
 {
     let i = machine.at_hand();
     let o = machine.at_hand();
@@ -339,6 +363,9 @@ fn item_by<'u>(
         machine.old world.old machine.new world.new) }
     ensures ready { IsReady machine.new.units.now machine.new.frame machine.new.values world.new }
     ensures shape { KeepsShape world.old.store.heap world.new.store.heap }
+    ensures fewer { world.new.running.meter.left ≤ world.old.running.meter.left }
+    ensures less { OnOk result (loads.Lowers (2 + loads.called + loads.inside value.now)
+        machine.old world.old machine.new world.new) }
 {
     match machine.leaf(world, value) {
         Ok(Some(b)) => set_augmented_item(machine, world, o, i, op, a, b),
@@ -369,6 +396,8 @@ pub fn after_augmented_item<'u>(
     ensures law { OnOk result (ResumesStmt (StmtTask.AugmentedItem op) b machine.old world.old machine.new world.new) }
     ensures ready { IsReady machine.new.units.now machine.new.frame machine.new.values world.new }
     ensures shape { KeepsShape world.old.store.heap world.new.store.heap }
+    ensures fewer { world.new.running.meter.left ≤ world.old.running.meter.left }
+    ensures less { OnOk result (loads.Lowers (1 + loads.called) machine.old world.old machine.new world.new) }
 {
     let a = machine.at_hand();
     let i = machine.at_hand();
@@ -395,6 +424,8 @@ fn set_augmented_item<'u>(
     ensures law { OnOk result (Executes (item_augmented o i op a b) machine.old world.old machine.new world.new) }
     ensures ready { IsReady machine.new.units.now machine.new.frame machine.new.values world.new }
     ensures shape { KeepsShape world.old.store.heap world.new.store.heap }
+    ensures fewer { world.new.running.meter.left ≤ world.old.running.meter.left }
+    ensures less { OnOk result (loads.Lowers (1 + loads.called) machine.old world.old machine.new world.new) }
 {
     match augment(machine.alloc, world, machine.frame.side, op, &a, &b) {
         Ok(value) => set_item(machine, world, o, i, value),

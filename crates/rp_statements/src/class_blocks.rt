@@ -1,7 +1,7 @@
 //! The class statement (Python Language Reference, Class definitions).
 #![tactic(auto, using(rp_store::proofs::CallerLemmas::goes_on))]
 
-ghost use Rattle.std.specs.Prelude.{◌≡◌, ◌≤◌, ◌+◌, ◌∷◌, [], All, IfOk, IfSome, List, MatchOption, OnOk, drop};
+ghost use Rattle.std.specs.Prelude.{◌+◌, ◌∷◌, ◌≡◌, ◌≤◌, [], All, IfOk, IfSome, List, MatchOption, OnOk, drop};
 ghost use Rattle.std.specs.Prelude.{length, reverse, take};
 ghost use Rattle.rp_access.specs.Comes.{Comes, IsEnd};
 ghost use Rattle.rp_access.specs.Moment.{state_of};
@@ -19,6 +19,7 @@ ghost use Rattle.rp_engine.specs.ClassSteps.{class_behind, class_bound, class_wi
 ghost use Rattle.rp_engine.specs.ClassSteps.{name_of};
 ghost use Rattle.rp_engine.specs.Does as does;
 ghost use Rattle.rp_engine.specs.Law.{Executes, ResumesStmt, frame_in, rest_of};
+ghost use Rattle.rp_engine.specs.Loads as loads;
 ghost use Rattle.rp_engine.specs.Ready.{IsReady};
 ghost use Rattle.rp_engine.specs.Rest.{did, rest};
 ghost use Rattle.rp_statements.specs.Acts.{part_of};
@@ -46,7 +47,7 @@ pub(crate) enum Act<'u> {
 /// A `class` statement: the statements of its block in order, then the class, which is bound to the name.
 ///
 /// # Errors
-/// `Memory` where a growth was refused, and at more than 2^32 - 1 statements, as all that follow.
+/// `Memory` where a growth was refused, and `TooLong` at more than 2^32 - 1 statements, as all that follow.
 #[inline(never)]
 pub fn class<'u>(
     machine: &mut Machine<'u>,
@@ -59,6 +60,7 @@ pub fn class<'u>(
         machine.old world.old machine.new world.new) }
     ensures ready { IsReady machine.new.units.now machine.new.frame machine.new.values world.new }
     ensures shape { KeepsShape world.old.store.heap world.new.store.heap }
+    ensures fewer { world.new.running.meter.left ≤ world.old.running.meter.left }
 {
     class_part(machine, world, name, body, 0, 0)
 }
@@ -84,6 +86,8 @@ pub fn class_part<'u>(
         (frame_in base machine.old) (state_of world.old)))) }
     ensures ready { IsReady machine.new.units.now machine.new.frame machine.new.values world.new }
     ensures shape { KeepsShape world.old.store.heap world.new.store.heap }
+    ensures fewer { world.new.running.meter.left ≤ world.old.running.meter.left }
+    ensures less { OnOk result (loads.Lowers 2 machine.old world.old machine.new world.new) }
 {
     match part_at(body, done) {
         None => make_class(machine, world, name, body, count),
@@ -112,6 +116,8 @@ fn class_step<'u>(
         (frame_in base machine.old) (state_of world.old)))) }
     ensures ready { IsReady machine.new.units.now machine.new.frame machine.new.values world.new }
     ensures shape { KeepsShape world.old.store.heap world.new.store.heap }
+    ensures fewer { world.new.running.meter.left ≤ world.old.running.meter.left }
+    ensures less { OnOk result (loads.Lowers 0 machine.old world.old machine.new world.new) }
 {
     match take_step(world) {
         Ok(()) => class_next(machine, world, name, body, done, count, part),
@@ -127,6 +133,7 @@ fn cut_class<'u>(machine: &mut Machine<'u>, count: u32, end: OpEnd) -> Result<()
         ≡ rest machine.old.tasks (did (frame_in base machine.old) (drop count machine.old.values) o)) }
     ensures ready { (w : TheWorld) → IsReady machine.old.units.now machine.old.frame machine.old.values w
         → IsReady machine.new.units.now machine.new.frame machine.new.values w }
+    ensures less { OnOk result (loads.IsUnder 0 machine.old machine.new) }
 {
     machine.forget(count as usize);
     machine.cut_off(end)
@@ -152,6 +159,7 @@ fn class_next<'u>(
         (frame_in base machine.old) (state_of world.old)))) }
     ensures ready { IsReady machine.new.units.now machine.new.frame machine.new.values world.new }
     ensures shape { KeepsShape world.old.store.heap world.new.store.heap }
+    ensures fewer { world.new.running.meter.left ≤ world.old.running.meter.left }
 {
     let done = one_more(done)?;
     class_form(machine, world, name, body, done, count, &part.form)
@@ -180,6 +188,7 @@ fn class_form<'u>(
         (held_methods before machine.old.values) (frame_in base machine.old) (state_of world.old)))) }
     ensures ready { IsReady machine.new.units.now machine.new.frame machine.new.values world.new }
     ensures shape { KeepsShape world.old.store.heap world.new.store.heap }
+    ensures fewer { world.new.running.meter.left ≤ world.old.running.meter.left }
 {
     match act_of(form) {
         Act::Method(block, method, params) => {
@@ -221,6 +230,8 @@ pub fn after_method<'u>(
         machine.old world.old machine.new world.new) }
     ensures ready { IsReady machine.new.units.now machine.new.frame machine.new.values world.new }
     ensures shape { KeepsShape world.old.store.heap world.new.store.heap }
+    ensures fewer { world.new.running.meter.left ≤ world.old.running.meter.left }
+    ensures less { OnOk result (loads.Lowers 2 machine.old world.old machine.new world.new) }
 {
     machine.hold(value)?;
     let count = one_more(count)?;
@@ -243,6 +254,8 @@ fn make_class<'u>(
         (frame_in base machine.old) (state_of world.old)))) }
     ensures ready { IsReady machine.new.units.now machine.new.frame machine.new.values world.new }
     ensures shape { KeepsShape world.old.store.heap world.new.store.heap }
+    ensures fewer { world.new.running.meter.left ≤ world.old.running.meter.left }
+    ensures less { OnOk result (loads.Lowers 2 machine.old world.old machine.new world.new) }
 {
     let methods = methods_of(machine.alloc, world.store.seed(), &machine.values, body)?;
     machine.forget(count as usize);
@@ -261,6 +274,8 @@ fn bind_class<'u>(
     ensures law { OnOk result (Executes (class_bound name methods) machine.old world.old machine.new world.new) }
     ensures ready { IsReady machine.new.units.now machine.new.frame machine.new.values world.new }
     ensures shape { KeepsShape world.old.store.heap world.new.store.heap }
+    ensures fewer { world.new.running.meter.left ≤ world.old.running.meter.left }
+    ensures less { OnOk result (loads.Lowers 2 machine.old world.old machine.new world.new) }
 {
     let functions = functions_in(machine.alloc, &world.store, methods);
     let declared = declared_class(world, machine.frame.side, machine.frame.block, name);
@@ -409,6 +424,7 @@ fn class_with(
     ensures faithful { IsFaithful world.new }
     ensures shape { KeepsShape world.old.store.heap world.new.store.heap }
     ensures fit { IfOk result (λ at. IsFit world.new.store.heap side (Value.Ref at)) }
+    ensures fewer { world.new.running.meter.left ≤ world.old.running.meter.left }
 {
     match declared {
         Some(at) => renew_class(world, at, methods),

@@ -1,7 +1,7 @@
 //! The try statement (Python Language Reference, The try statement).
 #![tactic(auto, using(rp_store::proofs::CallerLemmas::goes_on))]
 
-ghost use Rattle.std.specs.Prelude.{◌≡◌, ◌∷◌, None, OnOk, Some};
+ghost use Rattle.std.specs.Prelude.{◌+◌, ◌∷◌, ◌≡◌, ◌≤◌, None, OnOk, Some};
 ghost use Rattle.rp_access.specs.Moment.{state_of};
 ghost use Rattle.rp_frame.specs.Top.{below, top};
 ghost use Rattle.rp_meaning.specs.Exceptions as exception;
@@ -15,6 +15,7 @@ ghost use Rattle.rp_store.specs.Shape.{KeepsShape};
 ghost use Rattle.rp_engine.specs.Does as does;
 ghost use Rattle.rp_engine.specs.Handling as steps;
 ghost use Rattle.rp_engine.specs.Law.{Executes, Moves, ResumesStmt, frame_in, rest_of};
+ghost use Rattle.rp_engine.specs.Loads as loads;
 ghost use Rattle.rp_engine.specs.Ready.{IsReady};
 ghost use Rattle.rp_engine.specs.Rest.{begun, did, rest};
 
@@ -102,6 +103,9 @@ pub fn handle<'u>(
         machine.old world.old machine.new world.new) }
     ensures ready { IsReady machine.new.units.now machine.new.frame machine.new.values world.new }
     ensures shape { KeepsShape world.old.store.heap world.new.store.heap }
+    ensures fewer { world.new.running.meter.left ≤ world.old.running.meter.left }
+    ensures less { OnOk result (loads.Lowers (4 + loads.excepts handlers.now)
+        machine.old world.old machine.new world.new) }
 {
     match handlers {
         [] => machine.cut_off(OpEnd::Raised(raised)),
@@ -124,6 +128,9 @@ fn try_handler<'u>(
         machine.old world.old machine.new world.new) }
     ensures ready { IsReady machine.new.units.now machine.new.frame machine.new.values world.new }
     ensures shape { KeepsShape world.old.store.heap world.new.store.heap }
+    ensures fewer { world.new.running.meter.left ≤ world.old.running.meter.left }
+    ensures less { OnOk result (loads.Lowers (loads.excepts (handler.now ∷ behind.now))
+        machine.old world.old machine.new world.new) }
 {
     match &handler.kind {
         None => begin_handler(machine, world, handler, raised),
@@ -153,6 +160,9 @@ pub fn after_handler<'u>(
         machine.old world.old machine.new world.new) }
     ensures ready { IsReady machine.new.units.now machine.new.frame machine.new.values world.new }
     ensures shape { KeepsShape world.old.store.heap world.new.store.heap }
+    ensures fewer { world.new.running.meter.left ≤ world.old.running.meter.left }
+    ensures less { OnOk result (loads.Lowers (4 + loads.excepts behind.now)
+        machine.old world.old machine.new world.new) }
 {
     match thrown_of(machine.at_hand()) {
         Some(raised) => if_takes(machine, world, handler, behind, raised, value),
@@ -177,6 +187,9 @@ fn if_takes<'u>(
         machine.old world.old machine.new world.new) }
     ensures ready { IsReady machine.new.units.now machine.new.frame machine.new.values world.new }
     ensures shape { KeepsShape world.old.store.heap world.new.store.heap }
+    ensures fewer { world.new.running.meter.left ≤ world.old.running.meter.left }
+    ensures less { OnOk result (loads.Lowers (4 + loads.excepts behind.now)
+        machine.old world.old machine.new world.new) }
 {
     match matches(machine.alloc, world, &value, &raised) {
         Ok(true) => begin_handler(machine, world, handler, raised),
@@ -199,6 +212,8 @@ fn begin_handler<'u>(
         machine.old world.old machine.new world.new) }
     ensures ready { IsReady machine.new.units.now machine.new.frame machine.new.values world.new }
     ensures shape { KeepsShape world.old.store.heap world.new.store.heap }
+    ensures fewer { world.new.running.meter.left ≤ world.old.running.meter.left }
+    ensures less { OnOk result (loads.Lowers 4 machine.old world.old machine.new world.new) }
 {
     match &handler.name {
         None => enter_handler(machine, None, &handler.body, raised),
@@ -220,6 +235,8 @@ fn bind_raised<'u>(
         machine.old world.old machine.new world.new) }
     ensures ready { IsReady machine.new.units.now machine.new.frame machine.new.values world.new }
     ensures shape { KeepsShape world.old.store.heap world.new.store.heap }
+    ensures fewer { world.new.running.meter.left ≤ world.old.running.meter.left }
+    ensures less { OnOk result (loads.Lowers 4 machine.old world.old machine.new world.new) }
 {
     let copy = copy_of(&raised)?;
     let value = thrown(copy);
@@ -238,6 +255,7 @@ fn enter_handler<'u>(
     ensures law { OnOk result (Moves (steps.in_handler name (does.block body.now) raised) machine.old machine.new) }
     ensures ready { (w : TheWorld) → IsReady machine.old.units.now machine.old.frame machine.old.values w
         → IsReady machine.new.units.now machine.new.frame machine.new.values w }
+    ensures less { OnOk result (loads.IsUnder 4 machine.old machine.new) }
 {
     let before = change_handling(machine, Some(raised));
     machine.wait_with(
@@ -273,6 +291,8 @@ pub fn behind_handler<'u>(
         (steps.without_as name (frame_in base machine.old) (state_of world.old))) }
     ensures ready { IsReady machine.new.units.now machine.new.frame machine.new.values world.new }
     ensures shape { KeepsShape world.old.store.heap world.new.store.heap }
+    ensures fewer { world.new.running.meter.left ≤ world.old.running.meter.left }
+    ensures less { loads.Lowers (loads.next control.entry) machine.old world.old machine.new world.new }
 {
     unbind_as(machine, world, name);
     end_handler(machine, control)
@@ -286,6 +306,7 @@ pub(crate) fn unbind_as<'u>(machine: &Machine<'u>, world: &mut World, name: Opti
         ≡ steps.without_as name (frame_in base machine.now) (state_of world.old) }
     ensures faithful { IsFaithful world.new }
     ensures shape { KeepsShape world.old.store.heap world.new.store.heap }
+    ensures fewer { world.new.running.meter.left ≤ world.old.running.meter.left }
 {
     if let Some(name) = name {
         machine.clear(world, name);
@@ -300,6 +321,7 @@ fn end_handler<'u>(machine: &mut Machine<'u>, control: Control<'u>) -> Result<()
         (below machine.old.values) machine.old.end s) }
     ensures ready { (w : TheWorld) → IsReady machine.old.units.now machine.old.frame machine.old.values w
         → IsReady machine.new.units.now machine.new.frame machine.new.values w }
+    ensures less { loads.load machine.new ≡ loads.next control.entry + loads.tasks machine.old.tasks }
 {
     handle_before(machine);
     machine.go(control)
@@ -333,6 +355,7 @@ pub fn finish<'u>(
     ensures ready { (w : TheWorld) → IsReady machine.old.units.now machine.old.frame machine.old.values w
         → IsFit w.store.heap machine.old.frame.side value
         → IsReady machine.new.units.now machine.new.frame machine.new.values w }
+    ensures less { OnOk result (loads.IsUnder 4 machine.old machine.new) }
 {
     machine.wait_with(
         value,
@@ -352,6 +375,7 @@ pub fn leave<'u>(machine: &mut Machine<'u>, leaving: Leaving) -> Result<(), Halt
         (steps.left leaving (top machine.old.values) (frame_in base machine.old) s))) }
     ensures ready { (w : TheWorld) → IsReady machine.old.units.now machine.old.frame machine.old.values w
         → IsReady machine.new.units.now machine.new.frame machine.new.values w }
+    ensures less { OnOk result (loads.IsUnder 2 machine.old machine.new) }
 {
     let value = machine.at_hand();
     leave_with(machine, leaving, value)
@@ -363,6 +387,7 @@ fn leave_with<'u>(machine: &mut Machine<'u>, leaving: Leaving, value: Value) -> 
     ensures ready { (w : TheWorld) → IsReady machine.old.units.now machine.old.frame machine.old.values w
         → IsFit w.store.heap machine.old.frame.side value
         → IsReady machine.new.units.now machine.new.frame machine.new.values w }
+    ensures less { OnOk result (loads.IsUnder 2 machine.old machine.new) }
 {
     match leaving {
         Leaving::Next => machine.go(Control::Next),
@@ -379,6 +404,7 @@ fn raise_once_more<'u>(machine: &mut Machine<'u>, handled: Option<Raised>) -> Re
     ensures law { OnOk result (Moves (steps.raise_handled handled) machine.old machine.new) }
     ensures ready { (w : TheWorld) → IsReady machine.old.units.now machine.old.frame machine.old.values w
         → IsReady machine.new.units.now machine.new.frame machine.new.values w }
+    ensures less { OnOk result (loads.IsUnder 0 machine.old machine.new) }
 {
     match handled {
         Some(exception) => machine.cut_off(OpEnd::Raised(exception)),

@@ -1,12 +1,13 @@
 //! The raise statement (Python Language Reference, The raise statement).
 #![tactic(auto, using(rp_store::proofs::CallerLemmas::goes_on))]
 
-ghost use Rattle.std.specs.Prelude.{OnOk, Some};
+ghost use Rattle.std.specs.Prelude.{◌≤◌, OnOk, Some};
 ghost use Rattle.rp_meaning.specs.Statements as stmt_forms;
 ghost use Rattle.rp_proxy.specs.declared.world.World.{World as TheWorld};
 ghost use Rattle.rp_store.specs.Shape.{KeepsShape};
 ghost use Rattle.rp_engine.specs.Does as does;
 ghost use Rattle.rp_engine.specs.Law.{Executes};
+ghost use Rattle.rp_engine.specs.Loads as loads;
 ghost use Rattle.rp_engine.specs.RaisingSteps.{raised_value};
 ghost use Rattle.rp_engine.specs.Ready.{IsReady};
 
@@ -33,6 +34,7 @@ pub fn raise<'u>(
         (Executes (stmt_forms.raise (does.maybe value.now)) machine.old world.old machine.new world.new) }
     ensures ready { IsReady machine.new.units.now machine.new.frame machine.new.values world.new }
     ensures shape { KeepsShape world.old.store.heap world.new.store.heap }
+    ensures fewer { world.new.running.meter.left ≤ world.old.running.meter.left }
 {
     match value {
         Some(x) => raise_of(machine, world, x),
@@ -48,6 +50,7 @@ fn raise_of<'u>(machine: &mut Machine<'u>, world: &mut World, x: &'u Expr) -> Re
         (Executes (stmt_forms.raise (Some (does.expr x.now))) machine.old world.old machine.new world.new) }
     ensures ready { IsReady machine.new.units.now machine.new.frame machine.new.values world.new }
     ensures shape { KeepsShape world.old.store.heap world.new.store.heap }
+    ensures fewer { world.new.running.meter.left ≤ world.old.running.meter.left }
 {
     match machine.leaf(world, x) {
         Ok(Some(value)) => raised(machine, value),
@@ -65,6 +68,7 @@ pub fn raised<'u>(machine: &mut Machine<'u>, value: Value) -> Result<(), Halt>
     ensures law { OnOk result ((w : TheWorld) → Executes (raised_value value) machine.old w machine.new w) }
     ensures ready { (w : TheWorld) → IsReady machine.old.units.now machine.old.frame machine.old.values w
         → IsReady machine.new.units.now machine.new.frame machine.new.values w }
+    ensures less { OnOk result (loads.IsUnder 0 machine.old machine.new) }
 {
     machine.cut_off(raise_value(machine.alloc, value))
 }

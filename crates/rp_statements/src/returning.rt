@@ -1,7 +1,7 @@
 //! `return` (Python Language Reference, The return statement).
 #![tactic(auto, using(rp_store::proofs::CallerLemmas::goes_on, rp_engine::proofs::AtHand::at_hand))]
 
-ghost use Rattle.std.specs.Prelude.{◌≡◌, OnOk, drop};
+ghost use Rattle.std.specs.Prelude.{◌+◌, ◌≡◌, ◌≤◌, OnOk, drop};
 ghost use Rattle.rp_access.specs.Moment.{state_of};
 ghost use Rattle.rp_frame.specs.Top.{below, top};
 ghost use Rattle.rp_meaning.specs.Frame.{Run};
@@ -14,6 +14,7 @@ ghost use Rattle.rp_store.specs.Shape.{KeepsShape};
 ghost use Rattle.rp_engine.specs.Does as does;
 ghost use Rattle.rp_engine.specs.Handling as steps;
 ghost use Rattle.rp_engine.specs.Law.{Executes, frame_in, rest_of};
+ghost use Rattle.rp_engine.specs.Loads as loads;
 ghost use Rattle.rp_engine.specs.Ready.{IsReady};
 ghost use Rattle.rp_engine.specs.Rest.{after, after_flow, did, rest};
 
@@ -40,6 +41,7 @@ pub fn give_back<'u>(
         machine.old world.old machine.new world.new) }
     ensures ready { IsReady machine.new.units.now machine.new.frame machine.new.values world.new }
     ensures shape { KeepsShape world.old.store.heap world.new.store.heap }
+    ensures fewer { world.new.running.meter.left ≤ world.old.running.meter.left }
 {
     match value {
         None => returns(machine, Value::Rock(Rock::Nil)),
@@ -55,6 +57,7 @@ fn give_value<'u>(machine: &mut Machine<'u>, world: &mut World, value: &'u Expr)
         machine.old world.old machine.new world.new) }
     ensures ready { IsReady machine.new.units.now machine.new.frame machine.new.values world.new }
     ensures shape { KeepsShape world.old.store.heap world.new.store.heap }
+    ensures fewer { world.new.running.meter.left ≤ world.old.running.meter.left }
 {
     match machine.leaf(world, value) {
         Ok(Some(v)) => returns(machine, v),
@@ -74,6 +77,7 @@ pub fn returns<'u>(machine: &mut Machine<'u>, value: Value) -> Result<(), Halt>
     ensures ready { (w : TheWorld) → IsReady machine.old.units.now machine.old.frame machine.old.values w
         → IsFit w.store.heap machine.old.frame.side value
         → IsReady machine.new.units.now machine.new.frame machine.new.values w }
+    ensures less { OnOk result (loads.load machine.new ≡ 2 + loads.tasks machine.old.tasks) }
 {
     machine.values.push(value)?;
     machine.control = Control::Returned;
@@ -88,6 +92,7 @@ fn returns_less<'u>(machine: &mut Machine<'u>, count: usize, value: Value) -> Re
     ensures ready { (w : TheWorld) → IsReady machine.old.units.now machine.old.frame machine.old.values w
         → IsFit w.store.heap machine.old.frame.side value
         → IsReady machine.new.units.now machine.new.frame machine.new.values w }
+    ensures less { OnOk result (loads.IsUnder 2 machine.old machine.new) }
 {
     machine.forget(count);
     returns(machine, value)
@@ -109,6 +114,8 @@ pub fn with_return<'u>(
         (gives (returned (top machine.old.values)) (state_of world.old))))) }
     ensures ready { IsReady machine.new.units.now machine.new.frame machine.new.values world.new }
     ensures shape { KeepsShape world.old.store.heap world.new.store.heap }
+    ensures fewer { world.new.running.meter.left ≤ world.old.running.meter.left }
+    ensures less { OnOk result (loads.Lowers (2 + loads.held task.entry) machine.old world.old machine.new world.new) }
 {
     let value = machine.at_hand();
     match task {
@@ -133,6 +140,9 @@ fn flow_return<'u>(
         (gives (returned value) (state_of world.old)))) }
     ensures ready { IsReady machine.new.units.now machine.new.frame machine.new.values world.new }
     ensures shape { KeepsShape world.old.store.heap world.new.store.heap }
+    ensures fewer { world.new.running.meter.left ≤ world.old.running.meter.left }
+    ensures less { OnOk result (loads.Lowers (2 + loads.flow_task task.entry)
+        machine.old world.old machine.new world.new) }
 {
     match task {
         FlowTask::While(_, _, _) => returns(machine, value),
@@ -168,6 +178,8 @@ fn return_handled<'u>(
         (steps.without_as name (frame_in base machine.old) (state_of world.old))))) }
     ensures ready { IsReady machine.new.units.now machine.new.frame machine.new.values world.new }
     ensures shape { KeepsShape world.old.store.heap world.new.store.heap }
+    ensures fewer { world.new.running.meter.left ≤ world.old.running.meter.left }
+    ensures less { OnOk result (loads.Lowers 2 machine.old world.old machine.new world.new) }
 {
     unbind_as(machine, world, name);
     handle_before(machine);

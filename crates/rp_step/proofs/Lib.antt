@@ -6,5 +6,6 @@ pub mod InnerTurns
 pub mod Instancing
 pub mod Loops
 pub mod Others
+pub mod RunWeights
 pub mod Runs
 pub mod SpecialCalls

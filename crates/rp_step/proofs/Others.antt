@@ -1,6 +1,6 @@
 -- What is left where a control, or a task, is none of some.
 use Rattle.std.proofs.Common.{◌≡◌, ◌≢◌, refl}
-use Rattle.std.specs.Prelude.{false, true}
+use Rattle.std.specs.Prelude.{true}
 use Rattle.std.proofs.lemmas.Bool.{false≢true}
 use Rattle.rp_frame.specs.declared.control.Control.{Control}
 use Rattle.rp_frame.specs.declared.control.Control.TheVariants as control

@@ -35,3 +35,19 @@ at_end control.Continued = true
 at_end control.CutOff = true
 at_end control.Returned = true
 at_end _ = false
+
+-- it stands at another end than a value or a statement that was done
+abbrev pub ends_otherwise : Control → Bool
+ends_otherwise control.NoValue = true
+ends_otherwise control.Broke = true
+ends_otherwise control.Continued = true
+ends_otherwise control.CutOff = true
+ends_otherwise control.Returned = true
+ends_otherwise _ = false
+
+-- it asks for a call, or for the turns of a comprehension
+abbrev pub is_asking : Control → Bool
+is_asking (control.Call n m) = true
+is_asking (control.Special name n) = true
+is_asking (control.Comprehension block first behind made spot) = true
+is_asking _ = false

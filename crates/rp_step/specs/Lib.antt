@@ -1,4 +1,5 @@
 pub mod Callables
 pub mod Left
+pub mod RunLoads
 pub mod Running
 pub mod TaskGroups

@@ -35,7 +35,7 @@ pub(crate) enum Called {
 /// Language Reference, Calls).
 ///
 /// # Errors
-/// `Memory` where the count of a text's owners is full.
+/// `Memory` where a growth was refused.
 pub(crate) fn called_at(store: &Store, at: Oid) -> Result<Called, Memory>
     requires { IsSound store.now.heap (Value.Ref at) }
     ensures { IfOk result (IsCalledAt store.now.heap at) }

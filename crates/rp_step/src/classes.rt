@@ -1,17 +1,19 @@
 //! Calls of classes.
 #![tactic(auto, using(rp_store::proofs::CallerLemmas::goes_on))]
 
-ghost use Rattle.std.specs.Prelude.{◌≡◌, None, OnOk, Some, drop, suc};
+ghost use Rattle.std.specs.Prelude.{◌≡◌, ◌+◌, ◌<◌, ◌≤◌, None, OnOk, Some, drop, suc};
 ghost use Rattle.rp_access.specs.Moment.{state_of};
 ghost use Rattle.rp_meaning.specs.Frame.{Run};
 ghost use Rattle.rp_engine.specs.DefinitionSteps.{got_by};
 ghost use Rattle.rp_engine.specs.HandSteps.{size_of};
 ghost use Rattle.rp_engine.specs.Law.{frame_in};
+ghost use Rattle.rp_engine.specs.Loads as loads;
 ghost use Rattle.rp_engine.specs.Rest.{gave, rest};
 ghost use Rattle.rp_store.specs.Heap.{Names, method_at};
 ghost use Rattle.rp_store.specs.Kept.{IsSound};
 ghost use Rattle.rp_store.specs.Parts.{IsClass, IsFunction};
 ghost use Rattle.rp_store.specs.Shape.{KeepsShape};
+ghost use Rattle.rp_step.specs.RunLoads.{Lowers, behind, run_load};
 ghost use Rattle.rp_step.specs.Running.{Instances, IsRunnable, unwound, whole_of};
 
 use crate::runner::Runner;
@@ -43,6 +45,8 @@ impl<'u> Runner<'u> {
             self.old world.old self.new world.new) }
         ensures ready { OnOk result (IsRunnable self.new world.new) }
         ensures shape { KeepsShape world.old.store.heap world.new.store.heap }
+        ensures fewer { world.new.running.meter.left ≤ world.old.running.meter.left }
+        ensures less { OnOk result (Lowers loads.called self.old world.old self.new world.new) }
     {
         match world.store.method(class, INIT) {
             Some(function) => self.initialise(world, hand, owner, class, function, lent),
@@ -68,6 +72,8 @@ impl<'u> Runner<'u> {
         ensures law { OnOk result (Instances hand owner class None lent self.old world.old self.new world.new) }
         ensures ready { OnOk result (IsRunnable self.new world.new) }
         ensures shape { KeepsShape world.old.store.heap world.new.store.heap }
+        ensures fewer { world.new.running.meter.left ≤ world.old.running.meter.left }
+        ensures less { OnOk result (Lowers loads.called self.old world.old self.new world.new) }
     {
         let plain = self.count_plain(hand);
         if plain > 0 {
@@ -94,6 +100,7 @@ impl<'u> Runner<'u> {
             (gave (frame_in base self.old.machine) (drop (suc (size_of hand)) self.old.machine.values)
             (got_by lent (Value.Ref at) (frame_in base self.old.machine) (state_of world.now))))) }
         ensures ready { OnOk result (IsRunnable self.new world.now) }
+        ensures less { OnOk result (run_load self.new < loads.called + behind self.old) }
     {
         let value = given(world, self.machine.frame.side, lent, Value::Ref(at));
         self.machine.forget(hand.size() + 1);
@@ -118,6 +125,8 @@ impl<'u> Runner<'u> {
             self.old world.old self.new world.new) }
         ensures ready { OnOk result (IsRunnable self.new world.new) }
         ensures shape { KeepsShape world.old.store.heap world.new.store.heap }
+        ensures fewer { world.new.running.meter.left ≤ world.old.running.meter.left }
+        ensures less { OnOk result (Lowers loads.called self.old world.old self.new world.new) }
     {
         match new_instance(self.machine.alloc, world, owner, class) {
             Ok(at) => self.call_behind(world, hand, function, at, lent, Some(at)),

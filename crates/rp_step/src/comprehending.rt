@@ -1,7 +1,7 @@
 //! Comprehensions: the code waits for their turns, which are made in a scope of their own.
 #![tactic(auto, using(rp_store::proofs::CallerLemmas::goes_on))]
 
-ghost use Rattle.std.specs.Prelude.{◌≡◌, IfOk, OnOk};
+ghost use Rattle.std.specs.Prelude.{◌≡◌, ◌≤◌, IfOk, OnOk};
 ghost use Rattle.rp_access.specs.Moment.{state_of};
 ghost use Rattle.rp_access.specs.Spots.{cursor_at};
 ghost use Rattle.rp_engine.specs.ComprehensionSteps.{comprehension_in, comprehension_over, does_made, turns_within};
@@ -12,6 +12,7 @@ ghost use Rattle.rp_frame.specs.Top.{below, top};
 ghost use Rattle.rp_meaning.specs.Frame.{Run};
 ghost use Rattle.rp_store.specs.Kept.{IsFit, IsScopeOf};
 ghost use Rattle.rp_store.specs.Shape.{KeepsShape};
+ghost use Rattle.rp_step.specs.RunLoads.{Lowers};
 ghost use Rattle.rp_step.specs.Running.{Gets, IsRunnable, unwound, whole_of};
 
 use crate::callers::suspend;
@@ -43,6 +44,8 @@ impl<'u> Runner<'u> {
             (cursor_at (top self.old.machine.values) spot) (frame_in base self.old.machine) (state_of world.old))))) }
         ensures ready { OnOk result (IsRunnable self.new world.new) }
         ensures shape { KeepsShape world.old.store.heap world.new.store.heap }
+        ensures fewer { world.new.running.meter.left ≤ world.old.running.meter.left }
+        ensures less { OnOk result (Lowers 4 self.old world.old self.new world.new) }
     {
         let value = self.machine.at_hand();
         self.comprehend_over(world, value, parts, spot)
@@ -64,6 +67,8 @@ impl<'u> Runner<'u> {
             self.old world.old self.new world.new) }
         ensures ready { OnOk result (IsRunnable self.new world.new) }
         ensures shape { KeepsShape world.old.store.heap world.new.store.heap }
+        ensures fewer { world.new.running.meter.left ≤ world.old.running.meter.left }
+        ensures less { OnOk result (Lowers 4 self.old world.old self.new world.new) }
     {
         match inner_scope(&self.machine, world, parts.block) {
             Ok(scope) => self.comprehend_in(world, value, parts, spot, scope),
@@ -89,6 +94,8 @@ impl<'u> Runner<'u> {
             self.old world.old self.new world.new) }
         ensures ready { OnOk result (IsRunnable self.new world.new) }
         ensures shape { KeepsShape world.old.store.heap world.new.store.heap }
+        ensures fewer { world.new.running.meter.left ≤ world.old.running.meter.left }
+        ensures less { OnOk result (Lowers 4 self.old world.old self.new world.new) }
     {
         match new_result(
             self.machine.alloc,
@@ -121,6 +128,8 @@ impl<'u> Runner<'u> {
             self.old world.old self.new world.new) }
         ensures ready { OnOk result (IsRunnable self.new world.new) }
         ensures shape { KeepsShape world.old.store.heap world.new.store.heap }
+        ensures fewer { world.new.running.meter.left ≤ world.old.running.meter.left }
+        ensures less { OnOk result (Lowers 4 self.old world.old self.new world.new) }
     {
         let frame = self.inner_frame(parts, scope)?;
         let caller = suspend(&mut self.machine, false, None, Some(at), frame);

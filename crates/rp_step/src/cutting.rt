@@ -1,7 +1,7 @@
 //! Parts of a try statement that take up that a statement was cut off. A stop passes them.
 #![tactic(auto, using(rp_store::proofs::CallerLemmas::goes_on))]
 
-ghost use Rattle.std.specs.Prelude.{◌≡◌, IfSome, None, OnOk, false};
+ghost use Rattle.std.specs.Prelude.{◌+◌, ◌≡◌, ◌≤◌, IfSome, None, OnOk, false};
 ghost use Rattle.rp_access.specs.Moment.{state_of};
 ghost use Rattle.rp_frame.specs.Top.{below, top};
 ghost use Rattle.rp_meaning.specs.Exceptions as exception;
@@ -13,6 +13,7 @@ ghost use Rattle.rp_engine.specs.Does as does;
 ghost use Rattle.rp_engine.specs.Ends.{end_of};
 ghost use Rattle.rp_engine.specs.Handling as steps;
 ghost use Rattle.rp_engine.specs.Law.{Executes, Moves, frame_in, rest_of};
+ghost use Rattle.rp_engine.specs.Loads as loads;
 ghost use Rattle.rp_engine.specs.Ready.{IsReady};
 ghost use Rattle.rp_engine.specs.Rest.{after_flow, did, rest};
 
@@ -37,6 +38,8 @@ pub(crate) fn flow_cut<'u>(
         (outcome.ends (end_of machine.old.end) (state_of world.old)))) }
     ensures ready { IsReady machine.new.units.now machine.new.frame machine.new.values world.new }
     ensures shape { KeepsShape world.old.store.heap world.new.store.heap }
+    ensures fewer { world.new.running.meter.left ≤ world.old.running.meter.left }
+    ensures less { OnOk result (loads.Lowers (loads.flow_task task.entry) machine.old world.old machine.new world.new) }
 {
     match task {
         FlowTask::While(_, _, _) => machine.go(Control::CutOff),
@@ -66,6 +69,9 @@ fn catch<'u>(
         machine.old world.old machine.new world.new) }
     ensures ready { IsReady machine.new.units.now machine.new.frame machine.new.values world.new }
     ensures shape { KeepsShape world.old.store.heap world.new.store.heap }
+    ensures fewer { world.new.running.meter.left ≤ world.old.running.meter.left }
+    ensures less { OnOk result (loads.Lowers (4 + loads.excepts handlers.now)
+        machine.old world.old machine.new world.new) }
 {
     match take_raised(machine) {
         Some(raised) => handle(machine, world, handlers, raised),
@@ -80,6 +86,7 @@ fn cut_finally<'u>(machine: &mut Machine<'u>, last: &'u [Stmt]) -> Result<(), Ha
         machine.old machine.new) }
     ensures ready { (w : TheWorld) → IsReady machine.old.units.now machine.old.frame machine.old.values w
         → IsReady machine.new.units.now machine.new.frame machine.new.values w }
+    ensures less { OnOk result (loads.IsUnder 4 machine.old machine.new) }
 {
     match take_raised(machine) {
         Some(raised) => finish(machine, thrown(raised), Leaving::Raised, last),
@@ -101,6 +108,8 @@ fn cut_handler<'u>(
         (steps.without_as name (frame_in base machine.old))))) }
     ensures ready { IsReady machine.new.units.now machine.new.frame machine.new.values world.new }
     ensures shape { KeepsShape world.old.store.heap world.new.store.heap }
+    ensures fewer { world.new.running.meter.left ≤ world.old.running.meter.left }
+    ensures less { OnOk result (loads.Lowers 0 machine.old world.old machine.new world.new) }
 {
     if is_raised(machine) {
         return behind_handler(machine, world, name, Control::CutOff);

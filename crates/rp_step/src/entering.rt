@@ -1,8 +1,8 @@
 //! Calls of functions: their code is entered.
 #![tactic(auto, using(rp_store::proofs::CallerLemmas::goes_on))]
 
-ghost use Rattle.std.specs.Prelude.{◌≡◌, ◌<◌, ◌≢◌, [], Err, IfOk, IfSome, Ok, Option, OnOk, Some, ◌-◌, drop};
-ghost use Rattle.std.specs.Prelude.{length, reverse, suc, take};
+ghost use Rattle.std.specs.Prelude.{◌≡◌, ◌+◌, ◌-◌, ◌<◌, ◌≤◌, ◌≢◌, [], Err, IfOk, IfSome, Option, OnOk, Some, drop};
+ghost use Rattle.std.specs.Prelude.{length, reverse, suc, take, true};
 ghost use Rattle.std.specs.Str.{chars};
 ghost use Rattle.rp_access.specs.Moment.{state_of};
 ghost use Rattle.rp_frame.specs.Top.{top};
@@ -25,16 +25,18 @@ ghost use Rattle.rp_codes.specs.Codes.{code_view};
 ghost use Rattle.rp_engine.specs.Codes.{code_at};
 ghost use Rattle.rp_engine.specs.DefinitionSteps.{callee_of};
 ghost use Rattle.rp_engine.specs.Law.{frame_in};
+ghost use Rattle.rp_engine.specs.Loads as loads;
 ghost use Rattle.rp_engine.specs.Moment.{frame_of, program_at, run_of};
 ghost use Rattle.rp_engine.specs.Rest.{begun, gave, rest};
 ghost use Rattle.rp_step.specs.Callables.{IsFunctionAt, before_all, given_by};
+ghost use Rattle.rp_step.specs.Left.{is_asking};
+ghost use Rattle.rp_step.specs.RunLoads.{Lowers, behind, code_weight, run_load};
 ghost use Rattle.rp_engine.specs.HandSteps.{held_by, size_of};
 ghost use Rattle.rp_step.specs.Running.{CallsAt, Enters, GoesOn, IsRunnable, Makes, given, resumed, unwound, whole_of};
 ghost use Rattle.rp_step.specs.declared.callers.Caller.{Caller as TheCaller};
 
 use crate::callables::{Callable, Called, called_at};
 use crate::callers::suspend;
-use crate::run::Progress;
 use crate::runner::Runner;
 use rp_base::{Kind, Memory, Oid, OpEnd, Rock, Value};
 use rp_codes::Code;
@@ -52,22 +54,19 @@ impl<'u> Runner<'u> {
     /// # Errors
     /// `Memory` where a growth was refused.
     #[inline(always)]
-    pub fn enter(&mut self, world: &mut World) -> Result<Progress, Halt>
+    pub(crate) fn enter(&mut self, world: &mut World) -> Result<(), Halt>
         requires ready { IsRunnable self.old world.old }
+        requires asks { is_asking self.old.machine.control ≡ true }
         ensures law { OnOk result (GoesOn self.old world.old self.new world.new) }
         ensures ready { OnOk result (IsRunnable self.new world.new) }
         ensures shape { KeepsShape world.old.store.heap world.new.store.heap }
-        ensures more { result ≢ Ok Progress.Ended }
+        ensures fewer { world.new.running.meter.left ≤ world.old.running.meter.left }
+        ensures less { OnOk result (Lowers (loads.next self.old.machine.control)
+            self.old world.old self.new world.new) }
     {
         match self.machine.control {
-            Control::Call(plain, named) => {
-                self.call(world, Hand { plain, named })?;
-                Ok(Progress::More)
-            }
-            Control::Special(name, count) => {
-                self.call_special(world, name, count)?;
-                Ok(Progress::More)
-            }
+            Control::Call(plain, named) => self.call(world, Hand { plain, named }),
+            Control::Special(name, count) => self.call_special(world, name, count),
             Control::Comprehension(block, first, behind, made, spot) => {
                 let parts = ComprehensionParts {
                     block,
@@ -75,10 +74,9 @@ impl<'u> Runner<'u> {
                     behind,
                     made,
                 };
-                self.comprehend(world, parts, spot)?;
-                Ok(Progress::More)
+                self.comprehend(world, parts, spot)
             }
-            _ => Ok(Progress::More),
+            _ => unreachable!(),
         }
     }
 
@@ -89,6 +87,8 @@ impl<'u> Runner<'u> {
         ensures law { OnOk result (Makes hand self.old world.old self.new world.new) }
         ensures ready { OnOk result (IsRunnable self.new world.new) }
         ensures shape { KeepsShape world.old.store.heap world.new.store.heap }
+        ensures fewer { world.new.running.meter.left ≤ world.old.running.meter.left }
+        ensures less { OnOk result (Lowers loads.called self.old world.old self.new world.new) }
     {
         match self.callee(hand) {
             None => self.refuse(hand, Kind::TypeError, "call"),
@@ -121,6 +121,8 @@ impl<'u> Runner<'u> {
         ensures law { OnOk result (CallsAt hand at lent self.old world.old self.new world.new) }
         ensures ready { OnOk result (IsRunnable self.new world.new) }
         ensures shape { KeepsShape world.old.store.heap world.new.store.heap }
+        ensures fewer { world.new.running.meter.left ≤ world.old.running.meter.left }
+        ensures less { OnOk result (Lowers loads.called self.old world.old self.new world.new) }
     {
         match called_at(&world.store, at)? {
             Called::Code(callable) => self.call_function(world, hand, callable, lent, None),
@@ -148,6 +150,8 @@ impl<'u> Runner<'u> {
             self.old world.old self.new world.new) }
         ensures ready { OnOk result (IsRunnable self.new world.new) }
         ensures shape { KeepsShape world.old.store.heap world.new.store.heap }
+        ensures fewer { world.new.running.meter.left ≤ world.old.running.meter.left }
+        ensures less { OnOk result (Lowers loads.called self.old world.old self.new world.new) }
     {
         if self.machine.frame.calls == 0 {
             return self.refuse(hand, Kind::RecursionError, "calls");
@@ -182,6 +186,8 @@ impl<'u> Runner<'u> {
             self.old world.old self.new world.new) }
         ensures ready { OnOk result (IsRunnable self.new world.new) }
         ensures shape { KeepsShape world.old.store.heap world.new.store.heap }
+        ensures fewer { world.new.running.meter.left ≤ world.old.running.meter.left }
+        ensures less { OnOk result (Lowers loads.called self.old world.old self.new world.new) }
     {
         let Callable { entry, receiver } = callable;
         let entered = self.scope_of(world, hand, entry, receiver, code);
@@ -221,6 +227,7 @@ impl<'u> Runner<'u> {
         ensures faithful { (result ≢ Err OpEnd.Memory) → IsFaithful world.new }
         ensures shape { KeepsShape world.old.store.heap world.new.store.heap }
         ensures scope { IfOk result (IsScopeOf world.new.store.heap entry.side) }
+        ensures fewer { world.new.running.meter.left ≤ world.old.running.meter.left }
     {
         if hand.named == 0 {
             return self.plain_scope(world, hand.plain, entry, receiver, code);
@@ -249,6 +256,7 @@ impl<'u> Runner<'u> {
         ensures faithful { (result ≢ Err OpEnd.Memory) → IsFaithful world.new }
         ensures shape { KeepsShape world.old.store.heap world.new.store.heap }
         ensures scope { IfOk result (IsScopeOf world.new.store.heap entry.side) }
+        ensures fewer { world.new.running.meter.left ≤ world.old.running.meter.left }
     {
         let alloc = self.machine.alloc;
         let locals = local_count(self.machine.units.program(entry.side), entry.block);
@@ -289,6 +297,7 @@ impl<'u> Runner<'u> {
         ensures faithful { (result ≢ Err OpEnd.Memory) → IsFaithful world.new }
         ensures shape { KeepsShape world.old.store.heap world.new.store.heap }
         ensures scope { IfOk result (IsScopeOf world.new.store.heap entry.side) }
+        ensures fewer { world.new.running.meter.left ≤ world.old.running.meter.left }
     {
         let alloc = self.machine.alloc;
         let locals = local_count(self.machine.units.program(entry.side), entry.block);
@@ -351,6 +360,7 @@ impl<'u> Runner<'u> {
         ensures ready { (w : TheWorld) → IsRunnable self.old w
             → IsScopeOf w.store.heap frame.side frame.scope
             → IfSome made (λ at. IsSound w.store.heap (Value.Ref at)) → OnOk result (IsRunnable self.new w) }
+        ensures less { OnOk result (run_load self.new ≤ suc (code_weight code.entry) + behind self.old) }
     {
         self.machine.forget(hand.size() + 1);
         let caller = suspend(&mut self.machine, lent, made, None, frame);
@@ -366,6 +376,7 @@ impl<'u> Runner<'u> {
             (gave (frame_in base self.old.machine) (drop (suc (size_of hand)) self.old.machine.values)
             (raises kind (chars text.now) s)))) }
         ensures ready { (w : TheWorld) → IsRunnable self.old w → IsRunnable self.new w }
+        ensures less { OnOk result (run_load self.new < loads.called + behind self.old) }
     {
         let end = raised(self.machine.alloc, kind, text);
         without_hand(&mut self.machine, hand, end)
@@ -375,8 +386,9 @@ impl<'u> Runner<'u> {
 /// What begins the code of a function.
 #[inline(always)]
 fn begin_of<'u>(code: Code<'u>) -> Control<'u>
-    ensures { (base : Run) (c : TheCaller) (f : Frame) (end : Option TheEnd) (s : State)
+    ensures means { (base : Run) (c : TheCaller) (f : Frame) (end : Option TheEnd) (s : State)
         → resumed base c (begun f result [] end s) ≡ given base c (value_of_code (code_view code.entry) f s) }
+    ensures weight { loads.next result ≡ code_weight code.entry }
 {
     match code {
         Code::Def(_, body) => Control::Block(body),

@@ -1,11 +1,12 @@
 //! Expressions: what begins them, and what goes on from the value of a part.
 #![tactic(auto, using(rp_store::proofs::CallerLemmas::goes_on))]
 
-ghost use Rattle.std.specs.Prelude.{◌≡◌, OnOk, true};
+ghost use Rattle.std.specs.Prelude.{◌+◌, ◌≡◌, ◌≤◌, OnOk, true};
 ghost use Rattle.rp_store.specs.Kept.{IsFit};
 ghost use Rattle.rp_store.specs.Shape.{KeepsShape};
 ghost use Rattle.rp_engine.specs.Does as does;
 ghost use Rattle.rp_engine.specs.Law.{Evaluates, Resumes};
+ghost use Rattle.rp_engine.specs.Loads as loads;
 ghost use Rattle.rp_engine.specs.Ready.{IsReady};
 ghost use Rattle.rp_step.specs.TaskGroups.{of_call, of_parts};
 
@@ -26,7 +27,7 @@ use rp_tree::Expr;
 /// Begins an expression, of any form.
 ///
 /// # Errors
-/// `Memory` where a growth was refused, and where it has more parts than are counted, as all that follow.
+/// `Memory` where a growth was refused, and `TooLong` where it has more parts than are counted, as all that follow.
 #[inline(never)]
 #[tactic(auto, using(rp_store::proofs::CallerLemmas::goes_on, rp_engine::proofs::Equations::expr_out))]
 pub(crate) fn expression<'u>(
@@ -38,6 +39,8 @@ pub(crate) fn expression<'u>(
     ensures law { OnOk result (Evaluates (does.expr x.now) machine.old world.old machine.new world.new) }
     ensures ready { IsReady machine.new.units.now machine.new.frame machine.new.values world.new }
     ensures shape { KeepsShape world.old.store.heap world.new.store.heap }
+    ensures fewer { world.new.running.meter.left ≤ world.old.running.meter.left }
+    ensures less { OnOk result (loads.Lowers (loads.inside x.now) machine.old world.old machine.new world.new) }
 {
     form(machine, world, &x.form)
 }
@@ -55,6 +58,9 @@ pub(crate) fn after_expr<'u>(
     ensures law { OnOk result (Resumes task.entry value machine.old world.old machine.new world.new) }
     ensures ready { IsReady machine.new.units.now machine.new.frame machine.new.values world.new }
     ensures shape { KeepsShape world.old.store.heap world.new.store.heap }
+    ensures fewer { world.new.running.meter.left ≤ world.old.running.meter.left }
+    ensures less { OnOk result (loads.Lowers (2 + loads.expr_task task.entry)
+        machine.old world.old machine.new world.new) }
 {
     match task {
         ExprTask::Operands(rest) => operands(machine, world, value, rest),
@@ -94,6 +100,9 @@ fn after_part<'u>(
     ensures law { OnOk result (Resumes task.entry value machine.old world.old machine.new world.new) }
     ensures ready { IsReady machine.new.units.now machine.new.frame machine.new.values world.new }
     ensures shape { KeepsShape world.old.store.heap world.new.store.heap }
+    ensures fewer { world.new.running.meter.left ≤ world.old.running.meter.left }
+    ensures less { OnOk result (loads.Lowers (2 + loads.expr_task task.entry)
+        machine.old world.old machine.new world.new) }
 {
     match task {
         ExprTask::Items(kind, count, rest) => {
@@ -133,6 +142,9 @@ fn after_call<'u>(
     ensures law { OnOk result (Resumes task.entry value machine.old world.old machine.new world.new) }
     ensures ready { IsReady machine.new.units.now machine.new.frame machine.new.values world.new }
     ensures shape { KeepsShape world.old.store.heap world.new.store.heap }
+    ensures fewer { world.new.running.meter.left ≤ world.old.running.meter.left }
+    ensures less { OnOk result (loads.Lowers (2 + loads.expr_task task.entry)
+        machine.old world.old machine.new world.new) }
 {
     match task {
         ExprTask::Argument(count, args, rest) => {

@@ -1,7 +1,7 @@
 //! Forms of expressions.
 #![tactic(auto, using(rp_store::proofs::CallerLemmas::goes_on))]
 
-ghost use Rattle.std.specs.Prelude.{List, OnOk};
+ghost use Rattle.std.specs.Prelude.{◌≤◌, List, OnOk};
 ghost use Rattle.rp_meaning.specs.Expressions as forms;
 ghost use Rattle.rp_meaning.specs.Meaning.{constant};
 ghost use Rattle.rp_store.specs.Heap.{Owned};
@@ -9,6 +9,7 @@ ghost use Rattle.rp_store.specs.Kept.{IsFit};
 ghost use Rattle.rp_store.specs.Shape.{KeepsShape};
 ghost use Rattle.rp_engine.specs.Does as does;
 ghost use Rattle.rp_engine.specs.Law.{Evaluates};
+ghost use Rattle.rp_engine.specs.Loads as loads;
 ghost use Rattle.rp_engine.specs.Ready.{IsReady};
 
 use rp_base::{Name, Rock, Text, Value};
@@ -36,6 +37,8 @@ pub(crate) fn form<'u>(
     ensures law { OnOk result (Evaluates (does.form form.now) machine.old world.old machine.new world.new) }
     ensures ready { IsReady machine.new.units.now machine.new.frame machine.new.values world.new }
     ensures shape { KeepsShape world.old.store.heap world.new.store.heap }
+    ensures fewer { world.new.running.meter.left ≤ world.old.running.meter.left }
+    ensures less { OnOk result (loads.Lowers (loads.form form.now) machine.old world.old machine.new world.new) }
 {
     match form {
         ExprForm::Name(name) => name_form(machine, world, *name),
@@ -74,6 +77,8 @@ fn name_form<'u>(machine: &mut Machine<'u>, world: &mut World, name: Name) -> Re
     ensures law { OnOk result (Evaluates (forms.name name) machine.old world.old machine.new world.new) }
     ensures ready { IsReady machine.new.units.now machine.new.frame machine.new.values world.new }
     ensures shape { KeepsShape world.old.store.heap world.new.store.heap }
+    ensures fewer { world.new.running.meter.left ≤ world.old.running.meter.left }
+    ensures less { OnOk result (loads.Lowers 2 machine.old world.old machine.new world.new) }
 {
     match machine.name(world, name) {
         Ok(value) => machine.back(value),
@@ -92,6 +97,8 @@ fn int_form<'u>(machine: &mut Machine<'u>, world: &mut World, number: &i64) -> R
         machine.old world.old machine.new world.new) }
     ensures ready { IsReady machine.new.units.now machine.new.frame machine.new.values world.new }
     ensures shape { KeepsShape world.old.store.heap world.new.store.heap }
+    ensures fewer { world.new.running.meter.left ≤ world.old.running.meter.left }
+    ensures less { OnOk result (loads.Lowers 2 machine.old world.old machine.new world.new) }
 {
     let value = int_value(number);
     literal_form(machine, world, value)
@@ -112,6 +119,8 @@ fn constant_form<'u>(
         machine.old world.old machine.new world.new) }
     ensures ready { IsReady machine.new.units.now machine.new.frame machine.new.values world.new }
     ensures shape { KeepsShape world.old.store.heap world.new.store.heap }
+    ensures fewer { world.new.running.meter.left ≤ world.old.running.meter.left }
+    ensures less { OnOk result (loads.Lowers 2 machine.old world.old machine.new world.new) }
 {
     match keyword {
         Const::Nil => literal_form(machine, world, Value::Rock(Rock::Nil)),
@@ -122,7 +131,7 @@ fn constant_form<'u>(
 /// A text.
 ///
 /// # Errors
-/// `Memory` where a growth was refused, or the count of the text's owners is full.
+/// `Memory` where a growth was refused.
 #[inline(always)]
 fn text_form<'u>(machine: &mut Machine<'u>, world: &mut World, text: &Text) -> Result<(), Halt>
     requires ready { IsReady machine.old.units.now machine.old.frame machine.old.values world.old }
@@ -130,6 +139,8 @@ fn text_form<'u>(machine: &mut Machine<'u>, world: &mut World, text: &Text) -> R
         machine.old world.old machine.new world.new) }
     ensures ready { IsReady machine.new.units.now machine.new.frame machine.new.values world.new }
     ensures shape { KeepsShape world.old.store.heap world.new.store.heap }
+    ensures fewer { world.new.running.meter.left ≤ world.old.running.meter.left }
+    ensures less { OnOk result (loads.Lowers 2 machine.old world.old machine.new world.new) }
 {
     let copy = text.copy()?;
     literal_form(machine, world, Value::Rock(Rock::Text(copy)))
@@ -146,6 +157,8 @@ fn literal_form<'u>(machine: &mut Machine<'u>, world: &mut World, value: Value) 
     ensures law { OnOk result (Evaluates (forms.constant value) machine.old world.old machine.new world.new) }
     ensures ready { IsReady machine.new.units.now machine.new.frame machine.new.values world.new }
     ensures shape { KeepsShape world.old.store.heap world.new.store.heap }
+    ensures fewer { world.new.running.meter.left ≤ world.old.running.meter.left }
+    ensures less { OnOk result (loads.Lowers 2 machine.old world.old machine.new world.new) }
 {
     match literal(world, value) {
         Ok(value) => machine.back(value),

@@ -16,6 +16,5 @@ mod statements;
 mod unwinding;
 
 pub use callers::Caller;
-pub use run::Progress;
-pub use runner::Runner;
+pub use runner::{Progress, Runner};
 pub use unwinding::Left;

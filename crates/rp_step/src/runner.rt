@@ -1,7 +1,8 @@
 //! Runs of code: a machine, and the code that waits for the ends of calls that it made.
 #![tactic(auto, using(rp_store::proofs::CallerLemmas::goes_on))]
 
-ghost use Rattle.std.specs.Prelude.{◌≡◌, ◌∷◌, ◌++◌, [], IfOk, MatchOption, None, Ok, OnOk, Some, codes, true};
+ghost use Rattle.std.specs.Prelude.{◌≡◌, ◌+◌, ◌<◌, ◌≤◌, ◌∷◌, ◌++◌, [], IfOk, MatchOption, None, Ok, OnOk, Some, codes};
+ghost use Rattle.std.specs.Prelude.{true};
 ghost use Rattle.rp_access.specs.Comes.{Comes};
 ghost use Rattle.rp_access.specs.Moment.{state_of};
 ghost use Rattle.rp_meaning.specs.Frame.{Run};
@@ -13,15 +14,17 @@ ghost use Rattle.rp_store.specs.Shape.{KeepsShape};
 ghost use Rattle.rp_engine.specs.Does as does;
 ghost use Rattle.rp_engine.specs.Ends.{end_of};
 ghost use Rattle.rp_engine.specs.Law.{frame_in, rest_of};
+ghost use Rattle.rp_engine.specs.Loads as loads;
 ghost use Rattle.rp_step.specs.Left.{at_end, flows};
 ghost use Rattle.rp_engine.specs.Moment.{frame_of, run_of};
 ghost use Rattle.rp_engine.specs.Rest.{gave, rest};
 ghost use Rattle.rp_step.specs.Callables.{is_nil};
 ghost use Rattle.rp_base.specs.declared.kind.Kind.TheVariants.{TypeError};
+ghost use Rattle.rp_step.specs.RunLoads.{Falls, run_load, waits};
 ghost use Rattle.rp_step.specs.Running.{GoesOn, IsRunnable, IsWaiting, given, got, resumed, unwound, whole_of};
 
 use crate::callers::{Caller, take_over};
-use crate::run::{Progress, step};
+use crate::run::{Stepped, step};
 use crate::unwinding::{Left, how_left};
 use rp_base::{Kind, Memory, Oid, OpEnd, Rock, Value};
 use rp_engine::{Halt, Machine};
@@ -30,6 +33,14 @@ use rp_frame::Control;
 use rp_ops::raised;
 use rp_proxy::World;
 use rp_tree::Stmt;
+
+/// Whether a run goes on.
+#[derive(Clone, Copy, Debug, PartialEq, Eq)]
+pub enum Progress {
+    More,
+    /// No task and no code waits for the end at which the machine stands.
+    Ended,
+}
 
 /// A run of code: the machine that runs it, and the code that waits for the ends of calls that it made (Python Language
 /// Reference, Execution model).
@@ -40,15 +51,13 @@ pub struct Runner<'u> {
     pub callers: Vec<Caller<'u>>,
 }
 
-/// More steps than any run takes.
-const STEPS: u64 = u64::MAX;
-
 impl<'u> Runner<'u> {
     /// A step of the machine, or the begin or the end of a call or of the turns of a comprehension. What it leaves to
-    /// be done is what was to be done.
+    /// be done is what was to be done. Where the run goes on, a step of the session was taken, or less is left that
+    /// takes none.
     ///
     /// # Errors
-    /// As `Machine::step` and `enter`.
+    /// As `run::step` and `enter`.
     #[inline(always)]
     pub fn step(&mut self, world: &mut World) -> Result<Progress, Halt>
         requires ready { IsRunnable self.old world.old }
@@ -58,15 +67,21 @@ impl<'u> Runner<'u> {
         ensures ended { result ≡ Ok Progress.Ended → self.new.machine.tasks ≡ [] }
         ensures none { result ≡ Ok Progress.Ended → self.new.callers.items ≡ [] }
         ensures stands { result ≡ Ok Progress.Ended → at_end self.new.machine.control ≡ true }
+        ensures fewer { world.new.running.meter.left ≤ world.old.running.meter.left }
+        ensures fell { result ≡ Ok Progress.More → Falls self.old world.old self.new world.new }
     {
         match step(&mut self.machine, world)? {
-            Progress::More => Ok(Progress::More),
-            Progress::Call => self.enter(world),
-            Progress::Ended => self.come_back(world),
+            Stepped::More => Ok(Progress::More),
+            Stepped::Call => {
+                self.enter(world)?;
+                Ok(Progress::More)
+            }
+            Stepped::Ended => self.come_back(world),
         }
     }
 
-    /// The machine has come to the end of its code: the code that called it goes on, where there is any.
+    /// The machine has come to the end of its code: the code that called it goes on, where there is any. Where there
+    /// is none, the run has ended.
     ///
     /// # Errors
     /// `Memory` where a growth was refused.
@@ -80,6 +95,7 @@ impl<'u> Runner<'u> {
         ensures ended { result ≡ Ok Progress.Ended → self.new.machine.tasks ≡ [] }
         ensures none { result ≡ Ok Progress.Ended → self.new.callers.items ≡ [] }
         ensures stands { result ≡ Ok Progress.Ended → at_end self.new.machine.control ≡ true }
+        ensures less { result ≡ Ok Progress.More → run_load self.new < run_load self.old }
     {
         match self.next_caller() {
             None => Ok(Progress::Ended),
@@ -110,6 +126,8 @@ impl<'u> Runner<'u> {
             ≡ unwound base self.old.callers.items (rest caller.entry.tasks
             (resumed base caller.entry (rest_of base self.old.machine (state_of world.now))))) }
         ensures ready { OnOk result (IsRunnable self.new world.now) }
+        ensures less { OnOk result (run_load self.new ≤ loads.next self.old.machine.control
+            + (loads.tasks caller.entry.tasks + waits self.old.callers.items)) }
     {
         match self.machine.control {
             Control::Returned => {
@@ -138,6 +156,8 @@ impl<'u> Runner<'u> {
             ≡ unwound base self.old.callers.items (rest caller.entry.tasks
             (given base caller.entry (gives value (state_of world.now))))) }
         ensures ready { OnOk result (IsRunnable self.new world.now) }
+        ensures less { OnOk result (run_load self.new
+            ≤ 2 + (loads.tasks caller.entry.tasks + waits self.old.callers.items)) }
     {
         match caller.filled {
             None => self.give_called(world, caller, value),
@@ -153,6 +173,8 @@ impl<'u> Runner<'u> {
             (gives (Value.Ref at) s)))) }
         ensures ready { (w : TheWorld) → IsRunnable self.old w → IsWaiting w caller.entry
             → caller.entry.filled ≡ Some at → IsRunnable self.new w }
+        ensures less { OnOk result (run_load self.new
+            ≤ 2 + (loads.tasks caller.entry.tasks + waits self.old.callers.items)) }
     {
         take_over(&mut self.machine, caller);
         self.machine.back(Value::Ref(at))
@@ -168,6 +190,8 @@ impl<'u> Runner<'u> {
             ≡ unwound base self.old.callers.items (rest caller.entry.tasks
             (given base caller.entry (gives value (state_of world.now))))) }
         ensures ready { OnOk result (IsRunnable self.new world.now) }
+        ensures less { OnOk result (run_load self.new
+            ≤ 2 + (loads.tasks caller.entry.tasks + waits self.old.callers.items)) }
     {
         match caller.made {
             None => self.give_value(world, caller, value),
@@ -191,6 +215,8 @@ impl<'u> Runner<'u> {
             ≡ unwound base self.old.callers.items (rest caller.entry.tasks
             (given base caller.entry (gives value (state_of world.now))))) }
         ensures ready { OnOk result (IsRunnable self.new world.now) }
+        ensures less { OnOk result (run_load self.new
+            ≤ 2 + (loads.tasks caller.entry.tasks + waits self.old.callers.items)) }
     {
         if is_none(&value) {
             return self.give_value(world, caller, Value::Ref(at));
@@ -207,6 +233,8 @@ impl<'u> Runner<'u> {
             ≡ unwound base self.old.callers.items (rest caller.entry.tasks
             (got base caller.entry value (state_of world.now)))) }
         ensures ready { OnOk result (IsRunnable self.new world.now) }
+        ensures less { OnOk result (run_load self.new
+            ≤ 2 + (loads.tasks caller.entry.tasks + waits self.old.callers.items)) }
     {
         let value = given(world, caller.frame.side, caller.lent, value);
         take_over(&mut self.machine, caller);
@@ -220,6 +248,8 @@ impl<'u> Runner<'u> {
             (gave (frame_of (run_of base caller.entry.units.now) caller.entry.frame) caller.entry.values
             (raises TypeError (codes "init") s)))) }
         ensures ready { (w : TheWorld) → IsRunnable self.old w → IsWaiting w caller.entry → IsRunnable self.new w }
+        ensures less { OnOk result (run_load self.new
+            ≤ loads.tasks caller.entry.tasks + waits self.old.callers.items) }
     {
         take_over(&mut self.machine, caller);
         let end = raised(self.machine.alloc, Kind::TypeError, "init");
@@ -232,6 +262,8 @@ impl<'u> Runner<'u> {
             ≡ unwound base self.old.callers.items (rest caller.entry.tasks
             (given base caller.entry (ends (end_of self.old.machine.end) s)))) }
         ensures ready { (w : TheWorld) → IsRunnable self.old w → IsWaiting w caller.entry → IsRunnable self.new w }
+        ensures less { OnOk result (run_load self.new
+            ≤ loads.tasks caller.entry.tasks + waits self.old.callers.items) }
     {
         take_over(&mut self.machine, caller);
         self.machine.go(Control::NoValue)
@@ -249,7 +281,7 @@ impl<'u> Runner<'u> {
     /// Steps until no task and no code waits.
     ///
     /// # Errors
-    /// As `step`, and `TooLong` where it makes more steps than are counted.
+    /// As `step`.
     fn run(&mut self, world: &mut World) -> Result<(), Halt>
         requires ready { IsRunnable self.old world.old }
         ensures law { OnOk result (GoesOn self.old world.old self.new world.new) }
@@ -258,14 +290,39 @@ impl<'u> Runner<'u> {
         ensures ended { OnOk result (self.new.machine.tasks ≡ []) }
         ensures none { OnOk result (self.new.callers.items ≡ []) }
         ensures stands { OnOk result (at_end self.new.machine.control ≡ true) }
+        ensures fewer { world.new.running.meter.left ≤ world.old.running.meter.left }
     {
-        for _ in 0..STEPS {
+        while let Progress::More = self.advance(world)? {}
+        Ok(())
+    }
+
+    /// Steps until a step of the session was taken, or no task and no code waits. Where the run goes on, one was taken.
+    ///
+    /// # Errors
+    /// As `step`.
+    #[inline(always)]
+    fn advance(&mut self, world: &mut World) -> Result<Progress, Halt>
+        requires ready { IsRunnable self.old world.old }
+        ensures law { OnOk result (GoesOn self.old world.old self.new world.new) }
+        ensures ready { OnOk result (IsRunnable self.new world.new) }
+        ensures shape { KeepsShape world.old.store.heap world.new.store.heap }
+        ensures ended { result ≡ Ok Progress.Ended → self.new.machine.tasks ≡ [] }
+        ensures none { result ≡ Ok Progress.Ended → self.new.callers.items ≡ [] }
+        ensures stands { result ≡ Ok Progress.Ended → at_end self.new.machine.control ≡ true }
+        ensures fewer { world.new.running.meter.left ≤ world.old.running.meter.left }
+        ensures taken { result ≡ Ok Progress.More → world.new.running.meter.left < world.old.running.meter.left }
+    {
+        let left = world.running.meter.left;
+        loop {
             match self.step(world)? {
-                Progress::Ended => return Ok(()),
-                _ => (),
+                Progress::Ended => return Ok(Progress::Ended),
+                Progress::More => {
+                    if world.running.meter.left < left {
+                        return Ok(Progress::More);
+                    }
+                }
             }
         }
-        Err(Halt::TooLong)
     }
 
     /// Runs a block to its end. It comes to what the block means: the same end, and the same world afterwards, with
@@ -286,6 +343,7 @@ impl<'u> Runner<'u> {
             (does.block block.now (frame_in base self.old.machine) (state_of world.old))) }
         ensures ready { OnOk result (IsRunnable self.new world.new) }
         ensures shape { KeepsShape world.old.store.heap world.new.store.heap }
+        ensures fewer { world.new.running.meter.left ≤ world.old.running.meter.left }
     {
         self.machine.control = Control::Block(block);
         self.run(world)?;

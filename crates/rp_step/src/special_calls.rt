@@ -1,14 +1,16 @@
 //! Calls of special methods: their code is entered.
 #![tactic(auto, using(rp_store::proofs::CallerLemmas::goes_on))]
 
-ghost use Rattle.std.specs.Prelude.{IfSome, OnOk};
+ghost use Rattle.std.specs.Prelude.{◌≤◌, IfSome, OnOk};
 ghost use Rattle.rp_meaning.specs.Binding.{behind};
 ghost use Rattle.rp_meaning.specs.Special.{special};
 ghost use Rattle.rp_engine.specs.HandSteps.{held_by};
+ghost use Rattle.rp_engine.specs.Loads as loads;
 ghost use Rattle.rp_store.specs.Heap.{Names};
 ghost use Rattle.rp_store.specs.Kept.{IsSound};
 ghost use Rattle.rp_store.specs.Parts.{IsFunction};
 ghost use Rattle.rp_store.specs.Shape.{KeepsShape};
+ghost use Rattle.rp_step.specs.RunLoads.{Lowers};
 ghost use Rattle.rp_step.specs.Running.{CallsMethod, Enters, IsRunnable, MakesSpecial};
 
 use crate::callables::callable_with;
@@ -34,6 +36,8 @@ impl<'u> Runner<'u> {
         ensures law { OnOk result (MakesSpecial name count self.old world.old self.new world.new) }
         ensures ready { OnOk result (IsRunnable self.new world.new) }
         ensures shape { KeepsShape world.old.store.heap world.new.store.heap }
+        ensures fewer { world.new.running.meter.left ≤ world.old.running.meter.left }
+        ensures less { OnOk result (Lowers loads.called self.old world.old self.new world.new) }
     {
         let hand = Hand {
             plain: count,
@@ -64,6 +68,8 @@ impl<'u> Runner<'u> {
             self.old world.old self.new world.new) }
         ensures ready { OnOk result (IsRunnable self.new world.new) }
         ensures shape { KeepsShape world.old.store.heap world.new.store.heap }
+        ensures fewer { world.new.running.meter.left ≤ world.old.running.meter.left }
+        ensures less { OnOk result (Lowers loads.called self.old world.old self.new world.new) }
     {
         match world.store.method_of(at, name) {
             Some(function) => self.call_behind(world, hand, function, at, lent, None),
@@ -95,6 +101,8 @@ impl<'u> Runner<'u> {
             self.old world.old self.new world.new) }
         ensures ready { OnOk result (IsRunnable self.new world.new) }
         ensures shape { KeepsShape world.old.store.heap world.new.store.heap }
+        ensures fewer { world.new.running.meter.left ≤ world.old.running.meter.left }
+        ensures less { OnOk result (Lowers loads.called self.old world.old self.new world.new) }
     {
         let callable = callable_with(&world.store, function, Some(Value::Ref(at)));
         self.call_function(world, hand, callable, lent, made)

@@ -1,13 +1,14 @@
 //! Statements: what begins them, and what goes on from the value or the end of a part.
 #![tactic(auto, using(rp_store::proofs::CallerLemmas::goes_on))]
 
-ghost use Rattle.std.specs.Prelude.{◌≡◌, ◌∷◌, OnOk, suc, true};
+ghost use Rattle.std.specs.Prelude.{◌+◌, ◌∷◌, ◌≡◌, ◌≤◌, OnOk, suc, true};
 ghost use Rattle.rp_meaning.specs.Statements as stmt_forms;
 ghost use Rattle.rp_proxy.specs.declared.world.World.{World as TheWorld};
 ghost use Rattle.rp_store.specs.Kept.{IsFit};
 ghost use Rattle.rp_store.specs.Shape.{KeepsShape};
 ghost use Rattle.rp_engine.specs.Does as does;
 ghost use Rattle.rp_engine.specs.Law.{Executes, Moves, ResumesStmt};
+ghost use Rattle.rp_engine.specs.Loads as loads;
 ghost use Rattle.rp_engine.specs.Ready.{IsReady};
 ghost use Rattle.rp_engine.specs.Rest.{loop, tested_turn, turn};
 ghost use Rattle.rp_step.specs.TaskGroups.{of_place};
@@ -46,6 +47,8 @@ pub(crate) fn statement<'u>(
     ensures law { OnOk result (Executes (does.stmt x.now) machine.old world.old machine.new world.new) }
     ensures ready { IsReady machine.new.units.now machine.new.frame machine.new.values world.new }
     ensures shape { KeepsShape world.old.store.heap world.new.store.heap }
+    ensures fewer { world.new.running.meter.left ≤ world.old.running.meter.left }
+    ensures less { OnOk result (loads.Lowers 0 machine.old world.old machine.new world.new) }
 {
     if let Err(end) = take_step(world) {
         return machine.cut_off(end);
@@ -60,6 +63,7 @@ fn form<'u>(machine: &mut Machine<'u>, world: &mut World, form: &'u StmtForm) ->
     ensures law { OnOk result (Executes (does.stmt_form form.now) machine.old world.old machine.new world.new) }
     ensures ready { IsReady machine.new.units.now machine.new.frame machine.new.values world.new }
     ensures shape { KeepsShape world.old.store.heap world.new.store.heap }
+    ensures fewer { world.new.running.meter.left ≤ world.old.running.meter.left }
 {
     match form {
         StmtForm::Expr(value) => evaluate(machine, value),
@@ -136,6 +140,7 @@ fn iterate<'u>(
         (does.target (out-Walk walk.now).target) (does.block body.now)) machine.old world.old machine.new world.new) }
     ensures ready { IsReady machine.new.units.now machine.new.frame machine.new.values world.new }
     ensures shape { KeepsShape world.old.store.heap world.new.store.heap }
+    ensures fewer { world.new.running.meter.left ≤ world.old.running.meter.left }
 {
     let each = Each {
         target: &walk.target,
@@ -158,6 +163,7 @@ fn assign<'u>(
         machine.old world.old machine.new world.new) }
     ensures ready { IsReady machine.new.units.now machine.new.frame machine.new.values world.new }
     ensures shape { KeepsShape world.old.store.heap world.new.store.heap }
+    ensures fewer { world.new.running.meter.left ≤ world.old.running.meter.left }
 {
     match machine.leaf(world, value) {
         Ok(Some(v)) => store_all(machine, world, places, v),
@@ -182,6 +188,7 @@ fn choice<'u>(
         machine.old world.old machine.new world.new) }
     ensures ready { IsReady machine.new.units.now machine.new.frame machine.new.values world.new }
     ensures shape { KeepsShape world.old.store.heap world.new.store.heap }
+    ensures fewer { world.new.running.meter.left ≤ world.old.running.meter.left }
 {
     match branches {
         [] => machine.go(Control::Block(other)),
@@ -204,6 +211,7 @@ fn first_branch<'u>(
         machine.old world.old machine.new world.new) }
     ensures ready { IsReady machine.new.units.now machine.new.frame machine.new.values world.new }
     ensures shape { KeepsShape world.old.store.heap world.new.store.heap }
+    ensures fewer { world.new.running.meter.left ≤ world.old.running.meter.left }
 {
     match machine.leaf(world, &branch.test) {
         Ok(Some(value)) => branched(machine, world, value, &branch.body, rest, other),
@@ -227,6 +235,7 @@ fn choose<'u>(
         machine.old w machine.new w) }
     ensures ready { (w : TheWorld) → IsReady machine.old.units.now machine.old.frame machine.old.values w
         → IsReady machine.new.units.now machine.new.frame machine.new.values w }
+    ensures less { OnOk result (loads.IsUnder (3 + loads.branches branches.now) machine.old machine.new) }
 {
     match branches {
         [] => machine.go(Control::Block(other)),
@@ -250,6 +259,7 @@ fn begin_loop<'u>(
         machine.old world.old machine.new world.new) }
     ensures ready { IsReady machine.new.units.now machine.new.frame machine.new.values world.new }
     ensures shape { KeepsShape world.old.store.heap world.new.store.heap }
+    ensures fewer { world.new.running.meter.left ≤ world.old.running.meter.left }
 {
     next_turn(machine, world, world.running.meter.left, test, body)
 }
@@ -268,6 +278,8 @@ pub(crate) fn loop_turn<'u>(
         machine.old world.old machine.new world.new) }
     ensures ready { IsReady machine.new.units.now machine.new.frame machine.new.values world.new }
     ensures shape { KeepsShape world.old.store.heap world.new.store.heap }
+    ensures fewer { world.new.running.meter.left ≤ world.old.running.meter.left }
+    ensures less { OnOk result (loads.Lowers 1 machine.old world.old machine.new world.new) }
 {
     if turns == 0 {
         return machine.cut_off(OpEnd::StopSteps);
@@ -289,6 +301,8 @@ fn next_turn<'u>(
         machine.old world.old machine.new world.new) }
     ensures ready { IsReady machine.new.units.now machine.new.frame machine.new.values world.new }
     ensures shape { KeepsShape world.old.store.heap world.new.store.heap }
+    ensures fewer { world.new.running.meter.left ≤ world.old.running.meter.left }
+    ensures less { OnOk result (loads.Lowers 1 machine.old world.old machine.new world.new) }
 {
     machine
         .tasks
@@ -310,6 +324,8 @@ fn turn<'u>(
         machine.old world.old machine.new world.new) }
     ensures ready { IsReady machine.new.units.now machine.new.frame machine.new.values world.new }
     ensures shape { KeepsShape world.old.store.heap world.new.store.heap }
+    ensures fewer { world.new.running.meter.left ≤ world.old.running.meter.left }
+    ensures less { OnOk result (loads.Lowers 0 machine.old world.old machine.new world.new) }
 {
     if let Err(end) = take_step(world) {
         return machine.cut_off(end);
@@ -335,6 +351,8 @@ fn tested<'u>(
         machine.old world.old machine.new world.new) }
     ensures ready { IsReady machine.new.units.now machine.new.frame machine.new.values world.new }
     ensures shape { KeepsShape world.old.store.heap world.new.store.heap }
+    ensures fewer { world.new.running.meter.left ≤ world.old.running.meter.left }
+    ensures less { OnOk result (loads.Lowers 3 machine.old world.old machine.new world.new) }
 {
     match truth(machine.alloc, world, &value) {
         Ok(true) => machine.go(Control::Block(body)),
@@ -359,6 +377,9 @@ fn branched<'u>(
         machine.old world.old machine.new world.new) }
     ensures ready { IsReady machine.new.units.now machine.new.frame machine.new.values world.new }
     ensures shape { KeepsShape world.old.store.heap world.new.store.heap }
+    ensures fewer { world.new.running.meter.left ≤ world.old.running.meter.left }
+    ensures less { OnOk result (loads.Lowers (3 + loads.branches branches.now)
+        machine.old world.old machine.new world.new) }
 {
     match truth(machine.alloc, world, &value) {
         Ok(true) => machine.go(Control::Block(body)),
@@ -380,6 +401,9 @@ pub(crate) fn after_stmt<'u>(
     ensures law { OnOk result (ResumesStmt task.entry value machine.old world.old machine.new world.new) }
     ensures ready { IsReady machine.new.units.now machine.new.frame machine.new.values world.new }
     ensures shape { KeepsShape world.old.store.heap world.new.store.heap }
+    ensures fewer { world.new.running.meter.left ≤ world.old.running.meter.left }
+    ensures less { OnOk result (loads.Lowers (2 + loads.stmt_task task.entry)
+        machine.old world.old machine.new world.new) }
 {
     match task {
         StmtTask::Evaluate => machine.go(Control::Next),
@@ -423,6 +447,9 @@ fn after_place<'u>(
     ensures law { OnOk result (ResumesStmt task.entry value machine.old world.old machine.new world.new) }
     ensures ready { IsReady machine.new.units.now machine.new.frame machine.new.values world.new }
     ensures shape { KeepsShape world.old.store.heap world.new.store.heap }
+    ensures fewer { world.new.running.meter.left ≤ world.old.running.meter.left }
+    ensures less { OnOk result (loads.Lowers (2 + loads.stmt_task task.entry)
+        machine.old world.old machine.new world.new) }
 {
     match task {
         StmtTask::StoreAttr(name) => after_object(machine, world, name, value),

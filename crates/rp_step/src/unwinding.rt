@@ -1,7 +1,7 @@
 //! Tasks that take up how a part ended.
 #![tactic(auto, using(rp_store::proofs::CallerLemmas::goes_on, rp_engine::proofs::AtHand::at_hand))]
 
-ghost use Rattle.std.specs.Prelude.{◌≡◌, [], None, drop, OnOk, true};
+ghost use Rattle.std.specs.Prelude.{◌+◌, ◌≡◌, ◌≤◌, [], None, OnOk, drop, true};
 ghost use Rattle.rp_meaning.specs.Frame.{Run};
 ghost use Rattle.rp_meaning.specs.State.{State, Outcome, Flow, next, broke, continued};
 ghost use Rattle.rp_meaning.specs.Statements.{leave};
@@ -12,8 +12,9 @@ ghost use Rattle.rp_access.specs.Comes.{Comes, IsEnd};
 ghost use Rattle.rp_store.specs.Shape.{KeepsShape};
 ghost use Rattle.rp_engine.specs.Ends.{end_of};
 ghost use Rattle.rp_engine.specs.Law.{Takes, TakesUp, frame_in, rest_of};
+ghost use Rattle.rp_engine.specs.Loads as loads;
 ghost use Rattle.rp_engine.specs.WaitSteps.{at_hand, stmt_with};
-ghost use Rattle.rp_step.specs.Left.{at_end, flows, left_by};
+ghost use Rattle.rp_step.specs.Left.{at_end, ends_otherwise, flows, left_by};
 ghost use Rattle.rp_access.specs.Moment.{state_of};
 ghost use Rattle.rp_engine.specs.Ready.{IsReady};
 ghost use Rattle.rp_engine.specs.Rest.{after, after_flow, begun, did, gave, rest};
@@ -53,10 +54,35 @@ pub(crate) fn take_up<'u>(
     ensures law { OnOk result (Takes task.entry machine.old world.old machine.new world.new) }
     ensures ready { IsReady machine.new.units.now machine.new.frame machine.new.values world.new }
     ensures shape { KeepsShape world.old.store.heap world.new.store.heap }
+    ensures fewer { world.new.running.meter.left ≤ world.old.running.meter.left }
+    ensures less { OnOk result (loads.Lowers (loads.next machine.old.control + loads.held task.entry)
+        machine.old world.old machine.new world.new) }
 {
     match machine.control {
         Control::Value => with_value(machine, world, task),
         Control::Next => with_next(machine, world, task),
+        _ => take_up_other(machine, world, task),
+    }
+}
+
+/// The same, where the part gave no value, or the statement was not done. It is a function of its own so that the steps
+/// of what is most often done have no room to make for it.
+#[inline(never)]
+fn take_up_other<'u>(
+    machine: &mut Machine<'u>,
+    world: &mut World,
+    task: Task<'u>,
+) -> Result<(), Halt>
+    requires ready { IsReady machine.old.units.now machine.old.frame machine.old.values world.old }
+    requires stands { ends_otherwise machine.old.control ≡ true }
+    ensures law { OnOk result (Takes task.entry machine.old world.old machine.new world.new) }
+    ensures ready { IsReady machine.new.units.now machine.new.frame machine.new.values world.new }
+    ensures shape { KeepsShape world.old.store.heap world.new.store.heap }
+    ensures fewer { world.new.running.meter.left ≤ world.old.running.meter.left }
+    ensures less { OnOk result (loads.Lowers (loads.next machine.old.control + loads.held task.entry)
+        machine.old world.old machine.new world.new) }
+{
+    match machine.control {
         Control::Broke => with_break(machine, world, task),
         Control::Continued => with_continue(machine, world, task),
         Control::NoValue => without_value(machine, task),
@@ -75,6 +101,8 @@ fn with_value<'u>(machine: &mut Machine<'u>, world: &mut World, task: Task<'u>) 
         (gives (top machine.old.values) (state_of world.old))))) }
     ensures ready { IsReady machine.new.units.now machine.new.frame machine.new.values world.new }
     ensures shape { KeepsShape world.old.store.heap world.new.store.heap }
+    ensures fewer { world.new.running.meter.left ≤ world.old.running.meter.left }
+    ensures less { OnOk result (loads.Lowers (2 + loads.held task.entry) machine.old world.old machine.new world.new) }
 {
     match task {
         Task::Expr(task) => {
@@ -96,6 +124,7 @@ fn without_value<'u>(machine: &mut Machine<'u>, task: Task<'u>) -> Result<(), Ha
         (after task.entry (gave (frame_in base machine.old) machine.old.values (ends (end_of machine.old.end) s)))) }
     ensures ready { (w : TheWorld) → IsReady machine.old.units.now machine.old.frame machine.old.values w
         → IsReady machine.new.units.now machine.new.frame machine.new.values w }
+    ensures less { OnOk result (loads.IsUnder 0 machine.old machine.new) }
 {
     match task {
         Task::Expr(task) => {
@@ -117,6 +146,8 @@ fn with_next<'u>(machine: &mut Machine<'u>, world: &mut World, task: Task<'u>) -
     ensures law { OnOk result (TakesUp task.entry (leave next) machine.old world.old machine.new world.new) }
     ensures ready { IsReady machine.new.units.now machine.new.frame machine.new.values world.new }
     ensures shape { KeepsShape world.old.store.heap world.new.store.heap }
+    ensures fewer { world.new.running.meter.left ≤ world.old.running.meter.left }
+    ensures less { OnOk result (loads.Lowers (2 + loads.held task.entry) machine.old world.old machine.new world.new) }
 {
     match task {
         Task::Flow(task) => flow_next(machine, world, task),
@@ -137,6 +168,9 @@ fn flow_next<'u>(
         (after_flow task.entry (frame_in base machine.old) machine.old.values (gives next (state_of world.old)))) }
     ensures ready { IsReady machine.new.units.now machine.new.frame machine.new.values world.new }
     ensures shape { KeepsShape world.old.store.heap world.new.store.heap }
+    ensures fewer { world.new.running.meter.left ≤ world.old.running.meter.left }
+    ensures less { OnOk result (loads.Lowers (2 + loads.flow_task task.entry)
+        machine.old world.old machine.new world.new) }
 {
     match task {
         FlowTask::Block(rest) => crate::run::block(machine, rest),
@@ -167,6 +201,8 @@ fn with_continue<'u>(
     ensures law { OnOk result (TakesUp task.entry (leave continued) machine.old world.old machine.new world.new) }
     ensures ready { IsReady machine.new.units.now machine.new.frame machine.new.values world.new }
     ensures shape { KeepsShape world.old.store.heap world.new.store.heap }
+    ensures fewer { world.new.running.meter.left ≤ world.old.running.meter.left }
+    ensures less { OnOk result (loads.Lowers (2 + loads.held task.entry) machine.old world.old machine.new world.new) }
 {
     match task {
         Task::Flow(task) => flow_continue(machine, world, task),
@@ -187,6 +223,9 @@ fn flow_continue<'u>(
         (after_flow task.entry (frame_in base machine.old) machine.old.values (gives continued (state_of world.old)))) }
     ensures ready { IsReady machine.new.units.now machine.new.frame machine.new.values world.new }
     ensures shape { KeepsShape world.old.store.heap world.new.store.heap }
+    ensures fewer { world.new.running.meter.left ≤ world.old.running.meter.left }
+    ensures less { OnOk result (loads.Lowers (2 + loads.flow_task task.entry)
+        machine.old world.old machine.new world.new) }
 {
     match task {
         FlowTask::While(turns, test, body) => loop_turn(machine, world, turns, test, body),
@@ -215,6 +254,8 @@ fn with_break<'u>(machine: &mut Machine<'u>, world: &mut World, task: Task<'u>) 
     ensures law { OnOk result (TakesUp task.entry (leave broke) machine.old world.old machine.new world.new) }
     ensures ready { IsReady machine.new.units.now machine.new.frame machine.new.values world.new }
     ensures shape { KeepsShape world.old.store.heap world.new.store.heap }
+    ensures fewer { world.new.running.meter.left ≤ world.old.running.meter.left }
+    ensures less { OnOk result (loads.Lowers (2 + loads.held task.entry) machine.old world.old machine.new world.new) }
 {
     match task {
         Task::Flow(task) => flow_break(machine, world, task),
@@ -235,6 +276,9 @@ fn flow_break<'u>(
         (after_flow task.entry (frame_in base machine.old) machine.old.values (gives broke (state_of world.old)))) }
     ensures ready { IsReady machine.new.units.now machine.new.frame machine.new.values world.new }
     ensures shape { KeepsShape world.old.store.heap world.new.store.heap }
+    ensures fewer { world.new.running.meter.left ≤ world.old.running.meter.left }
+    ensures less { OnOk result (loads.Lowers (2 + loads.flow_task task.entry)
+        machine.old world.old machine.new world.new) }
 {
     match task {
         FlowTask::While(_, _, _) => machine.go(Control::Next),
@@ -260,6 +304,7 @@ pub(crate) fn go_without<'u>(machine: &mut Machine<'u>, control: Control<'u>) ->
         (begun (frame_in base machine.old) control.entry (below machine.old.values) machine.old.end s) }
     ensures ready { (w : TheWorld) → IsReady machine.old.units.now machine.old.frame machine.old.values w
         → IsReady machine.new.units.now machine.new.frame machine.new.values w }
+    ensures less { loads.load machine.new ≡ loads.next control.entry + loads.tasks machine.old.tasks }
 {
     let _value = machine.values.pop();
     machine.go(control)
@@ -275,6 +320,7 @@ pub(crate) fn go_less<'u>(
         (begun (frame_in base machine.old) control.entry (drop count machine.old.values) machine.old.end s) }
     ensures ready { (w : TheWorld) → IsReady machine.old.units.now machine.old.frame machine.old.values w
         → IsReady machine.new.units.now machine.new.frame machine.new.values w }
+    ensures less { loads.load machine.new ≡ loads.next control.entry + loads.tasks machine.old.tasks }
 {
     machine.forget(count);
     machine.go(control)
@@ -289,6 +335,8 @@ fn with_cut<'u>(machine: &mut Machine<'u>, world: &mut World, task: Task<'u>) ->
         (ends (end_of machine.old.end) (state_of world.old))))) }
     ensures ready { IsReady machine.new.units.now machine.new.frame machine.new.values world.new }
     ensures shape { KeepsShape world.old.store.heap world.new.store.heap }
+    ensures fewer { world.new.running.meter.left ≤ world.old.running.meter.left }
+    ensures less { OnOk result (loads.Lowers (loads.held task.entry) machine.old world.old machine.new world.new) }
 {
     match task {
         Task::Flow(task) => flow_cut(machine, world, task),

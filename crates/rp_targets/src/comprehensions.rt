@@ -1,7 +1,7 @@
 //! Comprehensions (Python Language Reference, Displays for lists, sets and dictionaries).
 #![tactic(auto, using(rp_store::proofs::CallerLemmas::goes_on, rp_engine::proofs::AtHand::at_hand))]
 
-ghost use Rattle.std.specs.Prelude.{◌≡◌, ◌∷◌, [], IfOk, OnOk, length};
+ghost use Rattle.std.specs.Prelude.{◌≡◌, ◌∷◌, ◌+◌, ◌≤◌, [], IfOk, OnOk, length};
 ghost use Rattle.rp_access.specs.Comes.{Comes};
 ghost use Rattle.rp_access.specs.Moment.{state_of};
 ghost use Rattle.rp_meaning.specs.Expressions as forms;
@@ -15,6 +15,7 @@ ghost use Rattle.rp_engine.specs.ComprehensionSteps.{display_of, does_made, elem
 ghost use Rattle.rp_engine.specs.DisplaySteps.{makes_display};
 ghost use Rattle.rp_engine.specs.Does as does;
 ghost use Rattle.rp_engine.specs.Law.{Evaluates, Executes, ResumesStmt, frame_in};
+ghost use Rattle.rp_engine.specs.Loads as loads;
 ghost use Rattle.rp_engine.specs.Ready.{IsReady};
 
 use crate::looping::for_each;
@@ -54,6 +55,8 @@ pub fn comprehension<'u>(
         (does_made made.entry).0 (does_made made.entry).1) machine.old world.old machine.new world.new) }
     ensures ready { IsReady machine.new.units.now machine.new.frame machine.new.values world.new }
     ensures shape { KeepsShape world.old.store.heap world.new.store.heap }
+    ensures fewer { world.new.running.meter.left ≤ world.old.running.meter.left }
+    ensures less { OnOk result (loads.Lowers 2 machine.old world.old machine.new world.new) }
 {
     match clauses {
         [] => machine.back(Value::Rock(Rock::Nil)),
@@ -84,6 +87,8 @@ fn begin_comprehension<'u>(
         (does_made parts.entry.made).0 (does_made parts.entry.made).1) machine.old world.old machine.new world.new) }
     ensures ready { IsReady machine.new.units.now machine.new.frame machine.new.values world.new }
     ensures shape { KeepsShape world.old.store.heap world.new.store.heap }
+    ensures fewer { world.new.running.meter.left ≤ world.old.running.meter.left }
+    ensures less { OnOk result (loads.Lowers 0 machine.old world.old machine.new world.new) }
 {
     match take_step(world) {
         Ok(()) => machine.wait(
@@ -113,6 +118,8 @@ pub fn comprehend<'u>(
         machine.old world.old machine.new world.new) }
     ensures ready { IsReady machine.new.units.now machine.new.frame machine.new.values world.new }
     ensures shape { KeepsShape world.old.store.heap world.new.store.heap }
+    ensures fewer { world.new.running.meter.left ≤ world.old.running.meter.left }
+    ensures less { OnOk result (loads.Lowers 4 machine.old world.old machine.new world.new) }
 {
     match walk(machine.alloc, world, &value) {
         Ok(spot) => machine.go_with(
@@ -136,6 +143,7 @@ pub fn inner_scope<'u>(machine: &Machine<'u>, world: &mut World, block: usize) -
     ensures faithful { IsFaithful world.new }
     ensures shape { KeepsShape world.old.store.heap world.new.store.heap }
     ensures scope { IfOk result (IsScopeOf world.new.store.heap machine.now.frame.side) }
+    ensures fewer { world.new.running.meter.left ≤ world.old.running.meter.left }
 {
     let locals = local_count(machine.units.program(machine.frame.side), block);
     let slots = Vec::new(machine.alloc);
@@ -163,6 +171,9 @@ pub fn where_all<'u>(
         (forms.nest (does.clauses clauses.now) (does.adds adds.entry))) machine.old world.old machine.new world.new) }
     ensures ready { IsReady machine.new.units.now machine.new.frame machine.new.values world.new }
     ensures shape { KeepsShape world.old.store.heap world.new.store.heap }
+    ensures fewer { world.new.running.meter.left ≤ world.old.running.meter.left }
+    ensures less { OnOk result (loads.Lowers (loads.tested tests.now clauses.now adds.entry)
+        machine.old world.old machine.new world.new) }
 {
     match tests {
         [] => nest(machine, world, clauses, adds),
@@ -189,6 +200,9 @@ pub fn after_where<'u>(
         machine.old world.old machine.new world.new) }
     ensures ready { IsReady machine.new.units.now machine.new.frame machine.new.values world.new }
     ensures shape { KeepsShape world.old.store.heap world.new.store.heap }
+    ensures fewer { world.new.running.meter.left ≤ world.old.running.meter.left }
+    ensures less { OnOk result (loads.Lowers (2 + loads.tested tests.now clauses.now adds.entry)
+        machine.old world.old machine.new world.new) }
 {
     match truth(machine.alloc, world, &value) {
         Ok(true) => where_all(machine, world, tests, clauses, adds),
@@ -210,6 +224,9 @@ fn nest<'u>(
         machine.old world.old machine.new world.new) }
     ensures ready { IsReady machine.new.units.now machine.new.frame machine.new.values world.new }
     ensures shape { KeepsShape world.old.store.heap world.new.store.heap }
+    ensures fewer { world.new.running.meter.left ≤ world.old.running.meter.left }
+    ensures less { OnOk result (loads.Lowers (loads.nest clauses.now adds.entry)
+        machine.old world.old machine.new world.new) }
 {
     match clauses {
         [] => add(machine, adds),
@@ -230,6 +247,7 @@ fn add<'u>(machine: &mut Machine<'u>, adds: Adds<'u>) -> Result<(), Halt>
     ensures law { OnOk result ((w : TheWorld) → Executes (does.adds adds.entry) machine.old w machine.new w) }
     ensures ready { (w : TheWorld) → IsReady machine.old.units.now machine.old.frame machine.old.values w
         → IsReady machine.new.units.now machine.new.frame machine.new.values w }
+    ensures less { OnOk result (loads.IsUnder (loads.adds adds.entry) machine.old machine.new) }
 {
     match adds {
         Adds::Element(at, x) => machine.wait(
@@ -259,6 +277,8 @@ pub fn add_element<'u>(
     ensures law { OnOk result (Executes (element_added at value) machine.old world.old machine.new world.new) }
     ensures ready { IsReady machine.new.units.now machine.new.frame machine.new.values world.new }
     ensures shape { KeepsShape world.old.store.heap world.new.store.heap }
+    ensures fewer { world.new.running.meter.left ≤ world.old.running.meter.left }
+    ensures less { OnOk result (loads.Lowers 2 machine.old world.old machine.new world.new) }
 {
     match put_element(world, at, value) {
         Ok(()) => machine.go(Control::Next),
@@ -279,6 +299,7 @@ pub fn after_added_key<'u>(
     ensures ready { (w : TheWorld) → IsReady machine.old.units.now machine.old.frame machine.old.values w
         → IsFit w.store.heap machine.old.frame.side key
         → IsReady machine.new.units.now machine.new.frame machine.new.values w }
+    ensures less { OnOk result (loads.IsUnder (2 + loads.inside x.now) machine.old machine.new) }
 {
     machine.wait_with(
         key,
@@ -303,6 +324,8 @@ pub fn add_entry<'u>(
     ensures law { OnOk result (ResumesStmt (StmtTask.AddEntry at) value machine.old world.old machine.new world.new) }
     ensures ready { IsReady machine.new.units.now machine.new.frame machine.new.values world.new }
     ensures shape { KeepsShape world.old.store.heap world.new.store.heap }
+    ensures fewer { world.new.running.meter.left ≤ world.old.running.meter.left }
+    ensures less { OnOk result (loads.Lowers 2 machine.old world.old machine.new world.new) }
 {
     let key = machine.at_hand();
     put_entry(machine, world, at, key, value)
@@ -322,6 +345,8 @@ fn put_entry<'u>(
     ensures law { OnOk result (Executes (entry_added at key value) machine.old world.old machine.new world.new) }
     ensures ready { IsReady machine.new.units.now machine.new.frame machine.new.values world.new }
     ensures shape { KeepsShape world.old.store.heap world.new.store.heap }
+    ensures fewer { world.new.running.meter.left ≤ world.old.running.meter.left }
+    ensures less { OnOk result (loads.Lowers 2 machine.old world.old machine.new world.new) }
 {
     if is_value(&world.store, at) {
         return put_in(machine, world, at, key, value);
@@ -345,6 +370,8 @@ fn put_in<'u>(
     ensures law { OnOk result (Executes (entry_added at key value) machine.old world.old machine.new world.new) }
     ensures ready { IsReady machine.new.units.now machine.new.frame machine.new.values world.new }
     ensures shape { KeepsShape world.old.store.heap world.new.store.heap }
+    ensures fewer { world.new.running.meter.left ≤ world.old.running.meter.left }
+    ensures less { OnOk result (loads.Lowers 2 machine.old world.old machine.new world.new) }
 {
     match put_item(machine.alloc, world, &Value::Ref(at), &key, value) {
         Ok(()) => machine.go(Control::Next),
@@ -381,6 +408,7 @@ pub fn new_result(
     ensures faithful { IsFaithful world.new }
     ensures shape { KeepsShape world.old.store.heap world.new.store.heap }
     ensures fit { IfOk result (IsFit world.new.store.heap side) }
+    ensures fewer { world.new.running.meter.left ≤ world.old.running.meter.left }
 {
     new_display(alloc, world, side, display_of(made), Vec::new(alloc))
 }

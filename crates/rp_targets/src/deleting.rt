@@ -1,13 +1,14 @@
 //! Attributes and items as places that are deleted (Python Language Reference, The del statement).
 #![tactic(auto, using(rp_store::proofs::CallerLemmas::goes_on))]
 
-ghost use Rattle.std.specs.Prelude.{OnOk};
+ghost use Rattle.std.specs.Prelude.{◌+◌, ◌≤◌, OnOk};
 ghost use Rattle.rp_meaning.specs.Access as access;
 ghost use Rattle.rp_meaning.specs.Statements as stmt_forms;
 ghost use Rattle.rp_store.specs.Kept.{IsFit};
 ghost use Rattle.rp_store.specs.Shape.{KeepsShape};
 ghost use Rattle.rp_engine.specs.Does as does;
 ghost use Rattle.rp_engine.specs.Law.{Executes, ResumesStmt};
+ghost use Rattle.rp_engine.specs.Loads as loads;
 ghost use Rattle.rp_engine.specs.Ready.{IsReady};
 
 use crate::special_methods::delete_by_method;
@@ -34,6 +35,9 @@ pub(crate) fn delete_attribute<'u>(
         machine.old world.old machine.new world.new) }
     ensures ready { IsReady machine.new.units.now machine.new.frame machine.new.values world.new }
     ensures shape { KeepsShape world.old.store.heap world.new.store.heap }
+    ensures fewer { world.new.running.meter.left ≤ world.old.running.meter.left }
+    ensures less { OnOk result (loads.Lowers (2 + loads.inside object.now)
+        machine.old world.old machine.new world.new) }
 {
     match machine.leaf(world, object) {
         Ok(Some(o)) => del_attribute(machine, world, o, name),
@@ -58,6 +62,8 @@ pub fn del_attribute<'u>(
     ensures law { OnOk result (Executes (access.del_attribute o name) machine.old world.old machine.new world.new) }
     ensures ready { IsReady machine.new.units.now machine.new.frame machine.new.values world.new }
     ensures shape { KeepsShape world.old.store.heap world.new.store.heap }
+    ensures fewer { world.new.running.meter.left ≤ world.old.running.meter.left }
+    ensures less { OnOk result (loads.Lowers 2 machine.old world.old machine.new world.new) }
 {
     match rp_access::del_attribute(machine.alloc, world, &o, name) {
         Ok(()) => machine.go(Control::Next),
@@ -81,6 +87,9 @@ pub(crate) fn delete_item<'u>(
         machine.old world.old machine.new world.new) }
     ensures ready { IsReady machine.new.units.now machine.new.frame machine.new.values world.new }
     ensures shape { KeepsShape world.old.store.heap world.new.store.heap }
+    ensures fewer { world.new.running.meter.left ≤ world.old.running.meter.left }
+    ensures less { OnOk result (loads.Lowers (2 + loads.called + loads.inside object.now + loads.inside key.now)
+        machine.old world.old machine.new world.new) }
 {
     match machine.leaf(world, object) {
         Ok(Some(o)) => delete_key(machine, world, o, key),
@@ -109,6 +118,9 @@ pub fn delete_key<'u>(
         machine.old world.old machine.new world.new) }
     ensures ready { IsReady machine.new.units.now machine.new.frame machine.new.values world.new }
     ensures shape { KeepsShape world.old.store.heap world.new.store.heap }
+    ensures fewer { world.new.running.meter.left ≤ world.old.running.meter.left }
+    ensures less { OnOk result (loads.Lowers (2 + loads.called + loads.inside key.now)
+        machine.old world.old machine.new world.new) }
 {
     match machine.leaf(world, key) {
         Ok(Some(i)) => del_item(machine, world, o, i),
@@ -132,6 +144,8 @@ pub fn after_deleted_key<'u>(
     ensures law { OnOk result (ResumesStmt StmtTask.DeleteKey i machine.old world.old machine.new world.new) }
     ensures ready { IsReady machine.new.units.now machine.new.frame machine.new.values world.new }
     ensures shape { KeepsShape world.old.store.heap world.new.store.heap }
+    ensures fewer { world.new.running.meter.left ≤ world.old.running.meter.left }
+    ensures less { OnOk result (loads.Lowers (1 + loads.called) machine.old world.old machine.new world.new) }
 {
     let o = machine.at_hand();
     del_item(machine, world, o, i)
@@ -154,6 +168,8 @@ fn del_item<'u>(
     ensures law { OnOk result (Executes (access.del_item o i) machine.old world.old machine.new world.new) }
     ensures ready { IsReady machine.new.units.now machine.new.frame machine.new.values world.new }
     ensures shape { KeepsShape world.old.store.heap world.new.store.heap }
+    ensures fewer { world.new.running.meter.left ≤ world.old.running.meter.left }
+    ensures less { OnOk result (loads.Lowers (1 + loads.called) machine.old world.old machine.new world.new) }
 {
     match rp_access::del_item(machine.alloc, world, &o, &i) {
         Ok(Change::Done) => machine.go(Control::Next),

@@ -1,7 +1,7 @@
 //! The for statement (Python Language Reference, The for statement).
 #![tactic(auto, using(rp_store::proofs::CallerLemmas::goes_on, rp_engine::proofs::AtHand::at_hand))]
 
-ghost use Rattle.std.specs.Prelude.{◌≡◌, IfSome, List, OnOk, suc};
+ghost use Rattle.std.specs.Prelude.{◌≡◌, ◌+◌, ◌≤◌, IfSome, List, OnOk, suc};
 ghost use Rattle.rp_base.specs.declared.value.Value.{Value as TheValue};
 ghost use Rattle.rp_frame.specs.Top.{below, top};
 ghost use Rattle.rp_meaning.specs.Frame.{Frame, Run, bind_name};
@@ -12,6 +12,7 @@ ghost use Rattle.rp_store.specs.Kept.{IsFit};
 ghost use Rattle.rp_store.specs.Shape.{KeepsShape};
 ghost use Rattle.rp_engine.specs.Does as does;
 ghost use Rattle.rp_engine.specs.Law.{Executes, Moves, frame_in, rest_of};
+ghost use Rattle.rp_engine.specs.Loads as loads;
 ghost use Rattle.rp_engine.specs.LoopSteps.{all_turns, each_turn, over, turn_before, walked};
 ghost use Rattle.rp_access.specs.Moment.{state_of};
 ghost use Rattle.rp_engine.specs.Ready.{IsReady};
@@ -42,6 +43,8 @@ pub fn for_each<'u>(
         (does.inside each.entry.inside)) machine.old world.old machine.new world.new) }
     ensures ready { IsReady machine.new.units.now machine.new.frame machine.new.values world.new }
     ensures shape { KeepsShape world.old.store.heap world.new.store.heap }
+    ensures fewer { world.new.running.meter.left ≤ world.old.running.meter.left }
+    ensures less { OnOk result (loads.Lowers (2 + loads.inside of.now) machine.old world.old machine.new world.new) }
 {
     match machine.leaf(world, of) {
         Ok(Some(value)) => walk_over(machine, world, value, each),
@@ -64,6 +67,8 @@ pub fn walk_over<'u>(
         value) machine.old world.old machine.new world.new) }
     ensures ready { IsReady machine.new.units.now machine.new.frame machine.new.values world.new }
     ensures shape { KeepsShape world.old.store.heap world.new.store.heap }
+    ensures fewer { world.new.running.meter.left ≤ world.old.running.meter.left }
+    ensures less { OnOk result (loads.Lowers 2 machine.old world.old machine.new world.new) }
 {
     match walk(machine.alloc, world, &value) {
         Ok(spot) => first_turn(machine, world, value, spot, each),
@@ -89,6 +94,8 @@ pub fn first_turn<'u>(
         (does.inside each.entry.inside) (cursor_at value spot)) machine.old world.old machine.new world.new) }
     ensures ready { IsReady machine.new.units.now machine.new.frame machine.new.values world.new }
     ensures shape { KeepsShape world.old.store.heap world.new.store.heap }
+    ensures fewer { world.new.running.meter.left ≤ world.old.running.meter.left }
+    ensures less { OnOk result (loads.Lowers 2 machine.old world.old machine.new world.new) }
 {
     next_element(machine, world, world.running.meter.left, value, spot, each)
 }
@@ -109,6 +116,8 @@ pub fn walk_on<'u>(
         (frame_in base machine.old) (state_of world.old)))) }
     ensures ready { IsReady machine.new.units.now machine.new.frame machine.new.values world.new }
     ensures shape { KeepsShape world.old.store.heap world.new.store.heap }
+    ensures fewer { world.new.running.meter.left ≤ world.old.running.meter.left }
+    ensures less { OnOk result (loads.Lowers 2 machine.old world.old machine.new world.new) }
 {
     let value = machine.values.pop();
     walk_turn(machine, world, turns, value, spot, each)
@@ -130,6 +139,8 @@ fn walk_turn<'u>(
         (does.inside each.entry.inside) (cursor_at value spot)) machine.old world.old machine.new world.new) }
     ensures ready { IsReady machine.new.units.now machine.new.frame machine.new.values world.new }
     ensures shape { KeepsShape world.old.store.heap world.new.store.heap }
+    ensures fewer { world.new.running.meter.left ≤ world.old.running.meter.left }
+    ensures less { OnOk result (loads.Lowers 2 machine.old world.old machine.new world.new) }
 {
     if turns == 0 {
         return machine.cut_off(OpEnd::StopSteps);
@@ -153,6 +164,8 @@ fn next_element<'u>(
         (does.inside each.entry.inside) (cursor_at value spot)) machine.old world.old machine.new world.new) }
     ensures ready { IsReady machine.new.units.now machine.new.frame machine.new.values world.new }
     ensures shape { KeepsShape world.old.store.heap world.new.store.heap }
+    ensures fewer { world.new.running.meter.left ≤ world.old.running.meter.left }
+    ensures less { OnOk result (loads.Lowers 2 machine.old world.old machine.new world.new) }
 {
     match rp_access::next_element(machine.alloc, world, machine.frame.side, &value, spot) {
         Ok(Some((element, next))) => turn_with(machine, world, behind, next, each, value, element),
@@ -179,6 +192,7 @@ fn turn_with<'u>(
         (does.inside each.entry.inside) (cursor_at value spot) element) machine.old world.old machine.new world.new) }
     ensures ready { IsReady machine.new.units.now machine.new.frame machine.new.values world.new }
     ensures shape { KeepsShape world.old.store.heap world.new.store.heap }
+    ensures fewer { world.new.running.meter.left ≤ world.old.running.meter.left }
 {
     machine.values.push(value)?;
     machine
@@ -202,6 +216,7 @@ fn each_turn<'u>(
         (does.inside each.entry.inside) element) machine.old world.old machine.new world.new) }
     ensures ready { IsReady machine.new.units.now machine.new.frame machine.new.values world.new }
     ensures shape { KeepsShape world.old.store.heap world.new.store.heap }
+    ensures fewer { world.new.running.meter.left ≤ world.old.running.meter.left }
 {
     match name_of(each.target) {
         Some(name) => turn_with_name(machine, world, name, each.inside, element),
@@ -224,6 +239,7 @@ fn turn_with_name<'u>(
         machine.old world.old machine.new world.new) }
     ensures ready { IsReady machine.new.units.now machine.new.frame machine.new.values world.new }
     ensures shape { KeepsShape world.old.store.heap world.new.store.heap }
+    ensures fewer { world.new.running.meter.left ≤ world.old.running.meter.left }
 {
     machine.bind(world, name, element);
     go_inside(machine, inside)
@@ -259,6 +275,7 @@ fn turn_behind<'u>(
         (does.inside each.entry.inside) element) machine.old world.old machine.new world.new) }
     ensures ready { IsReady machine.new.units.now machine.new.frame machine.new.values world.new }
     ensures shape { KeepsShape world.old.store.heap world.new.store.heap }
+    ensures fewer { world.new.running.meter.left ≤ world.old.running.meter.left }
 {
     let behind = inside_task(each.inside);
     machine.tasks.push(Task::Flow(behind))?;

@@ -1,7 +1,7 @@
 //! Places: what is stored to, and what is deleted.
 #![tactic(auto, using(rp_store::proofs::CallerLemmas::goes_on, rp_engine::proofs::AtHand::at_hand))]
 
-ghost use Rattle.std.specs.Prelude.{◌≡◌, ◌∷◌, map, OnOk};
+ghost use Rattle.std.specs.Prelude.{◌≡◌, ◌∷◌, ◌+◌, ◌≤◌, map, OnOk, suc};
 ghost use Rattle.rp_frame.specs.Top.{top, below};
 ghost use Rattle.rp_meaning.specs.Frame.{Run, unbind_name};
 ghost use Rattle.rp_meaning.specs.Statements as stmt_forms;
@@ -9,6 +9,7 @@ ghost use Rattle.rp_store.specs.Kept.{IsFit};
 ghost use Rattle.rp_store.specs.Shape.{KeepsShape};
 ghost use Rattle.rp_engine.specs.Does as does;
 ghost use Rattle.rp_engine.specs.Law.{Executes, frame_in, rest_of};
+ghost use Rattle.rp_engine.specs.Loads as loads;
 ghost use Rattle.rp_access.specs.Moment.{state_of};
 ghost use Rattle.rp_engine.specs.Ready.{IsReady};
 ghost use Rattle.rp_engine.specs.Rest.{did, rest};
@@ -38,6 +39,9 @@ pub fn store_all<'u>(
         machine.old world.old machine.new world.new) }
     ensures ready { IsReady machine.new.units.now machine.new.frame machine.new.values world.new }
     ensures shape { KeepsShape world.old.store.heap world.new.store.heap }
+    ensures fewer { world.new.running.meter.left ≤ world.old.running.meter.left }
+    ensures less { OnOk result (loads.Lowers (2 + loads.places places.now)
+        machine.old world.old machine.new world.new) }
 {
     match places {
         [] => machine.go(Control::Next),
@@ -61,6 +65,9 @@ fn store_first<'u>(
         machine.old world.old machine.new world.new) }
     ensures ready { IsReady machine.new.units.now machine.new.frame machine.new.values world.new }
     ensures shape { KeepsShape world.old.store.heap world.new.store.heap }
+    ensures fewer { world.new.running.meter.left ≤ world.old.running.meter.left }
+    ensures less { OnOk result (loads.Lowers (suc (loads.place place.now + loads.places rest.now))
+        machine.old world.old machine.new world.new) }
 {
     let first = value.copy()?;
     machine.values.push(value)?;
@@ -84,6 +91,9 @@ pub fn store_more<'u>(
         (top machine.old.values) (frame_in base machine.old) (state_of world.old)))) }
     ensures ready { IsReady machine.new.units.now machine.new.frame machine.new.values world.new }
     ensures shape { KeepsShape world.old.store.heap world.new.store.heap }
+    ensures fewer { world.new.running.meter.left ≤ world.old.running.meter.left }
+    ensures less { OnOk result (loads.Lowers (2 + loads.places places.now)
+        machine.old world.old machine.new world.new) }
 {
     let value = machine.values.pop();
     store_all(machine, world, places, value)
@@ -102,6 +112,8 @@ pub(crate) fn store<'u>(
     ensures law { OnOk result (Executes (does.place place.now value) machine.old world.old machine.new world.new) }
     ensures ready { IsReady machine.new.units.now machine.new.frame machine.new.values world.new }
     ensures shape { KeepsShape world.old.store.heap world.new.store.heap }
+    ensures fewer { world.new.running.meter.left ≤ world.old.running.meter.left }
+    ensures less { OnOk result (loads.Lowers (loads.place place.now) machine.old world.old machine.new world.new) }
 {
     match place {
         Place::Name(name) => {
@@ -127,6 +139,9 @@ pub fn delete_all<'u>(
     ensures law { OnOk result (Executes (does.deletes places.now) machine.old world.old machine.new world.new) }
     ensures ready { IsReady machine.new.units.now machine.new.frame machine.new.values world.new }
     ensures shape { KeepsShape world.old.store.heap world.new.store.heap }
+    ensures fewer { world.new.running.meter.left ≤ world.old.running.meter.left }
+    ensures less { OnOk result (loads.Lowers (2 + loads.places places.now)
+        machine.old world.old machine.new world.new) }
 {
     match places {
         [] => machine.go(Control::Next),
@@ -147,6 +162,9 @@ fn delete_first<'u>(
         machine.old world.old machine.new world.new) }
     ensures ready { IsReady machine.new.units.now machine.new.frame machine.new.values world.new }
     ensures shape { KeepsShape world.old.store.heap world.new.store.heap }
+    ensures fewer { world.new.running.meter.left ≤ world.old.running.meter.left }
+    ensures less { OnOk result (loads.Lowers (suc (loads.place place.now + loads.places rest.now))
+        machine.old world.old machine.new world.new) }
 {
     machine.tasks.push(Task::Flow(FlowTask::Delete(rest)))?;
     delete(machine, world, place)
@@ -159,6 +177,8 @@ fn delete<'u>(machine: &mut Machine<'u>, world: &mut World, place: &'u Place) ->
     ensures law { OnOk result (Executes (does.delete place.now) machine.old world.old machine.new world.new) }
     ensures ready { IsReady machine.new.units.now machine.new.frame machine.new.values world.new }
     ensures shape { KeepsShape world.old.store.heap world.new.store.heap }
+    ensures fewer { world.new.running.meter.left ≤ world.old.running.meter.left }
+    ensures less { OnOk result (loads.Lowers (loads.place place.now) machine.old world.old machine.new world.new) }
 {
     match place {
         Place::Name(name) => delete_name(machine, world, name.name),
@@ -174,6 +194,8 @@ fn delete_name<'u>(machine: &mut Machine<'u>, world: &mut World, name: Name) -> 
     ensures law { OnOk result (Executes (unbind_name name) machine.old world.old machine.new world.new) }
     ensures ready { IsReady machine.new.units.now machine.new.frame machine.new.values world.new }
     ensures shape { KeepsShape world.old.store.heap world.new.store.heap }
+    ensures fewer { world.new.running.meter.left ≤ world.old.running.meter.left }
+    ensures less { OnOk result (loads.Lowers 2 machine.old world.old machine.new world.new) }
 {
     match machine.unbind(world, name) {
         Ok(()) => machine.go(Control::Next),

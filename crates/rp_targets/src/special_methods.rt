@@ -1,7 +1,7 @@
 //! Items of instances that special methods store and delete (Python Language Reference, Special method names).
 #![tactic(auto, using(rp_store::proofs::CallerLemmas::goes_on))]
 
-ghost use Rattle.std.specs.Prelude.{◌≡◌, ◌∷◌, [], OnOk};
+ghost use Rattle.std.specs.Prelude.{◌≡◌, ◌∷◌, ◌+◌, [], OnOk};
 ghost use Rattle.rp_base.specs.declared.word.TheConstants.{DEL_ITEM, SET_ITEM};
 ghost use Rattle.rp_meaning.specs.Frame.{Run};
 ghost use Rattle.rp_meaning.specs.State.{State, done};
@@ -9,6 +9,7 @@ ghost use Rattle.rp_ops.specs.Outcome.{on_value};
 ghost use Rattle.rp_proxy.specs.declared.world.World.{World as TheWorld};
 ghost use Rattle.rp_store.specs.Kept.{IsFit};
 ghost use Rattle.rp_engine.specs.Law.{frame_in, rest_of};
+ghost use Rattle.rp_engine.specs.Loads as loads;
 ghost use Rattle.rp_engine.specs.Ready.{IsReady};
 ghost use Rattle.rp_engine.specs.Rest.{did, rest};
 ghost use Rattle.rp_engine.specs.SpecialSteps.{special_called};
@@ -36,6 +37,7 @@ pub(crate) fn store_by_method<'u>(
         → IsFit w.store.heap machine.old.frame.side o → IsFit w.store.heap machine.old.frame.side key
         → IsFit w.store.heap machine.old.frame.side value
         → IsReady machine.new.units.now machine.new.frame machine.new.values w }
+    ensures less { OnOk result (loads.IsUnder (1 + loads.called) machine.old machine.new) }
 {
     machine.wait_with_three(
         o,
@@ -59,6 +61,7 @@ pub(crate) fn delete_by_method<'u>(
     ensures ready { (w : TheWorld) → IsReady machine.old.units.now machine.old.frame machine.old.values w
         → IsFit w.store.heap machine.old.frame.side o → IsFit w.store.heap machine.old.frame.side key
         → IsReady machine.new.units.now machine.new.frame machine.new.values w }
+    ensures less { OnOk result (loads.IsUnder (1 + loads.called) machine.old machine.new) }
 {
     machine.wait_with_two(
         o,

@@ -1,7 +1,7 @@
 //! Attributes and items as places that are stored to (Python Language Reference, Assignment statements).
 #![tactic(auto, using(rp_store::proofs::CallerLemmas::goes_on))]
 
-ghost use Rattle.std.specs.Prelude.{OnOk};
+ghost use Rattle.std.specs.Prelude.{◌+◌, ◌≤◌, OnOk};
 ghost use Rattle.rp_meaning.specs.Access as access;
 ghost use Rattle.rp_meaning.specs.Statements as stmt_forms;
 ghost use Rattle.rp_proxy.specs.declared.world.World.{World as TheWorld};
@@ -9,6 +9,7 @@ ghost use Rattle.rp_store.specs.Kept.{IsFit};
 ghost use Rattle.rp_store.specs.Shape.{KeepsShape};
 ghost use Rattle.rp_engine.specs.Does as does;
 ghost use Rattle.rp_engine.specs.Law.{Executes, ResumesStmt};
+ghost use Rattle.rp_engine.specs.Loads as loads;
 ghost use Rattle.rp_engine.specs.Ready.{IsReady};
 
 use crate::special_methods::store_by_method;
@@ -36,6 +37,9 @@ pub(crate) fn store_attribute<'u>(
         machine.old world.old machine.new world.new) }
     ensures ready { IsReady machine.new.units.now machine.new.frame machine.new.values world.new }
     ensures shape { KeepsShape world.old.store.heap world.new.store.heap }
+    ensures fewer { world.new.running.meter.left ≤ world.old.running.meter.left }
+    ensures less { OnOk result (loads.Lowers (2 + loads.inside object.now)
+        machine.old world.old machine.new world.new) }
 {
     match machine.leaf(world, object) {
         Ok(Some(o)) => set_attribute(machine, world, o, name, value),
@@ -61,6 +65,8 @@ pub fn after_object<'u>(
     ensures law { OnOk result (ResumesStmt (StmtTask.StoreAttr name) o machine.old world.old machine.new world.new) }
     ensures ready { IsReady machine.new.units.now machine.new.frame machine.new.values world.new }
     ensures shape { KeepsShape world.old.store.heap world.new.store.heap }
+    ensures fewer { world.new.running.meter.left ≤ world.old.running.meter.left }
+    ensures less { OnOk result (loads.Lowers 2 machine.old world.old machine.new world.new) }
 {
     let value = machine.at_hand();
     set_attribute(machine, world, o, name, value)
@@ -82,6 +88,8 @@ pub fn set_attribute<'u>(
         machine.old world.old machine.new world.new) }
     ensures ready { IsReady machine.new.units.now machine.new.frame machine.new.values world.new }
     ensures shape { KeepsShape world.old.store.heap world.new.store.heap }
+    ensures fewer { world.new.running.meter.left ≤ world.old.running.meter.left }
+    ensures less { OnOk result (loads.Lowers 2 machine.old world.old machine.new world.new) }
 {
     match rp_access::set_attribute(machine.alloc, world, &o, name, value) {
         Ok(()) => machine.go(Control::Next),
@@ -107,6 +115,9 @@ pub(crate) fn store_item<'u>(
         machine.old world.old machine.new world.new) }
     ensures ready { IsReady machine.new.units.now machine.new.frame machine.new.values world.new }
     ensures shape { KeepsShape world.old.store.heap world.new.store.heap }
+    ensures fewer { world.new.running.meter.left ≤ world.old.running.meter.left }
+    ensures less { OnOk result (loads.Lowers (2 + loads.called + loads.inside object.now + loads.inside key.now)
+        machine.old world.old machine.new world.new) }
 {
     match machine.leaf(world, object) {
         Ok(Some(o)) => store_key(machine, world, o, key, value),
@@ -136,6 +147,9 @@ pub fn after_container<'u>(
         machine.old world.old machine.new world.new) }
     ensures ready { IsReady machine.new.units.now machine.new.frame machine.new.values world.new }
     ensures shape { KeepsShape world.old.store.heap world.new.store.heap }
+    ensures fewer { world.new.running.meter.left ≤ world.old.running.meter.left }
+    ensures less { OnOk result (loads.Lowers (2 + loads.called + loads.inside key.now)
+        machine.old world.old machine.new world.new) }
 {
     let value = machine.at_hand();
     store_key(machine, world, o, key, value)
@@ -157,6 +171,9 @@ fn store_key<'u>(
         machine.old world.old machine.new world.new) }
     ensures ready { IsReady machine.new.units.now machine.new.frame machine.new.values world.new }
     ensures shape { KeepsShape world.old.store.heap world.new.store.heap }
+    ensures fewer { world.new.running.meter.left ≤ world.old.running.meter.left }
+    ensures less { OnOk result (loads.Lowers (2 + loads.called + loads.inside key.now)
+        machine.old world.old machine.new world.new) }
 {
     match machine.leaf(world, key) {
         Ok(Some(i)) => set_item(machine, world, o, i, value),
@@ -180,6 +197,7 @@ fn wait_for_key<'u>(
         → IsFit w.store.heap machine.old.frame.side o
         → IsFit w.store.heap machine.old.frame.side value
         → IsReady machine.new.units.now machine.new.frame machine.new.values w }
+    ensures less { OnOk result (loads.IsUnder (2 + loads.called + loads.inside key.now) machine.old machine.new) }
 {
     machine.values.push(value)?;
     machine.wait_with(o, Task::Stmt(StmtTask::StoreKey), Control::Expression(key))
@@ -200,6 +218,8 @@ pub fn after_store_key<'u>(
     ensures law { OnOk result (ResumesStmt StmtTask.StoreKey i machine.old world.old machine.new world.new) }
     ensures ready { IsReady machine.new.units.now machine.new.frame machine.new.values world.new }
     ensures shape { KeepsShape world.old.store.heap world.new.store.heap }
+    ensures fewer { world.new.running.meter.left ≤ world.old.running.meter.left }
+    ensures less { OnOk result (loads.Lowers (1 + loads.called) machine.old world.old machine.new world.new) }
 {
     let o = machine.at_hand();
     let value = machine.at_hand();
@@ -225,6 +245,8 @@ pub fn set_item<'u>(
     ensures law { OnOk result (Executes (access.set_item o i value) machine.old world.old machine.new world.new) }
     ensures ready { IsReady machine.new.units.now machine.new.frame machine.new.values world.new }
     ensures shape { KeepsShape world.old.store.heap world.new.store.heap }
+    ensures fewer { world.new.running.meter.left ≤ world.old.running.meter.left }
+    ensures less { OnOk result (loads.Lowers (1 + loads.called) machine.old world.old machine.new world.new) }
 {
     match rp_access::set_item(machine.alloc, world, &o, &i, value) {
         Ok(None) => machine.go(Control::Next),

@@ -1,7 +1,7 @@
 //! Unpacking over targets (Python Language Reference, Assignment statements).
 #![tactic(auto, using(rp_store::proofs::CallerLemmas::goes_on, rp_engine::proofs::AtHand::at_hand))]
 
-ghost use Rattle.std.specs.Prelude.{◌≡◌, ◌∷◌, OnOk, drop, length, suc};
+ghost use Rattle.std.specs.Prelude.{◌≡◌, ◌∷◌, ◌+◌, ◌≤◌, OnOk, drop, length, suc};
 ghost use Rattle.rp_meaning.specs.Frame.{Run};
 ghost use Rattle.rp_meaning.specs.Statements as stmt_forms;
 ghost use Rattle.rp_proxy.specs.declared.world.World.{World as TheWorld};
@@ -10,6 +10,7 @@ ghost use Rattle.rp_store.specs.Shape.{KeepsShape};
 ghost use Rattle.rp_access.specs.Moment.{state_of};
 ghost use Rattle.rp_engine.specs.Does as does;
 ghost use Rattle.rp_engine.specs.Law.{Executes, frame_in, rest_of};
+ghost use Rattle.rp_engine.specs.Loads as loads;
 ghost use Rattle.rp_engine.specs.Ready.{IsReady};
 ghost use Rattle.rp_engine.specs.Rest.{did, rest};
 ghost use Rattle.rp_engine.specs.UnpackingSteps.{each_stored, store_from};
@@ -37,6 +38,7 @@ pub fn assign_target<'u>(
         machine.old world.old machine.new world.new) }
     ensures ready { IsReady machine.new.units.now machine.new.frame machine.new.values world.new }
     ensures shape { KeepsShape world.old.store.heap world.new.store.heap }
+    ensures fewer { world.new.running.meter.left ≤ world.old.running.meter.left }
 {
     match machine.leaf(world, value) {
         Ok(Some(v)) => store_target(machine, world, target, v),
@@ -61,6 +63,8 @@ pub fn store_target<'u>(
     ensures law { OnOk result (Executes (does.target target.now value) machine.old world.old machine.new world.new) }
     ensures ready { IsReady machine.new.units.now machine.new.frame machine.new.values world.new }
     ensures shape { KeepsShape world.old.store.heap world.new.store.heap }
+    ensures fewer { world.new.running.meter.left ≤ world.old.running.meter.left }
+    ensures less { OnOk result (loads.Lowers (loads.target target.now) machine.old world.old machine.new world.new) }
 {
     match target {
         Target::Place(place) => store(machine, world, place, value),
@@ -82,6 +86,9 @@ fn unpack<'u>(
         machine.old world.old machine.new world.new) }
     ensures ready { IsReady machine.new.units.now machine.new.frame machine.new.values world.new }
     ensures shape { KeepsShape world.old.store.heap world.new.store.heap }
+    ensures fewer { world.new.running.meter.left ≤ world.old.running.meter.left }
+    ensures less { OnOk result (loads.Lowers (3 + loads.targets targets.now)
+        machine.old world.old machine.new world.new) }
 {
     match rp_access::unpack(
         machine.alloc,
@@ -108,6 +115,7 @@ fn unpacked<'u>(
     ensures ready { (w : TheWorld) → IsReady machine.old.units.now machine.old.frame machine.old.values w
         → AreFit w.store.heap machine.old.frame.side elements.items
         → IsReady machine.new.units.now machine.new.frame machine.new.values w }
+    ensures less { OnOk result (loads.IsUnder (3 + loads.targets targets.now) machine.old machine.new) }
 {
     machine.values.put(elements)?;
     machine.wait(Task::Flow(FlowTask::StoreEach(targets)), Control::Next)
@@ -126,6 +134,9 @@ pub fn store_each<'u>(
         (store_from (does.targets targets.now) machine.old.values (frame_in base machine.old) (state_of world.old)))) }
     ensures ready { IsReady machine.new.units.now machine.new.frame machine.new.values world.new }
     ensures shape { KeepsShape world.old.store.heap world.new.store.heap }
+    ensures fewer { world.new.running.meter.left ≤ world.old.running.meter.left }
+    ensures less { OnOk result (loads.Lowers (2 + loads.targets targets.now)
+        machine.old world.old machine.new world.new) }
 {
     match targets {
         [] => machine.go(Control::Next),
@@ -148,6 +159,9 @@ fn store_element<'u>(
         (frame_in base machine.old) (state_of world.old)))) }
     ensures ready { IsReady machine.new.units.now machine.new.frame machine.new.values world.new }
     ensures shape { KeepsShape world.old.store.heap world.new.store.heap }
+    ensures fewer { world.new.running.meter.left ≤ world.old.running.meter.left }
+    ensures less { OnOk result (loads.Lowers (suc (loads.target target.now + loads.targets behind.now))
+        machine.old world.old machine.new world.new) }
 {
     let element = machine.at_hand();
     machine.tasks.push(Task::Flow(FlowTask::StoreEach(behind)))?;

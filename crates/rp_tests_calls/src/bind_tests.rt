@@ -3,11 +3,12 @@
 ghost use Rattle.std.specs.Prelude.{IfOk};
 ghost use Rattle.rp_store.specs.Kept.{IsScopeOf};
 
-use rp_base::{Line, Memory, Names, Oid, OpEnd, Rock, Seed, Side, Text, Value, identifier};
+use rp_base::{Line, Memory, Names, Oid, OpEnd, Rock, Side, Text, Value, identifier};
 use rp_calls::bind;
 use rp_dict::Dict;
 use rp_store::{Key, Object, Store};
-use rp_tests_parts::{are_named_sound, are_sound, is_function};
+use rp_tests_cases::{Question, all_answer, number, part, seed};
+use rp_tests_parts::{Fault, are_named_sound, are_sound, is_function, tell_fault};
 use rp_tree::{Const, Expr, ExprForm, Named, Params};
 use std::alloc::Global;
 use std::test::Fail;
@@ -15,101 +16,97 @@ use std::test::Fail;
 /// The parameters of a function, and the arguments of a call (`-` where there are none); then the values of the
 /// parameters, `none` where there is no parameter, or the exception. They are those of CPython, where a name that is
 /// given twice comes by two `**` arguments.
-const CASES: &str = "
-    - | - => none
-    - | 1 => TypeError arguments
-    - | a=1 => TypeError arguments
-    a | - => TypeError arguments
-    a | 1 => 1
-    a | 1 2 => TypeError arguments
-    a | a=1 => 1
-    a | 1 a=2 => TypeError arguments
-    a | b=1 => TypeError arguments
-    a | a=1 a=2 => TypeError arguments
-    a | a=1 b=2 => TypeError arguments
-    a b c | 1 2 3 => 1 2 3
-    a b c | 1 2 => TypeError arguments
-    a b c | 1 2 c=3 => 1 2 3
-    a b c | c=1 b=2 a=3 => 3 2 1
-    a b c | 1 a=2 c=3 => TypeError arguments
-    a b c | 1 2 3 4 => TypeError arguments
-    a b c | 1 2 3 c=4 => TypeError arguments
-    a b c | a=1 c=3 => TypeError arguments
-    a b c | 1 b=2 c=3 d=4 => TypeError arguments
-    a b c | 1 b=2 b=3 c=4 => TypeError arguments
-    a b=7 | - => TypeError arguments
-    a b=7 | 1 => 1 7
-    a b=7 | 1 2 => 1 2
-    a b=7 | b=2 => TypeError arguments
-    a b=7 | a=1 => 1 7
-    a b=7 | a=1 b=2 => 1 2
-    a b=7 | b=1 a=2 => 2 1
-    a b=7 | 1 b=2 => 1 2
-    a b=7 | 1 2 b=3 => TypeError arguments
-    a b=7 | 1 2 3 => TypeError arguments
-    a b=7 | 1 c=2 => TypeError arguments
-    a=7 b=8 c=9 | - => 7 8 9
-    a=7 b=8 c=9 | 1 => 1 8 9
-    a=7 b=8 c=9 | b=2 => 7 2 9
-    a=7 b=8 c=9 | c=1 a=3 => 3 8 1
-    a=7 b=8 c=9 | 1 2 3 => 1 2 3
-    a=7 b=8 c=9 | 1 2 3 4 => TypeError arguments
-    a=7 b=8 c=9 | 1 c=2 a=3 => TypeError arguments
-    *r | - => ()
-    *r | 1 => (1,)
-    *r | 1 2 3 => (1,2,3,)
-    *r | a=1 => TypeError arguments
-    *r | r=1 => TypeError arguments
-    a *r | - => TypeError arguments
-    a *r | 1 => 1 ()
-    a *r | 1 2 3 => 1 (2,3,)
-    a *r | a=1 => 1 ()
-    a *r | 1 a=2 => TypeError arguments
-    a *r | 1 2 a=3 => TypeError arguments
-    **k | - => {}
-    **k | a=1 => {a:1,}
-    **k | b=1 a=2 => {b:1,a:2,}
-    **k | 1 => TypeError arguments
-    **k | a=1 a=2 => TypeError arguments
-    **k | k=1 => {k:1,}
-    a **k | 1 => 1 {}
-    a **k | a=1 => 1 {}
-    a **k | 1 b=2 => 1 {b:2,}
-    a **k | b=2 a=1 => 1 {b:2,}
-    a **k | 1 a=2 => TypeError arguments
-    a **k | b=1 => TypeError arguments
-    a **k | d=1 a=2 c=3 b=4 => 2 {d:1,c:3,b:4,}
-    a **k | 1 b=2 b=3 => TypeError arguments
-    a **k | a=1 a=2 => TypeError arguments
-    a b=7 *r **k | - => TypeError arguments
-    a b=7 *r **k | 1 => 1 7 () {}
-    a b=7 *r **k | 1 2 3 4 => 1 2 (3,4,) {}
-    a b=7 *r **k | 1 c=2 => 1 7 () {c:2,}
-    a b=7 *r **k | 1 2 3 d=4 c=5 => 1 2 (3,) {d:4,c:5,}
-    a b=7 *r **k | b=1 => TypeError arguments
-    a b=7 *r **k | b=1 a=2 r=3 => 2 1 () {r:3,}
-    a b=7 *r **k | 1 2 3 b=4 => TypeError arguments
-    a b=7 *r **k | 1 r=2 k=3 => 1 7 () {r:2,k:3,}
-    a b=7 *r **k | 1 2 3 c=4 c=5 => TypeError arguments
-    a b c d e f g h i | i=9 c=3 a=1 h=8 e=5 b=2 g=7 d=4 f=6 => 1 2 3 4 5 6 7 8 9
-    a b c d e f g h i | a=1 b=2 c=3 d=4 e=5 f=6 g=7 h=8 i=9 e=1 => TypeError arguments
-    a b c d e f g h i=6 | x=9 a=1 b=2 c=3 d=4 e=5 f=6 g=7 h=8 => TypeError arguments
-    a b c d e f g h i=6 **k | x=9 a=1 b=2 c=3 d=4 e=5 f=6 g=7 h=8 => 1 2 3 4 5 6 7 8 6 {x:9,}
-    a b c d e f g h i | 1 a=1 b=2 c=3 d=4 e=5 f=6 g=7 h=8 i=9 => TypeError arguments
-    a b c d e f g h i=6 **k | x=9 a=1 b=2 c=3 d=4 e=5 f=6 g=7 h=8 x=2 => TypeError arguments
-";
+const CASES: &str = r#"- => - => none
+- => 1 => TypeError arguments
+- => a=1 => TypeError arguments
+a => - => TypeError arguments
+a => 1 => 1
+a => 1 2 => TypeError arguments
+a => a=1 => 1
+a => 1 a=2 => TypeError arguments
+a => b=1 => TypeError arguments
+a => a=1 a=2 => TypeError arguments
+a => a=1 b=2 => TypeError arguments
+a b c => 1 2 3 => 1 2 3
+a b c => 1 2 => TypeError arguments
+a b c => 1 2 c=3 => 1 2 3
+a b c => c=1 b=2 a=3 => 3 2 1
+a b c => 1 a=2 c=3 => TypeError arguments
+a b c => 1 2 3 4 => TypeError arguments
+a b c => 1 2 3 c=4 => TypeError arguments
+a b c => a=1 c=3 => TypeError arguments
+a b c => 1 b=2 c=3 d=4 => TypeError arguments
+a b c => 1 b=2 b=3 c=4 => TypeError arguments
+a b=7 => - => TypeError arguments
+a b=7 => 1 => 1 7
+a b=7 => 1 2 => 1 2
+a b=7 => b=2 => TypeError arguments
+a b=7 => a=1 => 1 7
+a b=7 => a=1 b=2 => 1 2
+a b=7 => b=1 a=2 => 2 1
+a b=7 => 1 b=2 => 1 2
+a b=7 => 1 2 b=3 => TypeError arguments
+a b=7 => 1 2 3 => TypeError arguments
+a b=7 => 1 c=2 => TypeError arguments
+a=7 b=8 c=9 => - => 7 8 9
+a=7 b=8 c=9 => 1 => 1 8 9
+a=7 b=8 c=9 => b=2 => 7 2 9
+a=7 b=8 c=9 => c=1 a=3 => 3 8 1
+a=7 b=8 c=9 => 1 2 3 => 1 2 3
+a=7 b=8 c=9 => 1 2 3 4 => TypeError arguments
+a=7 b=8 c=9 => 1 c=2 a=3 => TypeError arguments
+*r => - => ()
+*r => 1 => (1,)
+*r => 1 2 3 => (1,2,3,)
+*r => a=1 => TypeError arguments
+*r => r=1 => TypeError arguments
+a *r => - => TypeError arguments
+a *r => 1 => 1 ()
+a *r => 1 2 3 => 1 (2,3,)
+a *r => a=1 => 1 ()
+a *r => 1 a=2 => TypeError arguments
+a *r => 1 2 a=3 => TypeError arguments
+**k => - => {}
+**k => a=1 => {a:1,}
+**k => b=1 a=2 => {b:1,a:2,}
+**k => 1 => TypeError arguments
+**k => a=1 a=2 => TypeError arguments
+**k => k=1 => {k:1,}
+a **k => 1 => 1 {}
+a **k => a=1 => 1 {}
+a **k => 1 b=2 => 1 {b:2,}
+a **k => b=2 a=1 => 1 {b:2,}
+a **k => 1 a=2 => TypeError arguments
+a **k => b=1 => TypeError arguments
+a **k => d=1 a=2 c=3 b=4 => 2 {d:1,c:3,b:4,}
+a **k => 1 b=2 b=3 => TypeError arguments
+a **k => a=1 a=2 => TypeError arguments
+a b=7 *r **k => - => TypeError arguments
+a b=7 *r **k => 1 => 1 7 () {}
+a b=7 *r **k => 1 2 3 4 => 1 2 (3,4,) {}
+a b=7 *r **k => 1 c=2 => 1 7 () {c:2,}
+a b=7 *r **k => 1 2 3 d=4 c=5 => 1 2 (3,) {d:4,c:5,}
+a b=7 *r **k => b=1 => TypeError arguments
+a b=7 *r **k => b=1 a=2 r=3 => 2 1 () {r:3,}
+a b=7 *r **k => 1 2 3 b=4 => TypeError arguments
+a b=7 *r **k => 1 r=2 k=3 => 1 7 () {r:2,k:3,}
+a b=7 *r **k => 1 2 3 c=4 c=5 => TypeError arguments
+a b c d e f g h i => i=9 c=3 a=1 h=8 e=5 b=2 g=7 d=4 f=6 => 1 2 3 4 5 6 7 8 9
+a b c d e f g h i => a=1 b=2 c=3 d=4 e=5 f=6 g=7 h=8 i=9 e=1 => TypeError arguments
+a b c d e f g h i=6 => x=9 a=1 b=2 c=3 d=4 e=5 f=6 g=7 h=8 => TypeError arguments
+a b c d e f g h i=6 **k => x=9 a=1 b=2 c=3 d=4 e=5 f=6 g=7 h=8 => 1 2 3 4 5 6 7 8 6 {x:9,}
+a b c d e f g h i => 1 a=1 b=2 c=3 d=4 e=5 f=6 g=7 h=8 i=9 => TypeError arguments
+a b c d e f g h i=6 **k => x=9 a=1 b=2 c=3 d=4 e=5 f=6 g=7 h=8 x=2 => TypeError arguments"#;
 
-/// The limit of cells before a case; what a refusal leaves is told behind it: the cells used, and the objects.
-const CELLS: &str = "
-    0 a b=7 | 1 => 1 7 ~ 0 2
-    1 a *r **k | 1 2 b=3 => stop ~ 0 2
-    2 a *r **k | 1 2 b=3 => stop ~ 2 3
-    3 a *r **k | 1 2 b=3 => stop ~ 2 3
-    4 a *r **k | 1 2 b=3 => 1 (2,) {b:3,} ~ 4 4
-    1 *r **k | - => stop ~ 1 3
-    2 *r **k | - => () {} ~ 2 4
-    9 a *r **k | 1 2 a=3 => TypeError arguments ~ 0 2
-";
+/// The limit of cells before the same, and behind it what is left: the cells used, and the objects.
+const CELLS: &str = r#"0 => a b=7 => 1 => 1 7; 0 2
+1 => a *r **k => 1 2 b=3 => stop; 0 2
+2 => a *r **k => 1 2 b=3 => stop; 2 3
+3 => a *r **k => 1 2 b=3 => stop; 2 3
+4 => a *r **k => 1 2 b=3 => 1 (2,) {b:3,}; 4 4
+1 => *r **k => - => stop; 1 3
+2 => *r **k => - => () {}; 2 4
+9 => a *r **k => 1 2 a=3 => TypeError arguments; 0 2"#;
 
 const DIGITS: [(&str, i64); 9] = [
     ("1", 1),
@@ -126,7 +123,7 @@ const DIGITS: [(&str, i64); 9] = [
 /// The side whose function is called.
 const SIDE: Side = Side(1);
 
-fn number(word: &str) -> i64 {
+fn digit_of(word: &str) -> i64 {
     for (digit, number) in DIGITS {
         if digit == word {
             return number;
@@ -136,12 +133,12 @@ fn number(word: &str) -> i64 {
 }
 
 fn value(word: &str) -> Value {
-    Value::Rock(Rock::Int(number(word)))
+    Value::Rock(Rock::Int(digit_of(word)))
 }
 
-fn named(alloc: Global, names: &mut Names, word: &str) -> Result<Named, Memory> {
+fn named(alloc: Global, names: &mut Names, word: &str) -> Result<Named, Fault> {
     let Some(form) = identifier(alloc, word)? else {
-        return Err(Memory);
+        return Err(Fault::Unread);
     };
     let name = names.intern(form.as_str())?;
     Ok(Named {
@@ -159,7 +156,7 @@ fn none_expression(alloc: Global) -> Result<Expr, Memory> {
 }
 
 /// The parameters that the words name.
-fn parameters(alloc: Global, names: &mut Names, words: &str) -> Result<Params, Memory> {
+fn parameters(alloc: Global, names: &mut Names, words: &str) -> Result<Params, Fault> {
     let mut plain = Vec::new(alloc);
     let mut list = None;
     let mut dict = None;
@@ -291,12 +288,12 @@ fn show(
 }
 
 /// A function with these defaults, in a scope of its own.
-fn function(alloc: Global, store: &mut Store, defaults: Vec<Value>) -> Result<Oid, Memory> {
+fn function(alloc: Global, store: &mut Store, defaults: Vec<Value>) -> Result<Oid, Fault> {
     let scope = scope(alloc, store)?;
     if !are_sound(store, &defaults) {
-        return Err(Memory);
+        return Err(Fault::Unsound);
     }
-    store.add(
+    let at = store.add(
         SIDE,
         Object::Function {
             name: None,
@@ -305,7 +302,8 @@ fn function(alloc: Global, store: &mut Store, defaults: Vec<Value>) -> Result<Oi
             scope,
             defaults,
         },
-    )
+    )?;
+    Ok(at)
 }
 
 /// An empty scope.
@@ -323,8 +321,8 @@ fn scope(alloc: Global, store: &mut Store) -> Result<Oid, Memory>
 }
 
 /// What a call answers.
-fn called(alloc: Global, store: &mut Store, params: &str, args: &str) -> Result<String, Memory> {
-    let mut names = Names::new(alloc, Seed::from_bytes([7; 16]))?;
+fn called(alloc: Global, store: &mut Store, params: &str, args: &str) -> Result<String, Fault> {
+    let mut names = Names::new(alloc, seed())?;
     let defaults = second(alloc, values_by_name(alloc, params)?)?;
     let params = parameters(alloc, &mut names, params)?;
     let function = function(alloc, store, defaults)?;
@@ -334,7 +332,7 @@ fn called(alloc: Global, store: &mut Store, params: &str, args: &str) -> Result<
         || !are_sound(store, &positional)
         || !are_named_sound(store, &named)
     {
-        return Err(Memory);
+        return Err(Fault::Unsound);
     }
     let end = bind(
         alloc,
@@ -346,58 +344,50 @@ fn called(alloc: Global, store: &mut Store, params: &str, args: &str) -> Result<
         &positional,
         &named,
     );
-    show(alloc, store, end)
+    Ok(show(alloc, store, end)?)
 }
 
-/// Whether a case, `PARAMS | ARGS => WANTED`, answers what is wanted.
-fn answers(alloc: Global, case: &str) -> Result<bool, Memory> {
-    let Some((call, wanted)) = case.split_once(" => ") else {
-        return Ok(case.is_empty());
-    };
-    let Some((params, args)) = call.split_once(" | ") else {
-        return Ok(false);
-    };
-    let mut store = Store::new(alloc, 99, Seed::from_bytes([7; 16]));
-    let told = called(alloc, &mut store, params, args)?;
-    Ok(told.as_str() == wanted)
+/// What a call answers, or why the case has no answer.
+fn told(alloc: Global, store: &mut Store, params: &str, args: &str) -> Result<String, Memory> {
+    match called(alloc, store, params, args) {
+        Ok(told) => Ok(told),
+        Err(fault) => {
+            let mut told = String::new(alloc);
+            tell_fault(&mut told, &fault)?;
+            Ok(told)
+        }
+    }
 }
 
-/// Whether a case, `LIMIT PARAMS | ARGS => WANTED ~ USED OBJECTS`, answers and leaves what is wanted.
-fn costs(alloc: Global, case: &str) -> Result<bool, Memory> {
-    let Some((call, wanted)) = case.split_once(" => ") else {
-        return Ok(case.is_empty());
-    };
-    let Some((limited, args)) = call.split_once(" | ") else {
-        return Ok(false);
-    };
-    let Some((limit, params)) = limited.split_once(' ') else {
-        return Ok(false);
-    };
-    let limit = u64::try_from(number(limit)).unwrap_or(0);
-    let mut store = Store::new(alloc, limit, Seed::from_bytes([7; 16]));
-    let told = called(alloc, &mut store, params, args)?;
-    let used = store.used();
-    let objects = store.len();
-    let told = format!(in alloc; "{told} ~ {used} {objects}")?;
-    Ok(told.as_str() == wanted)
+/// What a call with the arguments in the second part answers, where the first part is the parameters.
+struct Bound;
+
+impl Question for Bound {
+    fn answer(&self, alloc: Global, parts: &[String]) -> Result<String, Fail> {
+        let mut store = Store::new(alloc, 99, seed());
+        Ok(told(alloc, &mut store, part(parts, 0), part(parts, 1))?)
+    }
+}
+
+/// The same behind the limit of cells, and what it leaves: the cells used, and the objects.
+struct BoundWithin;
+
+impl Question for BoundWithin {
+    fn answer(&self, alloc: Global, parts: &[String]) -> Result<String, Fail> {
+        let mut store = Store::new(alloc, number(parts, 0) as u64, seed());
+        let told = told(alloc, &mut store, part(parts, 1), part(parts, 2))?;
+        let used = store.used();
+        let objects = store.len();
+        Ok(format!(in alloc; "{told}; {used} {objects}")?)
+    }
 }
 
 #[test]
 fn arguments_are_bound_as_in_python(rt: HostRuntime) -> Result<(), Fail> {
-    let alloc = rt.alloc();
-    for case in CASES.lines() {
-        let case = case.trim();
-        assert!(rt; answers(alloc, case)?, "{case}");
-    }
-    Ok(())
+    all_answer(rt.alloc(), &Bound, CASES)
 }
 
 #[test]
 fn tuple_and_dict_cost_cells(rt: HostRuntime) -> Result<(), Fail> {
-    let alloc = rt.alloc();
-    for case in CELLS.lines() {
-        let case = case.trim();
-        assert!(rt; costs(alloc, case)?, "{case}");
-    }
-    Ok(())
+    all_answer(rt.alloc(), &BoundWithin, CELLS)
 }

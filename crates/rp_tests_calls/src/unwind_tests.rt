@@ -1,6 +1,7 @@
 //! Which open part takes what leaves.
 
 use rp_base::{Kind, Memory, Raised, Rock, Text, Value};
+use rp_tests_cases::{Question, all_answer, part};
 use rp_unwind::{Handler, Handlers, Leaving, Part};
 use std::alloc::Global;
 use std::test::Fail;
@@ -8,36 +9,34 @@ use std::test::Fail;
 /// The open parts from the outermost on (E is `except`, F is `finally`, L is a loop), each at the number of its letter
 /// from 0, and what leaves; then the part that takes it, or `-`, and the parts that are left open, from the innermost
 /// on.
-const CASES: &str = "
-    E raise => E0
-    F raise => F0
-    L raise => -
-    LFE raise => E2 FL
-    EFL raise => F1 E
-    ELL raise => E0
-    LLL raise => -
-    EE raise => E1 E
-    E return => -
-    F return => F0
-    L return => -
-    FE return => F0
-    FLE return => F0
-    LFEL return => F1 L
-    FF return => F1 F
-    E break => -
-    F break => F0
-    L break => L0
-    LE break => L0
-    LFE break => F1 L
-    LL break => L1 L
-    FLE break => L1 F
-    E continue => -
-    F continue => F0
-    L continue => L0
-    LE continue => L0
-    LFE continue => F1 L
-    LLEE continue => L1 L
-";
+const CASES: &str = r#"E => raise => E0
+F => raise => F0
+L => raise => -
+LFE => raise => E2 FL
+EFL => raise => F1 E
+ELL => raise => E0
+LLL => raise => -
+EE => raise => E1 E
+E => return => -
+F => return => F0
+L => return => -
+FE => return => F0
+FLE => return => F0
+LFEL => return => F1 L
+FF => return => F1 F
+E => break => -
+F => break => F0
+L => break => L0
+LE => break => L0
+LFE => break => F1 L
+LL => break => L1 L
+FLE => break => L1 F
+E => continue => -
+F => continue => F0
+L => continue => L0
+LE => continue => L0
+LFE => continue => F1 L
+LLEE => continue => L1 L"#;
 
 fn part_of(letter: char) -> Part {
     match letter {
@@ -105,26 +104,19 @@ fn told(alloc: Global, letters: &str, word: &str) -> Result<String, Memory> {
     Ok(format!(in alloc; "{letter}{at} {left}")?)
 }
 
-/// Whether a case, `PARTS WORD => WANTED`, answers what is wanted.
-fn answers(alloc: Global, case: &str) -> Result<bool, Memory> {
-    let Some((given, wanted)) = case.split_once(" => ") else {
-        return Ok(case.is_empty());
-    };
-    let Some((letters, word)) = given.split_once(' ') else {
-        return Ok(false);
-    };
-    let told = told(alloc, letters, word)?;
-    Ok(told.as_str().trim_end() == wanted)
+/// What takes what leaves, the second part, where the first part is open.
+struct Taken;
+
+impl Question for Taken {
+    fn answer(&self, alloc: Global, parts: &[String]) -> Result<String, Fail> {
+        let told = told(alloc, part(parts, 0), part(parts, 1))?;
+        Ok(String::from_str(alloc, told.as_str().trim_end())?)
+    }
 }
 
 #[test]
 fn innermost_part_that_takes_what_leaves_is_next(rt: HostRuntime) -> Result<(), Fail> {
-    let alloc = rt.alloc();
-    for case in CASES.lines() {
-        let case = case.trim();
-        assert!(rt; answers(alloc, case)?, "{case}");
-    }
-    Ok(())
+    all_answer(rt.alloc(), &Taken, CASES)
 }
 
 #[test]

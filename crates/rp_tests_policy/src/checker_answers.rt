@@ -1,9 +1,7 @@
 //! The row of a class of a declaration file for a name, in words.
 
-ghost use Rattle.std.specs.Prelude.{ℕ, List};
-ghost use Rattle.rp_checker.specs.Answers.{IsOpHeld};
-ghost use Rattle.rp_decl.specs.Places.{IsHeld};
-ghost use Rattle.rp_trail.specs.View.{op_name};
+ghost use Rattle.std.specs.Prelude.{ℕ, Bool, List};
+ghost use Rattle.rp_trail.specs.View.{IsToldHeld, op_name};
 
 use crate::chains::chain_file;
 use crate::declaration_answers::read;
@@ -57,8 +55,8 @@ pub fn tag_of(class: &str, name: Name) -> ClassTag {
 
 /// The operation of a word on a name.
 pub fn op_of(kind: &str, name: Name) -> Op
-    ensures held { (names : List (List ℕ)) → IsHeld names name → IsOpHeld names result }
-    ensures name { (names : List (List ℕ)) → IsHeld names name → IsHeld names (op_name result) }
+    ensures { (names : List (List ℕ)) (named : Bool) → IsToldHeld names named name
+        → IsToldHeld names named (op_name result) }
 {
     if kind == "get" {
         Op::Get(name)

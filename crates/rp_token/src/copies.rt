@@ -17,10 +17,10 @@ macro_rules! kind_like {
 }
 
 impl Token {
-    /// An equal token, which shares the text that it has and allocates nothing.
+    /// An equal token, which shares the text that it has.
     ///
     /// # Errors
-    /// `Memory` where the count of the owners of its text is full.
+    /// `Memory` where a growth was refused.
     pub fn copy(&self) -> Result<Token, Memory>
         ensures { IfOk result (λ t. t ≡ self.now) }
     {

@@ -160,6 +160,9 @@ fn mark_at(place: usize) -> (&'static str, TokenKind)
     ensures spelled { result.0.now ≡ slice_index_or marks place [] }
     ensures kind { (names : List (List ℕ)) → form_view names result.1 ≡ mark (slice_index_or marks place []) }
 {
+    if place > 28 {
+        return sole_mark_at(place);
+    }
     match place {
         0 => ("**=", TokenKind::DoubleStarEqual),
         1 => ("**", TokenKind::DoubleStar),
@@ -189,7 +192,18 @@ fn mark_at(place: usize) -> (&'static str, TokenKind)
         25 => ("|=", TokenKind::VBarEqual),
         26 => ("|", TokenKind::VBar),
         27 => ("^=", TokenKind::CircumflexEqual),
-        28 => ("^", TokenKind::Circumflex),
+        _ => ("^", TokenKind::Circumflex),
+    }
+}
+
+/// The same of the marks that share their first character with no other.
+fn sole_mark_at(place: usize) -> (&'static str, TokenKind)
+    requires behind { 28 < place }
+    requires within { place < length marks }
+    ensures spelled { result.0.now ≡ slice_index_or marks place [] }
+    ensures kind { (names : List (List ℕ)) → form_view names result.1 ≡ mark (slice_index_or marks place []) }
+{
+    match place {
         29 => ("~", TokenKind::Tilde),
         30 => ("(", TokenKind::LeftParen),
         31 => (")", TokenKind::RightParen),

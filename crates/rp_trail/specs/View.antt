@@ -1,6 +1,6 @@
 -- The decisions as the program keeps them: names by their places among the program's names, and permissions by their places in
 -- the declarations.
-use Rattle.std.specs.Prelude.{ℕ, ◌<◌, List, length, map, codes, Option, Some, None}
+use Rattle.std.specs.Prelude.{ℕ, ◌<◌, nat_lt, Bool, true, false, if◌then◌else◌, List, [], length, map, codes, Option, Some, None}
 use Rattle.rp_base.specs.declared.value.ClassTag.{ClassTag}
 use Rattle.rp_base.specs.declared.value.ClassTag.TheVariants as tag
 use Rattle.rp_base.specs.declared.value.Name.{Name}
@@ -24,6 +24,14 @@ op_word (Set name) = codes "set"
 abbrev pub op_name : Op → Name
 op_name (Get name) = name
 op_name (Set name) = name
+
+-- the name of the operation is one of these
+abbrev pub is_named : List (List ℕ) → Op → Bool
+is_named names op = nat_lt (op_name op).0 (length names)
+
+-- the word of a name, empty where it is told to be none of the program's
+abbrev pub told_name : List (List ℕ) → Bool → Name → List ℕ
+told_name names named name = if named then name_text names name else []
 
 -- the word for a class: its kind, its name where it is declared, and else `instance`
 abbrev pub class_text : List (List ℕ) → ClassTag → List ℕ
@@ -54,7 +62,7 @@ entry_view names permissions e = record {
   session = e.session;
   op = op_word e.op;
   class = class_text names e.class;
-  name = name_text names (op_name e.op);
+  name = told_name names e.named (op_name e.op);
   verdict = verdict_view permissions e.verdict;
 }
 
@@ -79,8 +87,13 @@ IsVerdictDeclared permissions (Allowed r) = IsRowDeclared permissions r
 IsVerdictDeclared permissions (Denied permission) = IsDeclared permissions permission
 IsVerdictDeclared permissions Forbidden = Unit {0}
 
+-- the name is one of these, unless it is told to be none of the program's
+abbrev pub IsToldHeld : List (List ℕ) → Bool → Name → Type 0
+IsToldHeld names true name = IsHeld names name
+IsToldHeld names false name = Unit {0}
+
 -- the names and the permission of an entry are among these
 pub record IsEntryHeld (names permissions : List (List ℕ)) (e : Placed) : Type 0 where
-  pub name : IsHeld names (op_name e.op)
+  pub name : IsToldHeld names e.named (op_name e.op)
   pub class : IsClassHeld names e.class
   pub permission : IsVerdictDeclared permissions e.verdict

@@ -19,6 +19,8 @@ pub enum Verdict {
 pub struct Entry {
     /// The number of the session that ran, from 1.
     pub session: u32,
+    /// Whether what was asked for has a name of the program; the word of another name is empty.
+    pub named: bool,
     /// What was asked for.
     pub op: Op,
     /// The class of the object that it was asked of.

@@ -5,7 +5,8 @@ ghost use Rattle.std.specs.Fmt.{decimal};
 ghost use Rattle.rp_decl.specs.Places.{IsHeld};
 ghost use Rattle.rp_decl.specs.View.{name_text, perm_text};
 ghost use Rattle.rp_trail.specs.Line.{reason};
-ghost use Rattle.rp_trail.specs.View.{IsClassHeld, IsRowDeclared, class_text, op_name, op_word, row_permission};
+ghost use Rattle.rp_trail.specs.View.{IsClassHeld, IsRowDeclared, IsToldHeld, class_text, op_name, op_word};
+ghost use Rattle.rp_trail.specs.View.{row_permission, told_name};
 
 use crate::entry::Entry;
 use rp_base::{ClassTag, Memory, Name, Names, Op};
@@ -28,17 +29,17 @@ pub fn add_operation(
     names: &Names,
 ) -> Result<(), Memory>
     requires class { IsClassHeld names.now entry.now.class }
-    requires name { IsHeld names.now (op_name entry.now.op) }
+    requires name { IsToldHeld names.now entry.now.named (op_name entry.now.op) }
     ensures { OnOk result (chars (string_bytes line.new)
         ≡ chars (string_bytes line.old) ++
         (32 ∷ chars verdict.now ++ 32 ∷ op_word entry.now.op ++ 32 ∷ class_text names.now entry.now.class ++ 46
-        ∷ name_text names.now (op_name entry.now.op))) }
+        ∷ told_name names.now entry.now.named (op_name entry.now.op))) }
 {
     add_word(line, verdict)?;
     add_word(line, word_of(entry.op))?;
     add_word(line, class_text(entry.class, names))?;
     add(line, ".")?;
-    add(line, name_text(name_of(entry.op), names))
+    add(line, told_name(entry.named, name_of(entry.op), names))
 }
 
 /// Adds a blank and a word.
@@ -75,6 +76,14 @@ fn name_of(op: Op) -> Name
     match op {
         Op::Get(name) | Op::Set(name) => name,
     }
+}
+
+/// The text of a name, empty where it is none of the program's.
+fn told_name(named: bool, name: Name, names: &Names) -> &str
+    requires { IsToldHeld names.now named name }
+    ensures { chars result.now ≡ told_name names.now named name }
+{
+    if named { name_text(name, names) } else { "" }
 }
 
 /// The text of a name.

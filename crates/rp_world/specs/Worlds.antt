@@ -56,8 +56,7 @@ abbrev pub ComesTo : List Name → Oid → ℕ → World → Result sessions.Wor
 ComesTo locals globals cells w result =
     (s : State) → IsMomentOf w s → loaded cells (map (exposed_value locals globals s) s.declarations.expose) s ≡ result
 
--- What loading comes to where there is no world. A machine that made all the steps that it counts, and want of memory,
--- say nothing.
+-- What loading comes to where there is no world. A machine whose count is full, and want of memory, say nothing.
 abbrev pub Refuses : NoWorld → (Result sessions.World Refused → Type 0) → Type 0
 Refuses (Raised r) comes = comes (Err (module_ended (raised r)))
 Refuses StopSteps comes = comes (Err (module_ended no_step))

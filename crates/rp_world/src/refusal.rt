@@ -13,7 +13,7 @@ pub enum NoWorld {
     StopCells,
     /// An exposed name has no value among the globals of the module: the least in byte order.
     Unbound(Text),
-    /// The machine of the module has made 2^64 - 1 steps.
+    /// A count of the machine of the module is full: of the parts of one form.
     TooLong,
     /// A growth was refused.
     Memory,

@@ -9,4 +9,4 @@ pub returns-clause-law : goal.returns-clause-law
 returns-clause-law c =
     Comes-same c.compare.result (state_of c.compare.new.world) _ _
     (order_plain c.args.op c.args.a.now c.args.b.now (state_of c.args.world.now) (state_of c.ask.new.world) (state_of c.ask-2.new.world) _ _
-    c.comparison_name.ensures.name (c.comparison_name-2.ensures.name ∙ ap comparison_name c.mirrored.ensures) c.in_ok-ask.ensures.law c.in_ok-ask-2.ensures.law) c.compare.ensures.law
+    c.comparison_name.ensures (c.comparison_name-2.ensures ∙ ap comparison_name c.mirrored.ensures) c.in_ok-ask.ensures.law c.in_ok-ask-2.ensures.law) c.compare.ensures.law

@@ -16,6 +16,7 @@ loop-value-preserved c = record {
       (all_asked c.args.name c.args.values.now (state_of c.args.world.now)) (state_of c.loop-value.world) (state_of c.ask.new.world) c.loop-value.invariant.same c.in_ok-ask.ensures.law;
   faithful = c.ask.ensures.faithful;
   shape = KeepsShape-trans c.args.world.now.store.heap c.loop-value.world.store.heap c.ask.new.world.store.heap c.loop-value.invariant.shape c.ask.ensures.shape;
+  fewer = omega (arith, c.loop-value.invariant.fewer, c.ask.ensures.fewer);
 }
 
 pub returns-in_err-ask-clause-law : goal.returns-in_err-ask-clause-law

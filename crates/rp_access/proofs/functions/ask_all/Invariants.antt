@@ -1,4 +1,4 @@
-use Rattle.std.proofs.Common.{◌≡◌, drop}
+use Rattle.std.proofs.Common.{◌≡◌, ◌≤◌, drop}
 use Rattle.rp_proxy.specs.Faithful.{IsFaithful}
 use Rattle.rp_store.specs.Shape.{KeepsShape}
 use Rattle.rp_access.specs.CallSteps.{all_asked}
@@ -11,4 +11,5 @@ invariant-loop-value l = record {
   same : all_asked l.name l.values (state_of l.initial.world) ≡ all_asked l.name (drop l.value-index l.values) (state_of l.world);
   faithful : IsFaithful l.world;
   shape : KeepsShape l.initial.world.store.heap l.world.store.heap;
+  fewer : l.world.running.meter.left ≤ l.initial.world.running.meter.left;
 }

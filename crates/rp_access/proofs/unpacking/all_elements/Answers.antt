@@ -21,6 +21,7 @@ loop-init c =
       faithful = c.requires.faithful;
       shape = KeepsShape-same _ _ refl;
       fit = subst (AreFit c.args.world.now.store.heap c.args.side) (sym c.in_ok-elements.ensures) (All-nil (IsFit c.args.world.now.store.heap c.args.side));
+      fewer = omega arith;
     }
 
 pub loop-preserved : goal.loop-preserved
@@ -41,6 +42,7 @@ loop-preserved c =
       shape = KeepsShape-trans c.args.world.now.store.heap l.world.store.heap u.store.heap l.invariant.shape c.one_element.ensures.shape;
       fit = subst (AreFit u.store.heap c.args.side) (sym c.in_ok-keep.ensures)
           (All-push (IsFit u.store.heap c.args.side) l.elements.items e (c.one_element.ensures.shape.all_fit c.args.side l.elements.items l.invariant.fit) c.in_ok-element.ensures.fit);
+      fewer = omega (arith, l.invariant.fewer, c.one_element.ensures.fewer);
     }
 
 pub returns-in_err-element-clause-law : goal.returns-in_err-element-clause-law

@@ -1,4 +1,4 @@
-use Rattle.std.proofs.Common.{◌≡◌, ◌-◌, length}
+use Rattle.std.proofs.Common.{◌≡◌, ◌≤◌, ◌-◌, length}
 use Rattle.rp_meaning.specs.Frame.{Frame}
 use Rattle.rp_meaning.specs.Statements.{exactly}
 use Rattle.rp_proxy.specs.Faithful.{IsFaithful}
@@ -18,4 +18,5 @@ invariant-loop l = record {
   faithful : IsFaithful l.world;
   shape : KeepsShape l.initial.world.store.heap l.world.store.heap;
   fit : AreFit l.world.store.heap l.side l.elements.items;
+  fewer : l.world.running.meter.left ≤ l.initial.world.running.meter.left;
 }

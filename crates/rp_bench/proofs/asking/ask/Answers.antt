@@ -2,8 +2,5 @@ use Rattle.std.proofs.Common.{ap}
 use Rattle.rp_proxy.specs.declared.world.World.{World}
 use Rattle.rp_bench.proofs.asking.ask.Goals as goal
 
-pub returns-clause-names : goal.returns-clause-names
-returns-clause-names c = ap (λ (w : World). w.names) c.cross.ensures.else_same.world
-
 pub returns-clause-heap : goal.returns-clause-heap
 returns-clause-heap c = ap (λ (w : World). w.store.heap) c.cross.ensures.else_same.world

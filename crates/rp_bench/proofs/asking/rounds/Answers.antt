@@ -1,6 +1,4 @@
 use Rattle.std.proofs.Common.{subst, sym}
-use Rattle.std.specs.List.{All}
-use Rattle.rp_checker.specs.Answers.{IsOpHeld}
 use Rattle.rp_store.specs.Heap.{IsHeld}
 use Rattle.rp_bench.proofs.asking.rounds.Goals as goal
 
@@ -8,5 +6,4 @@ pub round-requires : goal.round-requires
 round-requires c = record {
   faithful = c.loop.invariant.faithful;
   held = subst (λ heap. IsHeld heap c.args.at) (sym c.loop.invariant.heap) c.requires.held;
-  named = subst (λ names. All (IsOpHeld names) c.args.ops.now) (sym c.loop.invariant.names) c.requires.named;
 }

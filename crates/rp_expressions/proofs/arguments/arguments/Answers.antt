@@ -6,6 +6,7 @@ use Rattle.rp_engine.proofs.Moves.{on_ok}
 use Rattle.rp_expressions.specs.Arguments.{NamedCalls}
 use Rattle.rp_engine.specs.Does as does
 use Rattle.std.proofs.Common.{◌∷◌, ◌-◌, drop, length, take}
+use Rattle.rp_engine.proofs.Weights as weights
 use Rattle.rp_expressions.proofs.arguments.arguments.Goals as goal
 
 pub returns-in-len1-up-clause-law : goal.returns-in-len1-up-clause-law
@@ -26,3 +27,7 @@ returns-in-empty-clause-law c =
     of_none c.call_hand.result
     (λ (ys : List Arg). NamedCalls c.args.hand (does.args ys) (does.trailers c.args.rest.now) c.args.machine.now c.args.world.now c.call_hand.new.machine c.call_hand.new.world)
     c.args.args.now (omega arith) c.call_hand.ensures.law
+
+pub returns-in-len1-up-clause-less : goal.returns-in-len1-up-clause-less
+returns-in-len1-up-clause-less c =
+    grind (arith, weights.args_front c.args.args.now c.arg-item.result c.in-len1-up.len_at_least c.arg-item.is)

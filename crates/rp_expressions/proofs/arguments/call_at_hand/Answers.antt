@@ -1,8 +1,10 @@
+use Rattle.std.proofs.Common.{arith}
 use Rattle.rp_expressions.proofs.Asks.{asks}
 use Rattle.rp_expressions.proofs.Callings.{call_ends, call_gives}
 use Rattle.rp_expressions.proofs.Spreads.{plain_ends}
 use Rattle.rp_engine.proofs.Worlds.{IsReady-goes}
 use Rattle.rp_engine.specs.Does as does
+use Rattle.rp_engine.proofs.Weights as weights
 use Rattle.rp_expressions.proofs.arguments.call_at_hand.Goals as goal
 
 pub returns-in-Ok-Some-clause-law : goal.returns-in-Ok-Some-clause-law
@@ -31,3 +33,6 @@ pub returns-in-Ok-None-clause-law : goal.returns-in-Ok-None-clause-law
 returns-in-Ok-None-clause-law c =
     let left = rw c.in-Ok-None.field-0-is at c.in-Ok-None.ensures.left in
     asks c.args.machine.now c.ask_left.new.machine c.args.count (does.trailers c.args.rest.now) c.args.world.now c.called.new.world c.ask_left.result left c.ask_left.ensures.law
+
+pub returns-in-Ok-Some-clause-less : goal.returns-in-Ok-Some-clause-less
+returns-in-Ok-Some-clause-less c = grind (arith, weights.called_least)

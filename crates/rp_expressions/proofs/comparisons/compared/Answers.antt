@@ -1,4 +1,4 @@
-use Rattle.std.proofs.Common.{[], ◌∷◌, ◌∙◌}
+use Rattle.std.proofs.Common.{[], ◌∷◌, ◌∙◌, arith}
 use Rattle.rp_base.specs.declared.word.TheConstants.{CONTAINS}
 use Rattle.rp_ops.specs.Outcome.{on_value}
 use Rattle.rp_engine.proofs.Specials.{test_left}
@@ -11,6 +11,7 @@ use Rattle.rp_engine.specs.ComparisonSteps.{by_test, with_test}
 use Rattle.rp_engine.specs.Does as does
 use Rattle.rp_engine.specs.Law.{frame_in}
 use Rattle.rp_access.specs.Moment.{state_of}
+use Rattle.rp_engine.proofs.Weights as weights
 use Rattle.rp_expressions.proofs.comparisons.compared.Goals as goal
 
 pub returns-in-Ok-Some-clause-law : goal.returns-in-Ok-Some-clause-law
@@ -63,3 +64,6 @@ returns-in-Ok-None-clause-ready c =
     let side = c.args.machine.now.frame.side in
     let shape = c.holds.ensures.shape in
     c.test_by_method.ensures.ready u (IsReady-goes _ _ _ c.args.world.now u c.requires.ready shape c.holds.ensures.faithful) (shape.fit side c.args.a c.requires.a) (shape.fit side c.args.b c.requires.b)
+
+pub returns-in-Ok-Some-clause-less : goal.returns-in-Ok-Some-clause-less
+returns-in-Ok-Some-clause-less c = grind (arith, weights.called_least)

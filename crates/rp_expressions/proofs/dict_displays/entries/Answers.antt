@@ -5,6 +5,7 @@ use Rattle.rp_engine.proofs.Firsts.{of_first, of_none}
 use Rattle.rp_engine.specs.DisplaySteps.{parts}
 use Rattle.rp_engine.specs.Does as does
 use Rattle.rp_engine.specs.GatheringSteps.{Gathers}
+use Rattle.rp_engine.proofs.Weights as weights
 use Rattle.rp_expressions.proofs.dict_displays.entries.Goals as goal
 
 pub returns-in-len1-up-clause-law : goal.returns-in-len1-up-clause-law
@@ -16,3 +17,6 @@ pub returns-in-empty-clause-law : goal.returns-in-empty-clause-law
 returns-in-empty-clause-law c =
     of_none c.make_display.result (λ (ps : List (Expr × Expr)). Gathers Dict c.args.count (parts (does.pairs ps)) c.args.machine.now c.args.world.now c.make_display.new.machine c.make_display.new.world)
     c.args.rest.now (omega arith) c.make_display.ensures.law
+
+pub returns-in-len1-up-clause-less : goal.returns-in-len1-up-clause-less
+returns-in-len1-up-clause-less c = grind (arith, weights.pairs_front c.args.rest.now c.pair-item.result c.in-len1-up.len_at_least c.pair-item.is)

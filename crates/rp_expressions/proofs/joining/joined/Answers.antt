@@ -8,6 +8,7 @@ use Rattle.rp_engine.specs.Does as does
 use Rattle.rp_engine.specs.JoinSteps.{joined}
 use Rattle.rp_engine.specs.Law.{Evaluates, frame_in}
 use Rattle.rp_access.specs.Moment.{state_of}
+use Rattle.rp_engine.proofs.Weights as weights
 use Rattle.rp_expressions.proofs.joining.joined.Goals as goal
 
 pub returns-in-len1-up-clause-law : goal.returns-in-len1-up-clause-law
@@ -30,3 +31,9 @@ returns-in-empty-clause-law c =
     gives_ok m c.back.new.self c.back.result (joined c.args.all (does.exprs xs)) nil w
     (λ base. ap (λ (ys : List Expr). joined c.args.all (does.exprs ys) (frame_in base m) (state_of w)) (none_left xs (omega arith))
     ∙ joined_none c.args.all (frame_in base m) (state_of w)) c.back.ensures.law
+
+pub returns-in-len1-up-clause-less : goal.returns-in-len1-up-clause-less
+returns-in-len1-up-clause-less c = grind (arith, weights.operands_front c.args.operands.now c.first-item.result c.in-len1-up.len_at_least c.first-item.is)
+
+pub returns-in-empty-clause-less : goal.returns-in-empty-clause-less
+returns-in-empty-clause-less c = grind (arith, weights.operands_some c.args.operands.now)

@@ -3,7 +3,7 @@ use Rattle.rp_engine.proofs.Moves.{as_any_ok, end_ok, goes_ok}
 use Rattle.rp_engine.proofs.Specials.{item_left}
 use Rattle.rp_access.proofs.Going.{IsEnd-same, IsEnd-then, gives-then}
 use Rattle.rp_engine.proofs.Worlds.{IsReady-goes}
-use Rattle.std.proofs.Common.{[], ◌∷◌, ap, ◌∙◌}
+use Rattle.std.proofs.Common.{[], ◌∷◌, ap, ◌∙◌, arith}
 use Rattle.rp_base.specs.declared.word.TheConstants.{GET_ITEM}
 use Rattle.rp_ops.specs.Outcome.{on_value}
 use Rattle.rp_engine.specs.SpecialSteps.{special_called}
@@ -12,6 +12,7 @@ use Rattle.rp_engine.specs.Does as does
 use Rattle.rp_engine.specs.TrailerSteps.{with_item}
 use Rattle.rp_engine.specs.Law.{frame_in}
 use Rattle.rp_access.specs.Moment.{state_of}
+use Rattle.rp_engine.proofs.Weights as weights
 use Rattle.rp_expressions.proofs.primaries.item_at.Goals as goal
 
 pub returns-in-Ok-Some-clause-law : goal.returns-in-Ok-Some-clause-law
@@ -63,3 +64,6 @@ returns-in-Ok-None-clause-ready c =
     let shape = c.get_item.ensures.shape in
     c.item_by_method.ensures.ready c.get_item.new.world
     (IsReady-goes _ _ _ c.args.world.now c.get_item.new.world c.requires.ready shape c.get_item.ensures.faithful) (shape.fit side c.args.value c.requires.value) (shape.fit side c.args.key c.requires.key)
+
+pub returns-in-Ok-Some-clause-less : goal.returns-in-Ok-Some-clause-less
+returns-in-Ok-Some-clause-less c = grind (arith, weights.called_least)

@@ -5,3 +5,6 @@ returns-in-None-clause-law c = rw c.in-None.is c.slice_of.ensures.law
 
 pub returns-in-Some-clause-law : goal.returns-in-Some-clause-law
 returns-in-Some-clause-law c = rw c.in-Some.is c.stride_at.ensures.law
+
+pub returns-in-Some-clause-less : goal.returns-in-Some-clause-less
+returns-in-Some-clause-less c = rw c.in-Some.is c.stride_at.ensures.less

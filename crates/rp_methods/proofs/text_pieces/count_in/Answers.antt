@@ -1,5 +1,4 @@
-use Rattle.std.proofs.Common.{◌≡◌, ◌<◌, ◌-◌, IfOk, List, ℕ, chars, length, ap, subst, sym, ◌∙◌}
-use Rattle.rp_base.specs.declared.value.Value.{Value}
+use Rattle.std.proofs.Common.{◌<◌, ◌-◌, List, ℕ, chars, length, ap, subst, sym, ◌∙◌}
 use Rattle.rp_methods.specs.Lists.{number}
 use Rattle.rp_methods.specs.Texts.{pieces}
 use Rattle.rp_methods.proofs.text_pieces.count_in.Goals as goal
@@ -11,4 +10,4 @@ pub returns : goal.returns
 returns c =
     let counted = c.count_of.ensures.count ∙ ap (λ (l : List ℕ). length (pieces l (chars c.as_str.result.now)) - 1) c.as_str-2.ensures
     ∙ ap (λ (l : List ℕ). length (pieces c.args.part.now l) - 1) c.as_str.ensures in
-    subst (λ (w : Value). IfOk c.number.result (λ v. v ≡ w)) (ap number counted) c.number.ensures
+    c.number.ensures ∙ ap number counted

@@ -1,4 +1,4 @@
-use Rattle.std.proofs.Common.{◌∙◌, List, [], Ok, ap, length, suc, sym, subst}
+use Rattle.std.proofs.Common.{◌≤◌, ◌∙◌, List, [], Ok, ap, length, suc, sym, subst}
 use Rattle.std.specs.List.{AllZip}
 use Rattle.rp_decl.specs.View.{declarations_view}
 use Rattle.rp_engine.specs.Moment.{layouts_view}
@@ -7,7 +7,10 @@ use Rattle.rp_engine.specs.declared.units.Units.{Units}
 use Rattle.rp_meaning.specs.Frame.{program_of}
 use Rattle.rp_module.specs.Loads.{Loads}
 use Rattle.rp_module.specs.Runs.{IsProgramOf}
+use Rattle.rp_grammar.specs.Program.{highest}
+use Rattle.rp_module.proofs.Heights.{module_low}
 use Rattle.rp_module.proofs.ProgramsOn.{laid-out}
+use Rattle.rp_tree.specs.Heights.{stmts_height}
 use Rattle.rp_module.proofs.Staying.{err-on}
 use Rattle.rp_scope.specs.Numbers.{HasNumbers, block_count}
 use Rattle.rp_scope.specs.Scopes.{Scope, scopes}
@@ -28,6 +31,11 @@ pub of_tree-requires-clause-blocks : goal.of_tree-requires-clause-blocks
 of_tree-requires-clause-blocks c =
     let made = c.into_parts-parts.ensures in
     ap length made.layouts ∙ made.kept.scopes.blocks ∙ ap (λ (t : Tree). suc (block_count (view_tree t))) (sym made.tree)
+
+pub of_tree-requires-clause-low : goal.of_tree-requires-clause-low
+of_tree-requires-clause-low c =
+    let made = c.into_parts-parts.ensures in
+    subst (λ (t : Tree). stmts_height (view_tree t) ≤ highest) (sym made.tree) (module_low c.args.compiled made.kept)
 
 pub world_of-requires-clause-is : goal.world_of-requires-clause-is
 world_of-requires-clause-is c =
@@ -62,6 +70,7 @@ returns-clause-whole c =
     record {
       plain = subst (λ (t : Tree). HasNoGuards (view_tree t)) (sym made.tree) made.kept.plain;
       numbers = subst (λ (t : Tree). HasNumbers (view_tree t)) (sym made.tree) made.kept.numbers;
+      low = subst (λ (t : Tree). stmts_height (view_tree t) ≤ highest) (sym made.tree) (module_low c.args.compiled made.kept);
       table = c.layouts_of-layouts.ensures ∙ c.in_ok-program.ensures.layouts ∙ made.layouts ∙ c.requires.table
           ∙ (λ k. scopes (sym c.in_ok-world.ensures.placed k) (view_tree (sym made.tree k)));
     }

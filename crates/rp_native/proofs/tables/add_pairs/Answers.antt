@@ -11,6 +11,11 @@ use Rattle.rp_native.specs.Tables.{numbered, references}
 use Rattle.rp_native.proofs.TableRows.{Gains-tuples, all-yielded, length-numbered, nothing-left, one-yielded, pair-place, pair-sound, pairs-more, references-count, references-more}
 use Rattle.rp_native.proofs.tables.add_pairs.Goals as goal
 
+pub row_of-requires : goal.row_of-requires
+row_of-requires c =
+    let at = c.loop-value in
+    omega (arith, c.len-in-loop-value.ensures, at.tuples.ok.1, at.tuples.small)
+
 pub add-requires : goal.add-requires
 add-requires c =
     let at = c.loop-value in

@@ -1,12 +1,14 @@
-use Rattle.std.proofs.Common.{◌∙◌, List, [], length, map, refl, ap, sym, subst, arith}
+use Rattle.std.proofs.Common.{◌≤◌, ◌∙◌, List, [], length, map, refl, ap, sym, subst, arith}
 use Rattle.std.specs.List.{AllZip}
 use Rattle.rp_compile.specs.Compiled.{source_tree}
 use Rattle.rp_decl.specs.View.{declarations_view}
+use Rattle.rp_grammar.specs.Program.{highest}
 use Rattle.rp_interact.specs.Interacting.{Interacting}
 use Rattle.rp_module.specs.Runs.{IsProgramOf, run_of}
 use Rattle.rp_proxy.specs.declared.world.World.{World}
 use Rattle.rp_scope.specs.Numbers.{HasNumbers}
 use Rattle.rp_session.specs.View.{session_view, sessions_view, shared}
+use Rattle.rp_tree.specs.Heights.{stmts_height}
 use Rattle.rp_tree.specs.Statements.{Stmts}
 use Rattle.rp_tree.specs.StatementViews.{view_tree}
 use Rattle.rp_tree.specs.declared.stmt.Tree.{Tree}
@@ -25,6 +27,7 @@ units_of-requires c =
     record {
       resolved = record {
         numbers = subst (λ (t : Tree). HasNumbers (view_tree t)) (sym made.tree) whole.numbers;
+        low = subst (λ (t : Tree). stmts_height (view_tree t) ≤ highest) (sym made.tree) whole.low;
         blocks = module_blocks c.args.loaded parts.trees.module parts.tables.module whole made.tree made.table;
         scripts = made.resolved;
       };

@@ -41,7 +41,7 @@ of_tree-requires c =
     let are = subst (λ (ts : List Tree). AllZip IsResolved ts (into_iter_items at.tables)) rest at.invariant.rest in
     let one = taken_of tree (drop (at.tree-index + 1) c.args.trees.now) c.next_table-table.result (into_iter_items c.next_table-table.new.tables) (into_iter_items at.tables)
     c.next_table-table.ensures.taken are in
-    record { numbers = one.0.numbers; blocks = blocks_of tree c.next_table-table.result one.0 }
+    record { numbers = one.0.numbers; blocks = blocks_of tree c.next_table-table.result one.0; low = one.0.low }
 
 pub loop-tree-preserved : goal.loop-tree-preserved
 loop-tree-preserved c =

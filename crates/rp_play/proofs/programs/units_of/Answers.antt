@@ -7,7 +7,7 @@ use Rattle.rp_play.specs.Programs.{IsResolved, source_of}
 use Rattle.rp_play.proofs.programs.units_of.Goals as goal
 
 pub of_tree-requires : goal.of_tree-requires
-of_tree-requires c = record { numbers = c.requires.resolved.numbers; blocks = c.requires.resolved.blocks }
+of_tree-requires c = record { numbers = c.requires.resolved.numbers; blocks = c.requires.resolved.blocks; low = c.requires.resolved.low }
 
 pub script_programs-requires : goal.script_programs-requires
 script_programs-requires c = record {

@@ -1,9 +1,12 @@
-use Rattle.std.proofs.Common.{◌≡◌, ◌∙◌, ◌∷◌, ◌++◌, [], length, map, ap, subst, sym, arith}
+use Rattle.std.proofs.Common.{◌≡◌, ◌≤◌, ◌∙◌, ◌∷◌, ◌++◌, [], length, map, ap, subst, sym, arith}
 use Rattle.std.proofs.lemmas.List.{nil_from_length}
 use Rattle.std.specs.Vec.Iter.{into_iter_items}
 use Rattle.rp_compile.specs.Compiled.{Compilation}
+use Rattle.rp_grammar.specs.Program.{highest}
+use Rattle.rp_module.proofs.Heights.{script_low}
 use Rattle.rp_scope.specs.Numbers.{HasNumbers}
 use Rattle.rp_scope.specs.Scopes.{scopes}
+use Rattle.rp_tree.specs.Heights.{stmts_height}
 use Rattle.rp_tree.specs.StatementViews.{view_tree}
 use Rattle.rp_tree.specs.declared.stmt.Tree.{Tree}
 use Rattle.rp_play.specs.Programs.{IsResolved, source_of}
@@ -20,6 +23,7 @@ loop-script-preserved c =
     let parts = c.into_parts-parts.result in
     let resolved : IsResolved parts.0 parts.1 = record {
       numbers = subst (λ (t : Tree). HasNumbers (view_tree t)) (sym made.tree) made.kept.numbers;
+      low = subst (λ (t : Tree). stmts_height (view_tree t) ≤ highest) (sym made.tree) (script_low script made.kept);
       is = made.layouts ∙ made.kept.table ∙ ap (λ (t : Tree). scopes [] (source_of t)) (sym made.tree);
     } in
     record {

@@ -53,13 +53,13 @@ pub returns-in-None-clause-faithful : goal.returns-in-None-clause-faithful
 returns-in-None-clause-faithful c =
     let w = c.args.world.now in
     rw (c.in-Ok.ensures.charged, c.in-Ok.ensures.pushed, c.refusal_of.ensures.same)
-    (pushed-IsFaithful w c.args.at c.args.op c.args.class c.args.row c.verdict_of-verdict.result c.verdict_of-verdict.new.interaction c.requires.faithful c.requires.found c.requires.row_is c.verdict_of-verdict.ensures.verdict c.verdict_of-verdict.ensures.asked c.requires.named)
+    (pushed-IsFaithful w c.args.at c.args.op c.is_named.result c.args.class c.args.row c.verdict_of-verdict.result c.verdict_of-verdict.new.interaction c.requires.faithful c.requires.found c.requires.row_is c.verdict_of-verdict.ensures.verdict c.verdict_of-verdict.ensures.asked c.is_named.ensures)
 
 pub returns-in-None-clause-else_same : goal.returns-in-None-clause-else_same
 returns-in-None-clause-else_same c =
     let w = c.args.world.now in
     rw (c.in-Ok.ensures.charged, c.in-Ok.ensures.pushed, c.refusal_of.ensures.same)
-    (pushed-OnlyDecides w c.args.at c.args.op c.args.class c.args.row c.verdict_of-verdict.result c.verdict_of-verdict.new.interaction c.requires.faithful c.requires.found c.requires.row_is c.verdict_of-verdict.ensures.verdict c.verdict_of-verdict.ensures.asked c.requires.named)
+    (pushed-OnlyDecides w c.args.at c.args.op c.is_named.result c.args.class c.args.row c.verdict_of-verdict.result c.verdict_of-verdict.new.interaction c.requires.faithful c.requires.found c.requires.row_is c.verdict_of-verdict.ensures.verdict c.verdict_of-verdict.ensures.asked c.is_named.ensures)
 
 pub returns-in-None-clause-decided : goal.returns-in-None-clause-decided
 returns-in-None-clause-decided c =
@@ -67,19 +67,19 @@ returns-in-None-clause-decided c =
     let few : w.store.used + 1 ≤ w.store.limit = omega (arith, c.used.ensures.value, c.used.ensures.within, c.limit.ensures, c.if-used-limit.false) in
     let refused : None ≡ refusal (name_text w.names (op_name c.args.op)) (verdict_view w.decl.permissions c.verdict_of-verdict.result) = rw (← c.in-None.is) c.in_ok-refusal.ensures.refusal in
     rw (c.in-Ok.ensures.charged, c.in-Ok.ensures.pushed, c.refusal_of.ensures.same)
-    (pushed-decided w c.args.at c.args.op c.args.class c.args.row c.verdict_of-verdict.result c.verdict_of-verdict.new.interaction c.requires.faithful c.requires.found c.requires.row_is c.verdict_of-verdict.ensures.verdict c.verdict_of-verdict.ensures.asked c.requires.named None few refused)
+    (pushed-decided w c.args.at c.args.op c.is_named.result c.args.class c.args.row c.verdict_of-verdict.result c.verdict_of-verdict.new.interaction c.requires.faithful c.requires.found c.requires.row_is c.verdict_of-verdict.ensures.verdict c.verdict_of-verdict.ensures.asked c.is_named.ensures None few refused)
 
 pub returns-in-Some-clause-faithful : goal.returns-in-Some-clause-faithful
 returns-in-Some-clause-faithful c =
     let w = c.args.world.now in
     rw (c.in-Ok.ensures.charged, c.in-Ok.ensures.pushed, c.refusal_of.ensures.same)
-    (pushed-IsFaithful w c.args.at c.args.op c.args.class c.args.row c.verdict_of-verdict.result c.verdict_of-verdict.new.interaction c.requires.faithful c.requires.found c.requires.row_is c.verdict_of-verdict.ensures.verdict c.verdict_of-verdict.ensures.asked c.requires.named)
+    (pushed-IsFaithful w c.args.at c.args.op c.is_named.result c.args.class c.args.row c.verdict_of-verdict.result c.verdict_of-verdict.new.interaction c.requires.faithful c.requires.found c.requires.row_is c.verdict_of-verdict.ensures.verdict c.verdict_of-verdict.ensures.asked c.is_named.ensures)
 
 pub returns-in-Some-clause-else_same : goal.returns-in-Some-clause-else_same
 returns-in-Some-clause-else_same c =
     let w = c.args.world.now in
     rw (c.in-Ok.ensures.charged, c.in-Ok.ensures.pushed, c.refusal_of.ensures.same)
-    (pushed-OnlyDecides w c.args.at c.args.op c.args.class c.args.row c.verdict_of-verdict.result c.verdict_of-verdict.new.interaction c.requires.faithful c.requires.found c.requires.row_is c.verdict_of-verdict.ensures.verdict c.verdict_of-verdict.ensures.asked c.requires.named)
+    (pushed-OnlyDecides w c.args.at c.args.op c.is_named.result c.args.class c.args.row c.verdict_of-verdict.result c.verdict_of-verdict.new.interaction c.requires.faithful c.requires.found c.requires.row_is c.verdict_of-verdict.ensures.verdict c.verdict_of-verdict.ensures.asked c.is_named.ensures)
 
 pub returns-in-Some-clause-decided : goal.returns-in-Some-clause-decided
 returns-in-Some-clause-decided c =
@@ -87,16 +87,16 @@ returns-in-Some-clause-decided c =
     let few : w.store.used + 1 ≤ w.store.limit = omega (arith, c.used.ensures.value, c.used.ensures.within, c.limit.ensures, c.if-used-limit.false) in
     let refused : (Some c.in-Some.raised) ≡ refusal (name_text w.names (op_name c.args.op)) (verdict_view w.decl.permissions c.verdict_of-verdict.result) = rw (← c.in-Some.is) c.in_ok-refusal.ensures.refusal in
     rw (c.in-Ok.ensures.charged, c.in-Ok.ensures.pushed, c.refusal_of.ensures.same)
-    (pushed-decided w c.args.at c.args.op c.args.class c.args.row c.verdict_of-verdict.result c.verdict_of-verdict.new.interaction c.requires.faithful c.requires.found c.requires.row_is c.verdict_of-verdict.ensures.verdict c.verdict_of-verdict.ensures.asked c.requires.named (Some c.in-Some.raised) few refused)
+    (pushed-decided w c.args.at c.args.op c.is_named.result c.args.class c.args.row c.verdict_of-verdict.result c.verdict_of-verdict.new.interaction c.requires.faithful c.requires.found c.requires.row_is c.verdict_of-verdict.ensures.verdict c.verdict_of-verdict.ensures.asked c.is_named.ensures (Some c.in-Some.raised) few refused)
 
 pub returns-in-None-clause-logged : goal.returns-in-None-clause-logged
 returns-in-None-clause-logged c =
     let w = c.args.world.now in
     rw c.in-Ok.ensures.pushed
-    (pushed-entry w c.args.at c.args.op c.args.class c.args.row c.verdict_of-verdict.result c.verdict_of-verdict.new.interaction c.requires.faithful c.requires.found c.requires.row_is c.verdict_of-verdict.ensures.verdict c.verdict_of-verdict.ensures.asked c.requires.named)
+    (pushed-entry w c.args.at c.args.op c.is_named.result c.args.class c.args.row c.verdict_of-verdict.result c.verdict_of-verdict.new.interaction c.requires.faithful c.requires.found c.requires.row_is c.verdict_of-verdict.ensures.verdict c.verdict_of-verdict.ensures.asked c.is_named.ensures)
 
 pub returns-in-Some-clause-logged : goal.returns-in-Some-clause-logged
 returns-in-Some-clause-logged c =
     let w = c.args.world.now in
     rw c.in-Ok.ensures.pushed
-    (pushed-entry w c.args.at c.args.op c.args.class c.args.row c.verdict_of-verdict.result c.verdict_of-verdict.new.interaction c.requires.faithful c.requires.found c.requires.row_is c.verdict_of-verdict.ensures.verdict c.verdict_of-verdict.ensures.asked c.requires.named)
+    (pushed-entry w c.args.at c.args.op c.is_named.result c.args.class c.args.row c.verdict_of-verdict.result c.verdict_of-verdict.new.interaction c.requires.faithful c.requires.found c.requires.row_is c.verdict_of-verdict.ensures.verdict c.verdict_of-verdict.ensures.asked c.is_named.ensures)

@@ -252,7 +252,7 @@ returns-clause-set_up g c =
     record {
       faithful = IsFaithful-later w later grows c.in_ok-loaded.ensures.faithful;
       whole = (let whole = c.in_ok-loaded.ensures.whole in
-          record { plain = whole.plain; numbers = whole.numbers; table = whole.table });
+          record { plain = whole.plain; numbers = whole.numbers; low = whole.low; table = whole.table });
       ids = rw c.as_slice-pairs.ensures.value at c.in_ok-whos.ensures.ids;
       grants = c.in_ok-whos.ensures.answers;
       as_many = c.in_ok-scripts.ensures.count ∙ ap length c.as_slice.ensures.value ∙ c.in_ok-texts.ensures.count

@@ -7,6 +7,7 @@ use Rattle.rp_access.specs.Moment.{state_of}
 use Rattle.rp_engine.proofs.Doings.{does_as, does_end}
 use Rattle.rp_engine.specs.Does as does
 use Rattle.rp_engine.specs.Law.{frame_in}
+use Rattle.rp_engine.proofs.Weights as weights
 use Rattle.rp_statements.proofs.handling.handle.Goals as goal
 
 pub returns-in-empty-clause-law : goal.returns-in-empty-clause-law
@@ -29,3 +30,7 @@ returns-in-len1-up-clause-law c =
     (exception.handle (does.handler h ∷ does.handlers (take (length hs - 1) (drop 1 hs))) r) w
     (λ base. ap (λ (hs : List Except). exception.handle (does.handlers hs) r (frame_in base m) (state_of w)) (sym (first_rest hs h c.in-len1-up.len_at_least c.handler-item.is)))
     c.try_handler.ensures.law
+
+pub returns-in-len1-up-clause-less : goal.returns-in-len1-up-clause-less
+returns-in-len1-up-clause-less c =
+    grind (arith, weights.excepts_front c.args.handlers.now c.handler-item.result c.in-len1-up.len_at_least c.handler-item.is)

@@ -1,8 +1,9 @@
-use Rattle.std.proofs.Common.{sym}
+use Rattle.std.proofs.Common.{sym, arith}
 use Rattle.rp_engine.proofs.Equations.{form_chain, form_cond, form_const, form_int, form_name, form_not, form_power, form_text, form_unary}
 use Rattle.rp_engine.proofs.FormEquations.{form_and, form_compare, form_dict, form_list, form_or, form_primary, form_tuple}
 use Rattle.rp_statements.proofs.DefinitionEquations.{form_lambda}
 use Rattle.rp_targets.proofs.ComprehensionEquations.{form_dict_of, form_list_of}
+use Rattle.rp_engine.proofs.Weights as weights
 use Rattle.rp_step.proofs.forms.form.Goals as goal
 
 pub returns-in-Name-clause-law : goal.returns-in-Name-clause-law
@@ -61,3 +62,36 @@ returns-in-ListOf-clause-law c = rw (c.in-ListOf.is, form_list_of, sym c.deref-i
 
 pub returns-in-DictOf-clause-law : goal.returns-in-DictOf-clause-law
 returns-in-DictOf-clause-law c = rw (c.in-DictOf.is, form_dict_of, sym c.deref-in-DictOf.ensures.value) c.comprehension-in-DictOf.ensures.law
+
+pub returns-in-Name-clause-less : goal.returns-in-Name-clause-less
+returns-in-Name-clause-less c = grind (arith, weights.form_least c.args.form.now)
+
+pub returns-in-Int-clause-less : goal.returns-in-Int-clause-less
+returns-in-Int-clause-less c = grind (arith, weights.form_least c.args.form.now)
+
+pub returns-in-Text-clause-less : goal.returns-in-Text-clause-less
+returns-in-Text-clause-less c = grind (arith, weights.form_least c.args.form.now)
+
+pub returns-in-Const-clause-less : goal.returns-in-Const-clause-less
+returns-in-Const-clause-less c = grind (arith, weights.form_least c.args.form.now)
+
+pub returns-in-ListOf-clause-less : goal.returns-in-ListOf-clause-less
+returns-in-ListOf-clause-less c = grind (arith, weights.form_least c.args.form.now)
+
+pub returns-in-DictOf-clause-less : goal.returns-in-DictOf-clause-less
+returns-in-DictOf-clause-less c = grind (arith, weights.form_least c.args.form.now)
+
+pub returns-in-Chain-clause-less : goal.returns-in-Chain-clause-less
+returns-in-Chain-clause-less c = rw c.in-Chain.is (grind (arith, weights.chain_first c.in-Chain.first c.in-Chain.rest))
+
+pub returns-in-Compare-clause-less : goal.returns-in-Compare-clause-less
+returns-in-Compare-clause-less c = rw c.in-Compare.is (grind (arith, weights.compare_first c.in-Compare.first c.in-Compare.rest))
+
+pub returns-in-Primary-clause-less : goal.returns-in-Primary-clause-less
+returns-in-Primary-clause-less c = rw c.in-Primary.is (grind (arith, weights.primary_first c.in-Primary.first c.in-Primary.rest))
+
+pub returns-in-Or-clause-less : goal.returns-in-Or-clause-less
+returns-in-Or-clause-less c = rw c.in-Or.is (grind (arith, weights.or_first c.in-Or.operands, c.deref-in-Or.ensures.value))
+
+pub returns-in-And-clause-less : goal.returns-in-And-clause-less
+returns-in-And-clause-less c = rw c.in-And.is (grind (arith, weights.and_first c.in-And.operands, c.deref-in-And.ensures.value))

@@ -14,6 +14,7 @@ use Rattle.rp_engine.specs.Does as does
 use Rattle.rp_engine.specs.Law.{Executes, frame_in, rest_of}
 use Rattle.rp_access.specs.Moment.{state_of}
 use Rattle.rp_engine.specs.Rest.{did, rest}
+use Rattle.rp_engine.proofs.Weights as weights
 use Rattle.rp_step.proofs.statements.choose.Goals as goal
 
 pub returns-in-len1-up-clause-law : goal.returns-in-len1-up-clause-law
@@ -39,3 +40,7 @@ returns-in-empty-clause-law c =
     let other : Doing = does.block c.args.other.now in
     moves_any m c.go.new.self c.go.result (forms.choose (does.branches bs) other)
     (λ base s. c.go.ensures.law base s ∙ ap (λ (bs : List Branch). rest m.tasks (did (frame_in base m) m.values (forms.choose (does.branches bs) other (frame_in base m) s))) (sym (none_left bs (omega arith))))
+
+pub returns-in-len1-up-clause-less : goal.returns-in-len1-up-clause-less
+returns-in-len1-up-clause-less c =
+    grind (arith, weights.branches_front c.args.branches.now c.branch-item.result c.in-len1-up.len_at_least c.branch-item.is, weights.branch_test c.branch-item.result)

@@ -1,4 +1,4 @@
-use Rattle.std.proofs.Common.{sym, ap, ◌∙◌}
+use Rattle.std.proofs.Common.{sym, ap, ◌∙◌, arith}
 use Rattle.rp_frame.specs.declared.spot.Adds.{Adds}
 use Rattle.rp_meaning.specs.Frame.{Run}
 use Rattle.rp_meaning.specs.State.{State}
@@ -28,3 +28,9 @@ returns-in-Entry-clause-law c =
     on_ok c.wait-in-Entry.result ((base : Run) (s : State) → rest_of base n s ≡ rest m.tasks (did (frame_in base m) m.values (does.adds a (frame_in base m) s)))
     ((w : World) → Executes (does.adds c.args.adds) m w n w)
     (λ law w base. law base (state_of w) ∙ ap (λ (a : Adds). rest m.tasks (did (frame_in base m) m.values (does.adds a (frame_in base m) (state_of w)))) (sym c.in-Entry.is)) c.wait-in-Entry.ensures.law
+
+pub returns-in-Element-clause-less : goal.returns-in-Element-clause-less
+returns-in-Element-clause-less c = rw c.in-Element.is (grind (arith, c.wait.ensures.less))
+
+pub returns-in-Entry-clause-less : goal.returns-in-Entry-clause-less
+returns-in-Entry-clause-less c = rw c.in-Entry.is (grind (arith, c.wait-in-Entry.ensures.less))

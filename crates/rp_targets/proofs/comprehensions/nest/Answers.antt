@@ -1,4 +1,4 @@
-use Rattle.std.proofs.Common.{List, arith, drop, length, refl, subst, sym, take, ◌-◌}
+use Rattle.std.proofs.Common.{List, arith, drop, length, refl, subst, sym, take, ◌-◌, ap}
 use Rattle.std.specs.Prelude.{OnOk}
 use Rattle.rp_meaning.specs.Expressions as forms
 use Rattle.rp_meaning.specs.Frame.{Doing, Meaning}
@@ -13,6 +13,9 @@ use Rattle.rp_engine.proofs.Moves.{on_ok}
 use Rattle.rp_engine.specs.Does as does
 use Rattle.rp_engine.specs.Law.{Executes}
 use Rattle.rp_store.proofs.CallerLemmas.{KeepsShape-same}
+use Rattle.rp_engine.proofs.Weights as weights
+use Rattle.rp_engine.specs.Loads as loads
+use Rattle.rp_access.proofs.Lists.{none_left}
 use Rattle.rp_targets.proofs.comprehensions.nest.Goals as goal
 
 pub returns-in-len1-up-clause-law : goal.returns-in-len1-up-clause-law
@@ -53,3 +56,11 @@ returns-in-len1-up-clause-ready c = c.for_each.ensures.ready
 
 pub returns-in-len1-up-clause-shape : goal.returns-in-len1-up-clause-shape
 returns-in-len1-up-clause-shape c = c.for_each.ensures.shape
+
+pub returns-in-len1-up-clause-less : goal.returns-in-len1-up-clause-less
+returns-in-len1-up-clause-less c =
+    grind (arith, weights.nest_front c.args.clauses.now c.clause-item.result c.args.adds c.in-len1-up.len_at_least c.clause-item.is)
+
+pub returns-in-empty-clause-less : goal.returns-in-empty-clause-less
+returns-in-empty-clause-less c =
+    grind (arith, ap (λ (xs : List Clause). loads.nest xs c.args.adds) (none_left c.args.clauses.now (omega arith)))

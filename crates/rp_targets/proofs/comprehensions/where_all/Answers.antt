@@ -7,6 +7,7 @@ use Rattle.rp_engine.proofs.Firsts.{of_first, of_none}
 use Rattle.rp_engine.specs.Does as does
 use Rattle.rp_engine.specs.Law.{Executes}
 use Rattle.rp_store.proofs.CallerLemmas.{KeepsShape-same}
+use Rattle.rp_engine.proofs.Weights as weights
 use Rattle.rp_targets.proofs.comprehensions.where_all.Goals as goal
 
 pub returns-in-len1-up-clause-law : goal.returns-in-len1-up-clause-law
@@ -39,3 +40,7 @@ returns-in-len1-up-clause-ready c = c.wait.ensures.ready c.args.world.now c.requ
 
 pub returns-in-len1-up-clause-shape : goal.returns-in-len1-up-clause-shape
 returns-in-len1-up-clause-shape c = KeepsShape-same c.args.world.now.store.heap c.args.world.now.store.heap refl
+
+pub returns-in-len1-up-clause-less : goal.returns-in-len1-up-clause-less
+returns-in-len1-up-clause-less c =
+    grind (arith, weights.exprs_front c.args.tests.now c.test-item.result c.in-len1-up.len_at_least c.test-item.is)

@@ -1,4 +1,4 @@
-use Rattle.std.proofs.Common.{[], ◌∷◌}
+use Rattle.std.proofs.Common.{[], ◌∷◌, arith}
 use Rattle.rp_access.specs.Moment.{state_of}
 use Rattle.rp_base.specs.declared.word.TheConstants.{DEL_ITEM}
 use Rattle.rp_meaning.specs.Access as access
@@ -10,6 +10,7 @@ use Rattle.rp_engine.proofs.Doings.{does_end, does_goes, does_moves}
 use Rattle.rp_engine.proofs.Specials.{delete_left}
 use Rattle.rp_engine.proofs.Worlds.{IsReady-goes}
 use Rattle.rp_engine.specs.SpecialSteps.{special_called}
+use Rattle.rp_engine.proofs.Weights as weights
 use Rattle.rp_targets.proofs.deleting.del_item.Goals as goal
 
 pub returns-in-Ok-Done-clause-law : goal.returns-in-Ok-Done-clause-law
@@ -51,3 +52,6 @@ returns-in-Ok-Special-clause-ready c =
     let side = c.args.machine.now.frame.side in
     let shape = c.del_item.ensures.shape in
     c.delete_by_method.ensures.ready u (IsReady-goes _ _ _ c.args.world.now u c.requires.ready shape c.del_item.ensures.faithful) (shape.fit side c.args.o c.requires.o) (shape.fit side c.args.i c.requires.i)
+
+pub returns-in-Ok-Done-clause-less : goal.returns-in-Ok-Done-clause-less
+returns-in-Ok-Done-clause-less c = grind (arith, weights.called_least)

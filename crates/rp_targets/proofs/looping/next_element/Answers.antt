@@ -1,6 +1,6 @@
 use Rattle.rp_meaning.specs.State.{next}
 use Rattle.rp_meaning.specs.Statements as forms
-use Rattle.std.proofs.Common.{suc}
+use Rattle.std.proofs.Common.{suc, arith}
 use Rattle.rp_engine.proofs.Doings.{does_as, does_end, does_moves}
 use Rattle.rp_targets.proofs.Walked.{turn_ends, turn_gives, turn_none}
 use Rattle.rp_engine.proofs.Worlds.{IsReady-goes}
@@ -72,3 +72,8 @@ returns-in-Ok-None-clause-shape c = c.next_element.ensures.shape
 
 pub returns-in-Err-clause-shape : goal.returns-in-Err-clause-shape
 returns-in-Err-clause-shape c = c.next_element.ensures.shape
+
+pub returns-in-Ok-Some-clause-less : goal.returns-in-Ok-Some-clause-less
+returns-in-Ok-Some-clause-less c =
+    let fell = rw c.in-Ok-Some.field-0-is at c.in-Ok-Some.ensures.took in
+    grind (arith, fell)

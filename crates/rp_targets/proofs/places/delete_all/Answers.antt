@@ -7,6 +7,7 @@ use Rattle.rp_access.proofs.Lists.{first_rest, none_left}
 use Rattle.rp_engine.specs.Does as does
 use Rattle.rp_engine.specs.Law.{frame_in}
 use Rattle.rp_access.specs.Moment.{state_of}
+use Rattle.rp_engine.proofs.Weights as weights
 use Rattle.rp_targets.proofs.places.delete_all.Goals as goal
 
 pub returns-in-len1-up-clause-law : goal.returns-in-len1-up-clause-law
@@ -27,3 +28,7 @@ returns-in-empty-clause-law c =
     let ps = c.args.places.now in
     does_moves m c.go.new.self w w c.go.result (does.deletes ps) (forms.leave next)
     (λ base. ap (λ (ps : List Place). does.deletes ps (frame_in base m) (state_of w)) (none_left ps (omega arith))) c.go.ensures.law
+
+pub returns-in-len1-up-clause-less : goal.returns-in-len1-up-clause-less
+returns-in-len1-up-clause-less c =
+    grind (arith, weights.places_front c.args.places.now c.place-item.result c.in-len1-up.len_at_least c.place-item.is)

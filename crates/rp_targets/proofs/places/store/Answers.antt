@@ -1,4 +1,4 @@
-use Rattle.std.proofs.Common.{sym, ap}
+use Rattle.std.proofs.Common.{sym, ap, arith}
 use Rattle.rp_meaning.specs.State.{next}
 use Rattle.rp_meaning.specs.Statements as forms
 use Rattle.rp_ops.specs.Outcome.{gives}
@@ -7,6 +7,7 @@ use Rattle.rp_engine.proofs.Equations.{place_name}
 use Rattle.rp_targets.proofs.PlaceEquations.{place_attr, place_item}
 use Rattle.rp_engine.proofs.Worlds.{IsReady-goes}
 use Rattle.rp_engine.specs.Does as does
+use Rattle.rp_engine.proofs.Weights as weights
 use Rattle.rp_targets.proofs.places.store.Goals as goal
 
 pub returns-in-Name-clause-law : goal.returns-in-Name-clause-law
@@ -23,3 +24,12 @@ returns-in-Attr-clause-law c = rw (c.in-Attr.is, place_attr) c.store_attribute.e
 
 pub returns-in-Item-clause-law : goal.returns-in-Item-clause-law
 returns-in-Item-clause-law c = rw (c.in-Item.is, place_item) c.store_item.ensures.law
+
+pub returns-in-Name-clause-less : goal.returns-in-Name-clause-less
+returns-in-Name-clause-less c = rw c.in-Name.is (grind (arith, weights.place_name c.in-Name.name))
+
+pub returns-in-Attr-clause-less : goal.returns-in-Attr-clause-less
+returns-in-Attr-clause-less c = rw c.in-Attr.is (grind (arith, weights.place_attr))
+
+pub returns-in-Item-clause-less : goal.returns-in-Item-clause-less
+returns-in-Item-clause-less c = rw c.in-Item.is (grind (arith, weights.place_item))

@@ -1,4 +1,4 @@
-use Rattle.std.proofs.Common.{List, ap, arith, drop, length, refl, sym, take, ◌-◌, ◌∙◌, ◌∷◌}
+use Rattle.std.proofs.Common.{List, ap, arith, drop, length, refl, sym, take, ◌-◌, ◌∙◌, ◌∷◌, ◌≤◌}
 use Rattle.rp_meaning.specs.State.{next}
 use Rattle.rp_meaning.specs.Statements as forms
 use Rattle.rp_tree.specs.declared.expr.Place.{Place}
@@ -9,6 +9,7 @@ use Rattle.rp_engine.specs.Does as does
 use Rattle.rp_engine.specs.Law.{frame_in}
 use Rattle.rp_access.specs.Moment.{state_of}
 use Rattle.rp_store.proofs.CallerLemmas.{KeepsShape-same}
+use Rattle.rp_engine.proofs.Weights as weights
 use Rattle.rp_targets.proofs.places.store_all.Goals as goal
 
 pub returns-in-len1-clause-law : goal.returns-in-len1-clause-law
@@ -59,3 +60,12 @@ returns-in-len1-up-clause-ready c = c.store_first.ensures.ready
 
 pub returns-in-len1-up-clause-shape : goal.returns-in-len1-up-clause-shape
 returns-in-len1-up-clause-shape c = c.store_first.ensures.shape
+
+pub returns-in-len1-clause-less : goal.returns-in-len1-clause-less
+returns-in-len1-clause-less c =
+    grind (arith, weights.places_front c.args.places.now c.place-item.result c.in-len1.len_at_least c.place-item.is)
+
+pub returns-in-len1-up-clause-less : goal.returns-in-len1-up-clause-less
+returns-in-len1-up-clause-less c =
+    let some : 1 ≤ length c.args.places.now = omega arith in
+    grind (arith, weights.places_front c.args.places.now c.place-item-2.result some c.place-item-2.is)

@@ -1,4 +1,4 @@
-use Rattle.std.proofs.Common.{[], ◌∷◌, ap, subst, sym, ◌∙◌}
+use Rattle.std.proofs.Common.{[], ◌∷◌, ap, subst, sym, ◌∙◌, arith}
 use Rattle.rp_access.specs.Moment.{state_of}
 use Rattle.rp_base.specs.declared.word.TheConstants.{SET_ITEM}
 use Rattle.rp_meaning.specs.Access as access
@@ -12,6 +12,7 @@ use Rattle.rp_engine.proofs.Worlds.{IsReady-goes}
 use Rattle.rp_engine.specs.Law.{frame_in}
 use Rattle.rp_engine.specs.SpecialSteps.{special_called}
 use Rattle.rp_store.specs.Kept.{IsFit}
+use Rattle.rp_engine.proofs.Weights as weights
 use Rattle.rp_targets.proofs.storing.set_item.Goals as goal
 
 pub returns-in-Ok-None-clause-law : goal.returns-in-Ok-None-clause-law
@@ -56,3 +57,6 @@ returns-in-Ok-Some-clause-ready c =
     let left = rw c.in-Ok-Some.field-0-is at c.in-Ok-Some.ensures.special in
     c.store_by_method.ensures.ready u (IsReady-goes _ _ _ c.args.world.now u c.requires.ready shape c.set_item.ensures.faithful) (shape.fit side c.args.o c.requires.o)
     (shape.fit side c.args.i c.requires.i) (subst (IsFit u.store.heap side) (sym left.0) (shape.fit side c.args.value c.requires.value))
+
+pub returns-in-Ok-None-clause-less : goal.returns-in-Ok-None-clause-less
+returns-in-Ok-None-clause-less c = grind (arith, weights.called_least)

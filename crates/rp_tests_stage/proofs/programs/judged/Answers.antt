@@ -1,7 +1,10 @@
-use Rattle.std.proofs.Common.{◌∙◌, [], ap, subst, sym}
+use Rattle.std.proofs.Common.{◌≤◌, ◌∙◌, [], ap, subst, sym}
+use Rattle.rp_grammar.specs.Program.{highest}
+use Rattle.rp_module.proofs.Heights.{script_low}
 use Rattle.rp_play.specs.Programs.{source_of}
 use Rattle.rp_scope.specs.Numbers.{HasNumbers}
 use Rattle.rp_scope.specs.Scopes.{scopes}
+use Rattle.rp_tree.specs.Heights.{stmts_height}
 use Rattle.rp_tree.specs.StatementViews.{view_tree}
 use Rattle.rp_tree.specs.declared.stmt.Tree.{Tree}
 use Rattle.rp_tests_stage.proofs.programs.judged.Goals as goal
@@ -11,5 +14,6 @@ returns-clause-resolved c =
     let made = c.into_parts-parts.ensures in
     record {
       numbers = subst (λ (t : Tree). HasNumbers (view_tree t)) (sym made.tree) made.kept.numbers;
+      low = subst (λ (t : Tree). stmts_height (view_tree t) ≤ highest) (sym made.tree) (script_low c.in_ok-compiled.compiled made.kept);
       is = made.layouts ∙ made.kept.table ∙ ap (λ (t : Tree). scopes [] (source_of t)) (sym made.tree);
     }

@@ -9,6 +9,7 @@ returns-clause-resolved c =
     let script = c.args.script in
     record {
       numbers = c.requires.whole.numbers;
+      low = c.requires.whole.low;
       blocks = module_blocks loaded loaded.module loaded.layouts c.requires.whole refl refl;
       scripts = one_resolved c.in_ok-scripts.scripts.items c.in_ok-each.each.items script.tree script.table c.in_ok-scripts.ensures.items c.in_ok-each.ensures.items c.requires.resolved;
     }

@@ -12,7 +12,7 @@ returns-in_err-slot g c =
 pub returns-then-self-eq0 : goal.returns-then-self-eq0
 returns-then-self-eq0 g c =
     rw (← c.self.view_is)
-    (c.first.ensures ∙ unmarked_at c.self.inside.next c.self.inside.map.entries c.args.i c.self.invariant.kept (sym c.self.invariant.counted ∙ c.if-self-eq0.true) _ (sym c.in_ok-slot.ensures.entry))
+    (c.pair.ensures.first ∙ unmarked_at c.self.inside.next c.self.inside.map.entries c.args.i c.self.invariant.kept (sym c.self.invariant.counted ∙ c.if-self-eq0.true) _ (sym c.in_ok-slot.ensures.entry))
 
 pub returns : goal.returns
 returns g c =

@@ -7,7 +7,7 @@ use Rattle.rp_access.proofs.Going.{IsEnd-same}
 use Rattle.rp_proxy.specs.Faithful.{IsFaithful}
 use Rattle.rp_proxy.specs.declared.world.World.{World}
 use Rattle.rp_engine.proofs.Unbinding.{bound, unbound}
-use Rattle.rp_engine.proofs.Worlds.{shape_stored}
+use Rattle.rp_engine.proofs.Worlds.{left_same, shape_stored}
 use Rattle.rp_engine.specs.Law.{frame_in}
 use Rattle.rp_engine.specs.Moment.{place_view, program_at}
 use Rattle.rp_access.specs.Moment.{state_of}
@@ -38,3 +38,6 @@ returns-else-is_bound-clause-faithful c = subst IsFaithful (sym c.not_bound.ensu
 
 pub returns-else-is_bound-clause-shape : goal.returns-else-is_bound-clause-shape
 returns-else-is_bound-clause-shape c = shape_stored c.args.world.now.store c.not_bound.new.world.store (ap (λ (v : World). v.store) c.not_bound.ensures.same)
+
+pub returns-else-is_bound-clause-fewer : goal.returns-else-is_bound-clause-fewer
+returns-else-is_bound-clause-fewer c = left_same c.args.world.now c.not_bound.new.world c.not_bound.ensures.same

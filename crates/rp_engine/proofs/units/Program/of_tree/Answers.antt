@@ -12,4 +12,4 @@ pub returns-clause-indexed : goal.returns-clause-indexed
 returns-clause-indexed c =
     let p : Program = record { tree = c.args.tree; layouts = c.args.layouts; codes = c.in_ok-codes.codes } in
     program_indexed p c.requires.numbers c.requires.blocks (c.in_ok-codes.ensures.size ∙ c.len.ensures)
-    (λ n within. c.in_ok-codes.ensures.codes n (subst (λ (k : ℕ). n < k) (sym c.len.ensures) within))
+    (λ n within. c.in_ok-codes.ensures.codes n (subst (λ (k : ℕ). n < k) (sym c.len.ensures) within)) c.requires.low

@@ -1,6 +1,7 @@
 use Rattle.std.proofs.lemmas.List.Elements.{All-nil}
 use Rattle.rp_checker.specs.Answers.{IsReadWith}
 use Rattle.rp_proxy.proofs.LaterNames.{grants-later, rows-later}
+use Rattle.rp_proxy.proofs.RowWords.{declared-words}
 use Rattle.rp_proxy.proofs.world.World.new.Goals as goal
 
 pub returns-clause-faithful : goal.returns-clause-faithful
@@ -10,6 +11,7 @@ returns-clause-faithful c =
       distinct = c.text-first.ensures.distinct;
       held = c.requires.held;
       consistent = c.requires.consistent;
+      words = declared-words c.args.names c.args.decl c.text-first.ensures.identifiers c.requires.held;
     } in
     record {
       read = read;

@@ -14,6 +14,9 @@ use Rattle.rp_engine.proofs.Worlds.{IsReady-goes}
 use Rattle.rp_engine.specs.DefinitionSteps.{got_by}
 use Rattle.rp_engine.specs.HandSteps.{held_by, size_of}
 use Rattle.rp_engine.specs.Law.{frame_in}
+use Rattle.rp_step.proofs.RunWeights.{refuse_under, refused_under}
+use Rattle.rp_step.specs.RunLoads.{waits}
+use Rattle.rp_step.specs.declared.runner.Runner.{Runner}
 use Rattle.rp_step.proofs.runner.Runner.bare_instance.Goals as goal
 
 pub returns-then-plain-gt0-clause-law : goal.returns-then-plain-gt0-clause-law
@@ -79,3 +82,20 @@ returns-in-Err-clause-ready c =
       machine = c.without_hand.ensures.ready u (IsReady-goes _ _ _ w u c.requires.ready.machine shape faithful);
       callers = waiting_goes w u r.callers.items shape faithful c.requires.ready.callers;
     })
+
+pub returns-in-Err-clause-less : goal.returns-in-Err-clause-less
+returns-in-Err-clause-less c =
+    let r = c.args.self.now in
+    let q : Runner = record r { machine = c.without_hand.new.machine } in
+    refused_under c.without_hand.result r q c.args.world.now c.new_instance.new.world
+    (refuse_under c.without_hand.result r.machine c.without_hand.new.machine (waits r.callers.items) c.without_hand.ensures.less)
+
+pub returns-in-Ok-clause-less : goal.returns-in-Ok-clause-less
+returns-in-Ok-clause-less c =
+    refused_under c.give_instance.result c.args.self.now c.give_instance.new.self c.args.world.now c.new_instance.new.world c.give_instance.ensures.less
+
+pub returns-then-plain-gt0-clause-less : goal.returns-then-plain-gt0-clause-less
+returns-then-plain-gt0-clause-less c = refused_under c.refuse.result c.args.self.now c.refuse.new.self c.args.world.now c.args.world.now c.refuse.ensures.less
+
+pub returns-then-named-gt0-clause-less : goal.returns-then-named-gt0-clause-less
+returns-then-named-gt0-clause-less c = refused_under c.refuse-then-named-gt0.result c.args.self.now c.refuse-then-named-gt0.new.self c.args.world.now c.args.world.now c.refuse-then-named-gt0.ensures.less

@@ -8,6 +8,11 @@ use Rattle.rp_step.proofs.Runs.{made_goes, waiting_goes}
 use Rattle.rp_engine.proofs.Worlds.{IsReady-goes}
 use Rattle.rp_step.specs.Callables.{before_all}
 use Rattle.rp_engine.specs.HandSteps.{held_by, size_of}
+use Rattle.rp_step.proofs.RunWeights.{enters_under, refuse_under, refused_under}
+use Rattle.rp_engine.proofs.CodeHeights.{code_low}
+use Rattle.rp_engine.specs.Moment.{program_at}
+use Rattle.rp_step.specs.RunLoads.{waits}
+use Rattle.rp_step.specs.declared.runner.Runner.{Runner}
 use Rattle.rp_step.proofs.runner.Runner.begin.Goals as goal
 
 pub returns-in-Ok-clause-law : goal.returns-in-Ok-clause-law
@@ -56,3 +61,17 @@ returns-in-Err-clause-ready c =
     let faithful = c.scope_of-entered.ensures.faithful c.in_ok-scope.ensures.known in
     always c.without_hand.result _
     (record { machine = c.without_hand.ensures.ready v (IsReady-goes _ _ _ w v c.requires.ready.machine shape faithful); callers = waiting_goes w v r.callers.items shape faithful c.requires.ready.callers })
+
+pub returns-in-Ok-clause-less : goal.returns-in-Ok-clause-less
+returns-in-Ok-clause-less c =
+    let r = c.args.self.now in
+    let e = c.args.callable.entry in
+    enters_under c.switch.result r c.switch.new.self c.args.world.now c.scope_of-entered.new.world c.args.code
+    (code_low (program_at r.machine.units.now e.side) e.block c.args.code (c.requires.ready.machine.indexed e.side) c.requires.code) c.switch.ensures.less
+
+pub returns-in-Err-clause-less : goal.returns-in-Err-clause-less
+returns-in-Err-clause-less c =
+    let r = c.args.self.now in
+    let q : Runner = record r { machine = c.without_hand.new.machine } in
+    refused_under c.without_hand.result r q c.args.world.now c.scope_of-entered.new.world
+    (refuse_under c.without_hand.result r.machine c.without_hand.new.machine (waits r.callers.items) c.without_hand.ensures.less)

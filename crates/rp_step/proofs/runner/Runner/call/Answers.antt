@@ -12,6 +12,7 @@ use Rattle.rp_step.proofs.Entries.{asked_at, refused_ok, rock_refused}
 use Rattle.rp_engine.specs.DefinitionSteps.{called}
 use Rattle.rp_engine.specs.Law.{frame_in}
 use Rattle.rp_engine.specs.HandSteps.{held_by, size_of}
+use Rattle.rp_step.proofs.RunWeights.{refused_under}
 use Rattle.rp_step.proofs.runner.Runner.call.Goals as goal
 
 pub returns-in-None-clause-law : goal.returns-in-None-clause-law
@@ -36,3 +37,6 @@ pub call_object-requires-clause-sound : goal.call_object-requires-clause-sound
 call_object-requires-clause-sound c =
     let w = c.args.world.now in
     subst (λ (o : Option (Oid × Bool)). IfSome o (λ (p : Oid × Bool). IsSound w.store.heap (value.Ref p.0))) c.in-Some.is (c.callee.ensures.sound w c.requires.ready)
+
+pub returns-in-None-clause-less : goal.returns-in-None-clause-less
+returns-in-None-clause-less c = refused_under c.refuse.result c.args.self.now c.refuse.new.self c.args.world.now c.args.world.now c.refuse.ensures.less

@@ -8,6 +8,7 @@ use Rattle.rp_engine.specs.Codes.{code_at}
 use Rattle.rp_engine.specs.HandSteps.{held_by, size_of}
 use Rattle.rp_engine.proofs.Moves.{on_ok}
 use Rattle.rp_step.specs.Running.{Enters}
+use Rattle.rp_step.proofs.RunWeights.{refused_under}
 use Rattle.rp_step.proofs.runner.Runner.call_function.Goals as goal
 
 pub returns-then-self-eq0-clause-law : goal.returns-then-self-eq0-clause-law
@@ -54,3 +55,9 @@ returns-in-Some-clause-law c =
     on_ok c.begin.result (Enters c.args.hand c.args.callable.entry.function vs c.args.lent c.args.made c.args.self.now c.args.world.now c.begin.new.self c.begin.new.world)
     (Enters c.args.hand c.args.callable.entry.function vs c.args.lent c.args.made c.args.self.now c.args.world.now c.begin.new.self c.begin.new.world)
     (λ law base. law base) c.begin.ensures.law
+
+pub returns-then-self-eq0-clause-less : goal.returns-then-self-eq0-clause-less
+returns-then-self-eq0-clause-less c = refused_under c.refuse.result c.args.self.now c.refuse.new.self c.args.world.now c.args.world.now c.refuse.ensures.less
+
+pub returns-in-None-clause-less : goal.returns-in-None-clause-less
+returns-in-None-clause-less c = refused_under c.refuse-in-None.result c.args.self.now c.refuse-in-None.new.self c.args.world.now c.args.world.now c.refuse-in-None.ensures.less

@@ -1,6 +1,7 @@
 use Rattle.std.specs.Str.{chars}
 use Rattle.rp_engine.proofs.Doings.{always}
 use Rattle.rp_step.proofs.SpecialCalls.{method_called, method_refused}
+use Rattle.rp_step.proofs.RunWeights.{refused_under}
 use Rattle.rp_step.proofs.runner.Runner.call_method.Goals as goal
 
 pub returns-in-Some-clause-law : goal.returns-in-Some-clause-law
@@ -16,3 +17,6 @@ returns-in-None-clause-law c =
 
 pub returns-in-None-clause-ready : goal.returns-in-None-clause-ready
 returns-in-None-clause-ready c = always c.refuse.result _ (c.refuse.ensures.ready c.args.world.now c.requires.ready)
+
+pub returns-in-None-clause-less : goal.returns-in-None-clause-less
+returns-in-None-clause-less c = refused_under c.refuse.result c.args.self.now c.refuse.new.self c.args.world.now c.args.world.now c.refuse.ensures.less

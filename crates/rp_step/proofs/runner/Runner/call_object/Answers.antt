@@ -12,6 +12,7 @@ use Rattle.rp_step.proofs.Instancing.{calls_class}
 use Rattle.rp_step.specs.Callables.{IsCallableAt, IsCalledAt, IsUncalledAt}
 use Rattle.rp_step.specs.declared.callables.Called.{Called}
 use Rattle.std.specs.Prelude.{Some}
+use Rattle.rp_step.proofs.RunWeights.{refused_under}
 use Rattle.rp_step.proofs.runner.Runner.call_object.Goals as goal
 
 pub returns-in-Code-clause-law : goal.returns-in-Code-clause-law
@@ -60,3 +61,6 @@ returns-in-Nothing-clause-law c =
 
 pub returns-in-Nothing-clause-ready : goal.returns-in-Nothing-clause-ready
 returns-in-Nothing-clause-ready c = always c.refuse.result _ (c.refuse.ensures.ready c.args.world.now c.requires.ready)
+
+pub returns-in-Nothing-clause-less : goal.returns-in-Nothing-clause-less
+returns-in-Nothing-clause-less c = refused_under c.refuse.result c.args.self.now c.refuse.new.self c.args.world.now c.args.world.now c.refuse.ensures.less

@@ -6,6 +6,7 @@ use Rattle.rp_base.specs.declared.value.Value.TheVariants as value
 use Rattle.rp_store.specs.Kept.{IsSound}
 use Rattle.rp_engine.proofs.Doings.{always}
 use Rattle.rp_step.proofs.SpecialCalls.{special_asked, special_refused}
+use Rattle.rp_step.proofs.RunWeights.{refused_under}
 use Rattle.rp_step.proofs.runner.Runner.call_special.Goals as goal
 
 pub returns-in-None-clause-law : goal.returns-in-None-clause-law
@@ -25,3 +26,6 @@ pub call_method-requires-clause-sound : goal.call_method-requires-clause-sound
 call_method-requires-clause-sound c =
     let w = c.args.world.now in
     subst (λ (o : Option (Oid × Bool)). IfSome o (λ (p : Oid × Bool). IsSound w.store.heap (value.Ref p.0))) c.in-Some.is (c.callee.ensures.sound w c.requires.ready)
+
+pub returns-in-None-clause-less : goal.returns-in-None-clause-less
+returns-in-None-clause-less c = refused_under c.refuse.result c.args.self.now c.refuse.new.self c.args.world.now c.args.world.now c.refuse.ensures.less

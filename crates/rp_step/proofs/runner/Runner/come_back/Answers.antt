@@ -3,6 +3,7 @@ use Rattle.std.proofs.Common.{sym, subst, ap, ◌∙◌}
 use Rattle.rp_engine.specs.Ready.{IsReady}
 use Rattle.rp_engine.specs.declared.machine.Machine.{Machine}
 use Rattle.rp_step.specs.Left.{at_end}
+use Rattle.rp_step.proofs.RunWeights.{came_less}
 use Rattle.rp_step.proofs.runner.Runner.come_back.Goals as goal
 
 pub returns-in_ok-resume-in-Some-clause-law : goal.returns-in_ok-resume-in-Some-clause-law
@@ -41,3 +42,7 @@ returns-in-None-clause-none c = λ h. c.next_caller.ensures.same c.in-None.ensur
 
 pub returns-in-None-clause-stands : goal.returns-in-None-clause-stands
 returns-in-None-clause-stands c = λ h. ap (λ (m : Machine). at_end m.control) c.next_caller.ensures.machine ∙ c.requires.stands
+
+pub returns-in_ok-resume-in-Some-clause-less : goal.returns-in_ok-resume-in-Some-clause-less
+returns-in_ok-resume-in-Some-clause-less c = λ h.
+    came_less c.args.self.now c.next_caller.new.self c.resume.new.self c.in-Some.caller c.in-Some.ensures.last c.next_caller.ensures.machine c.in_ok-resume-in-Some.ensures.less

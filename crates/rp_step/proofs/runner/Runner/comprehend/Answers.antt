@@ -1,10 +1,11 @@
-use Rattle.std.proofs.Common.{sym, subst}
+use Rattle.std.proofs.Common.{sym, subst, ap}
 use Rattle.rp_access.specs.Spots.{cursor_at}
 use Rattle.rp_engine.specs.ComprehensionSteps.{comprehension_over, does_made}
 use Rattle.rp_engine.specs.Does as does
 use Rattle.rp_engine.specs.declared.machine.Machine.{Machine}
 use Rattle.rp_store.specs.Kept.{IsFit}
 use Rattle.rp_step.proofs.InnerTurns.{gets_top}
+use Rattle.rp_step.proofs.RunWeights.{over_under}
 use Rattle.rp_step.proofs.runner.Runner.comprehend.Goals as goal
 
 pub returns-clause-law : goal.returns-clause-law
@@ -21,3 +22,8 @@ pub comprehend_over-requires-clause-value : goal.comprehend_over-requires-clause
 comprehend_over-requires-clause-value c =
     let w = c.args.world.now in
     subst (λ (m : Machine). IsFit w.store.heap m.frame.side c.at_hand-value.result) (sym c.at_hand-value.ensures.left) (c.at_hand-value.ensures.fit w c.requires.ready.machine)
+
+pub returns-clause-less : goal.returns-clause-less
+returns-clause-less c =
+    over_under c.comprehend_over.result 4 c.args.self.now c.comprehend_over.new.self c.at_hand-value.new.self c.args.world.now c.comprehend_over.new.world
+    (ap (λ (m : Machine). m.tasks) c.at_hand-value.ensures.left) c.comprehend_over.ensures.less

@@ -12,6 +12,8 @@ use Rattle.rp_store.specs.Kept.{IsFit}
 use Rattle.rp_targets.proofs.Comprehending.{result_ends, result_gives, result_holds}
 use Rattle.rp_step.proofs.InnerTurns.{gets_as, gets_end, runs_on}
 use Rattle.rp_step.proofs.Runs.{runnable_goes}
+use Rattle.rp_step.proofs.RunWeights.{later_under, none_under}
+use Rattle.rp_step.specs.RunLoads.{waits}
 use Rattle.rp_step.proofs.runner.Runner.comprehend_in.Goals as goal
 
 pub returns-in-Ok-clause-law : goal.returns-in-Ok-clause-law
@@ -67,3 +69,12 @@ returns-in-Err-clause-ready c =
     let shape = c.new_result.ensures.shape in
     always c.no_value.result _ (runnable_goes c.args.self.now c.no_value.new.self w u c.requires.ready
     (c.no_value.ensures.ready u (IsReady-goes _ _ _ w u c.requires.ready.machine shape c.new_result.ensures.faithful)) shape)
+
+pub returns-in-Ok-clause-less : goal.returns-in-Ok-clause-less
+returns-in-Ok-clause-less c =
+    later_under c.fill.result 4 c.args.self.now c.fill.new.self c.args.world.now c.new_result.new.world c.fill.new.world c.new_result.ensures.fewer c.fill.ensures.less
+
+pub returns-in-Err-clause-less : goal.returns-in-Err-clause-less
+returns-in-Err-clause-less c =
+    let r = c.args.self.now in
+    none_under c.no_value.result r.machine c.no_value.new.self (waits r.callers.items) c.args.world.now c.new_result.new.world c.no_value.ensures.less

@@ -6,6 +6,8 @@ use Rattle.rp_engine.specs.Does as does
 use Rattle.rp_targets.proofs.Comprehending.{scope_ends, scope_gives}
 use Rattle.rp_step.proofs.InnerTurns.{gets_as, gets_end, runs_on}
 use Rattle.rp_step.proofs.Runs.{runnable_goes}
+use Rattle.rp_step.proofs.RunWeights.{later_under, none_under}
+use Rattle.rp_step.specs.RunLoads.{waits}
 use Rattle.rp_step.proofs.runner.Runner.comprehend_over.Goals as goal
 
 pub returns-in-Ok-clause-law : goal.returns-in-Ok-clause-law
@@ -50,3 +52,12 @@ returns-in-Err-clause-ready c =
     let shape = c.inner_scope.ensures.shape in
     always c.no_value.result _ (runnable_goes c.args.self.now c.no_value.new.self w u c.requires.ready
     (c.no_value.ensures.ready u (IsReady-goes _ _ _ w u c.requires.ready.machine shape c.inner_scope.ensures.faithful)) shape)
+
+pub returns-in-Ok-clause-less : goal.returns-in-Ok-clause-less
+returns-in-Ok-clause-less c =
+    later_under c.comprehend_in.result 4 c.args.self.now c.comprehend_in.new.self c.args.world.now c.inner_scope.new.world c.comprehend_in.new.world c.inner_scope.ensures.fewer c.comprehend_in.ensures.less
+
+pub returns-in-Err-clause-less : goal.returns-in-Err-clause-less
+returns-in-Err-clause-less c =
+    let r = c.args.self.now in
+    none_under c.no_value.result r.machine c.no_value.new.self (waits r.callers.items) c.args.world.now c.inner_scope.new.world c.no_value.ensures.less

@@ -5,6 +5,9 @@ use Rattle.rp_engine.specs.ComprehensionSteps.{does_made}
 use Rattle.rp_engine.specs.Does as does
 use Rattle.rp_meaning.specs.Expressions as forms
 use Rattle.rp_step.proofs.InnerTurns.{fills_ready, turns_made, within_fit, within_ready}
+use Rattle.rp_engine.specs.declared.machine.Machine.{Machine}
+use Rattle.rp_step.specs.declared.callers.Caller.{Caller}
+use Rattle.rp_step.proofs.RunWeights.{turns_under}
 use Rattle.rp_step.proofs.runner.Runner.fill.Goals as goal
 
 pub returns-clause-law : goal.returns-clause-law
@@ -34,3 +37,10 @@ returns-clause-ready c =
     let both = fills_ready c.args.self.now c.first_turn.new.machine c.args.world.now c.first_turn.new.world c.keep.new.self.callers.items c.suspend-caller.result c.args.at
     c.suspend-caller.ensures.caller c.in_ok-keep.ensures.kept c.requires.ready c.requires.place c.first_turn.ensures.shape c.first_turn.ensures.ready in
     always c.first_turn.result _ (record { machine = both.0; callers = both.1 })
+
+pub returns-clause-less : goal.returns-clause-less
+returns-clause-less c =
+    let r = c.args.self.now in
+    turns_under c.first_turn.result c.first_turn.new.machine c.keep.new.self.machine c.keep.new.self.callers.items r.callers.items r.machine.tasks c.suspend-caller.result
+    c.args.world.now c.first_turn.new.world (ap (λ (c : Caller). c.tasks) c.suspend-caller.ensures.caller)
+    (ap (λ (m : Machine). m.tasks) (c.keep.ensures.machine ∙ c.suspend-caller.ensures.left)) c.in_ok-keep.ensures.kept c.first_turn.ensures.less

@@ -1,8 +1,11 @@
-use Rattle.std.proofs.Common.{◌≡◌, ◌+◌, suc, arith}
+use Rattle.std.proofs.Common.{◌≡◌, ◌+◌, suc, arith, ap}
 use Rattle.rp_expressions.proofs.Callings.{fit_dropped, ready_dropped}
 use Rattle.rp_engine.proofs.Doings.{always}
 use Rattle.rp_step.proofs.Instancing.{instance_given}
 use Rattle.rp_engine.specs.HandSteps.{size_of}
+use Rattle.rp_engine.specs.declared.machine.Machine.{Machine}
+use Rattle.rp_step.proofs.RunWeights.{given_under}
+use Rattle.rp_step.specs.RunLoads.{waits}
 use Rattle.rp_step.proofs.runner.Runner.give_instance.Goals as goal
 
 pub returns-clause-law : goal.returns-clause-law
@@ -22,3 +25,8 @@ returns-clause-ready c =
           (fit_dropped r.machine c.forget.new.self c.back.new.self c.back.result (size_of c.args.hand) (c.size.result + 1) c.forget.ensures more w c.given-value.result c.given-value.ensures.fit);
       callers = c.requires.ready.callers;
     })
+
+pub returns-clause-less : goal.returns-clause-less
+returns-clause-less c =
+    let r = c.args.self.now in
+    given_under c.back.result r.machine c.forget.new.self c.back.new.self (waits r.callers.items) (ap (λ (m : Machine). m.tasks) c.forget.ensures) c.back.ensures.less

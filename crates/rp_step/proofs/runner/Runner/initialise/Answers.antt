@@ -3,6 +3,10 @@ use Rattle.rp_engine.proofs.Doings.{always}
 use Rattle.rp_step.proofs.Instancing.{init_ended, init_given, made_ends, made_is}
 use Rattle.rp_step.proofs.Runs.{waiting_goes}
 use Rattle.rp_engine.proofs.Worlds.{IsReady-goes}
+use Rattle.rp_step.proofs.RunWeights.{refuse_under, refused_under, later_under}
+use Rattle.rp_step.specs.RunLoads.{waits}
+use Rattle.rp_step.specs.declared.runner.Runner.{Runner}
+use Rattle.rp_engine.specs.Loads.{called}
 use Rattle.rp_step.proofs.runner.Runner.initialise.Goals as goal
 
 pub returns-in-Ok-clause-law : goal.returns-in-Ok-clause-law
@@ -41,3 +45,15 @@ returns-in-Err-clause-ready c =
       machine = c.without_hand.ensures.ready u (IsReady-goes _ _ _ w u c.requires.ready.machine shape faithful);
       callers = waiting_goes w u r.callers.items shape faithful c.requires.ready.callers;
     })
+
+pub returns-in-Err-clause-less : goal.returns-in-Err-clause-less
+returns-in-Err-clause-less c =
+    let r = c.args.self.now in
+    let q : Runner = record r { machine = c.without_hand.new.machine } in
+    refused_under c.without_hand.result r q c.args.world.now c.new_instance.new.world
+    (refuse_under c.without_hand.result r.machine c.without_hand.new.machine (waits r.callers.items) c.without_hand.ensures.less)
+
+pub returns-in-Ok-clause-less : goal.returns-in-Ok-clause-less
+returns-in-Ok-clause-less c =
+    later_under c.call_behind.result called c.args.self.now c.call_behind.new.self c.args.world.now c.new_instance.new.world c.call_behind.new.world
+    c.new_instance.ensures.fewer c.call_behind.ensures.less

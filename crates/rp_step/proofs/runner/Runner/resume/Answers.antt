@@ -8,6 +8,7 @@ use Rattle.rp_engine.proofs.Doings.{always}
 use Rattle.rp_step.proofs.Runs.{cut_here, resumed_ok}
 use Rattle.rp_engine.specs.Ends.{end_of}
 use Rattle.rp_step.specs.Running.{given, whole_of}
+use Rattle.rp_step.proofs.RunWeights.{at_any, at_control}
 use Rattle.rp_step.proofs.runner.Runner.resume.Goals as goal
 
 pub returns-in-Returned-clause-law : goal.returns-in-Returned-clause-law
@@ -76,3 +77,24 @@ returns-in-CutOff-clause-law c =
 
 pub returns-in-CutOff-clause-ready : goal.returns-in-CutOff-clause-ready
 returns-in-CutOff-clause-ready c = always c.cut-in-CutOff.result _ (c.cut-in-CutOff.ensures.ready c.args.world.now c.requires.ready c.requires.caller)
+
+pub returns-in-Returned-clause-less : goal.returns-in-Returned-clause-less
+returns-in-Returned-clause-less c = at_control c.give.result _ _ c.args.self.now.machine.control control.Returned c.in-Returned.is c.give.ensures.less
+
+pub returns-in-Value-clause-less : goal.returns-in-Value-clause-less
+returns-in-Value-clause-less c = at_control c.give-in-Value.result _ _ c.args.self.now.machine.control control.Value c.in-Value.is c.give-in-Value.ensures.less
+
+pub returns-in-Next-clause-less : goal.returns-in-Next-clause-less
+returns-in-Next-clause-less c = at_control c.give-in-Next.result _ _ c.args.self.now.machine.control control.Next c.in-Next.is c.give-in-Next.ensures.less
+
+pub returns-in-Broke-clause-less : goal.returns-in-Broke-clause-less
+returns-in-Broke-clause-less c = at_control c.give-in-Broke.result _ _ c.args.self.now.machine.control control.Broke c.in-Broke.is c.give-in-Broke.ensures.less
+
+pub returns-in-Continued-clause-less : goal.returns-in-Continued-clause-less
+returns-in-Continued-clause-less c = at_control c.give-in-Continued.result _ _ c.args.self.now.machine.control control.Continued c.in-Continued.is c.give-in-Continued.ensures.less
+
+pub returns-in-NoValue-clause-less : goal.returns-in-NoValue-clause-less
+returns-in-NoValue-clause-less c = at_any c.cut.result _ _ c.args.self.now.machine.control c.cut.ensures.less
+
+pub returns-in-CutOff-clause-less : goal.returns-in-CutOff-clause-less
+returns-in-CutOff-clause-less c = at_any c.cut-in-CutOff.result _ _ c.args.self.now.machine.control c.cut-in-CutOff.ensures.less

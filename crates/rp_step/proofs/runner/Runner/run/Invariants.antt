@@ -1,3 +1,4 @@
+use Rattle.std.proofs.Common.{◌≤◌}
 use Rattle.rp_store.specs.Shape.{KeepsShape}
 use Rattle.rp_step.specs.Running.{GoesOn, IsRunnable}
 use Rattle.rp_step.proofs.runner.Runner.run.Given as goal
@@ -5,4 +6,7 @@ use Rattle.rp_step.proofs.runner.Runner.run.Given as goal
 abbrev pub invariant-loop : goal.invariant-loop
 invariant-loop l =
     GoesOn l.initial.self l.initial.world l.self l.world × IsRunnable l.self l.world
-    × KeepsShape l.initial.world.store.heap l.world.store.heap
+    × KeepsShape l.initial.world.store.heap l.world.store.heap × l.world.running.meter.left ≤ l.initial.world.running.meter.left
+
+abbrev pub decreases-loop : goal.decreases-loop
+decreases-loop l = l.world.running.meter.left

@@ -1,0 +1,11 @@
+pub mod Counts
+pub mod Inner
+pub mod Numbers
+pub mod Among
+pub mod Rooms
+pub mod Keeping
+pub mod Binding
+pub mod FitKeeper
+pub mod Laws
+pub mod Loading
+pub mod Worlds

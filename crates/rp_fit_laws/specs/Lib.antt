@@ -1,0 +1,4 @@
+pub mod Programs
+pub mod Fit
+pub mod Laws
+pub mod Worlds

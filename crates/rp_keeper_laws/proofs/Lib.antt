@@ -1,0 +1,16 @@
+pub mod Plainly
+pub mod Operations
+pub mod Objects
+pub mod Natives
+pub mod Methods
+pub mod BuiltIns
+pub mod Mildly
+pub mod Everything
+pub mod Going
+pub mod Forms
+pub mod Calling
+pub mod Parts
+pub mod Statements
+pub mod Trees
+pub mod Programs
+pub mod Turns

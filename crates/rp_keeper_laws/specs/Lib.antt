@@ -1,0 +1,3 @@
+pub mod PlainKeepers
+pub mod Blocks
+pub mod Keepers

@@ -1,0 +1,11 @@
+pub mod Parameters
+pub mod Functions
+pub mod Expressions
+pub mod Statements
+pub mod Changed
+pub mod Numbered
+pub mod Compiled
+pub mod Agreeing
+pub mod Places
+pub mod Programs
+pub mod Declared
