@@ -40,7 +40,7 @@ others_stay n (m ∷ ms) rest h = by (same_name n m) h.0 (others_stay n ms rest 
   by false e more = ap (λ xs. m ∷ xs) more
 
 -- so each of some names that differ stands once
-once_begins : (ns gs rest : List Name) → AllDiffer ns gs
+pub once_begins : (ns gs rest : List Name) → AllDiffer ns gs
     → (more : List Name) × (once same_name (ns ++ rest) ≡ ns ++ more)
 once_begins [] gs rest h = (once same_name rest, refl)
 once_begins (n ∷ ns) gs rest h =

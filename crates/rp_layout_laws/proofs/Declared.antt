@@ -1,7 +1,7 @@
 -- A module has a local name for each declared class and object.
-use Rattle.std.proofs.Common.{◌≡◌, refl, sym, ap, ◌∙◌, true≢false, ℕ, Bool, true, false, cond, not, ◌||◌, List}
+use Rattle.std.proofs.Common.{◌≡◌, refl, sym, ap, ◌∙◌, true≢false, ℕ, Bool, true, false, ◌||◌, List}
 use Rattle.std.proofs.Common.{[], ◌∷◌, ◌++◌, length, map, Ordering, Less, Equal, Greater, arith}
-use Rattle.std.specs.List.{All, AllByRecursion, filter, list_any}
+use Rattle.std.specs.List.{All, AllByRecursion, list_any}
 use Rattle.std.specs.List.Sorted.{IsStrictlySortedBy}
 use Rattle.std.specs.Ordering.{ordering_reverse}
 use Rattle.std.proofs.lemmas.List.{length-append, length-map}
@@ -16,66 +16,35 @@ use Rattle.rp_decl.specs.Order.{text_cmp}
 use Rattle.rp_decl.specs.Records.{Object}
 use Rattle.rp_decl.proofs.Orders.{text_cmp_total}
 use Rattle.rp_meaning.specs.BuiltIn.{name_of}
-use Rattle.rp_scope.specs.Bindings.{mentioned_name, once, stmts_mentions}
+use Rattle.rp_scope.specs.Bindings.{mentioned_name, stmts_mentions}
 use Rattle.rp_apart_laws.specs.Apart.{Each}
+use Rattle.rp_fit_laws.specs.Programs.{AllDiffer}
+use Rattle.rp_fit_laws.proofs.Rooms.{once_begins}
 use Rattle.rp_layout_laws.specs.Layout.{AreHeld, EachDeclaredHasRoom, declared_names}
 use Rattle.rp_layout_laws.proofs.Places.{names_differ}
-
--- ---- names that differ stay
-
--- no name of a list is this one
-abbrev AreOthers : Name → List Name → Type 0
-AreOthers n ns = Each (λ (m : Name). same_name n m ≡ false) ns
-
-abbrev AllOthers : List Name → Type 0
-AllOthers [] = Unit {0}
-AllOthers (n ∷ ns) = AreOthers n ns × AllOthers ns
-
--- where a first name is taken out, other names stay
-others_stay : (n : Name) (ns rest : List Name) → AreOthers n ns
-    → filter (λ m. not (same_name n m)) (ns ++ rest) ≡ ns ++ filter (λ m. not (same_name n m)) rest
-others_stay n [] rest h = refl
-others_stay n (m ∷ ms) rest h = by (same_name n m) h.0 (others_stay n ms rest h.1) where
-  by : (b : Bool) → b ≡ false
-      → filter (λ m. not (same_name n m)) (ms ++ rest) ≡ ms ++ filter (λ m. not (same_name n m)) rest
-      → cond (not b) (m ∷ filter (λ m. not (same_name n m)) (ms ++ rest)) (filter (λ m. not (same_name n m))
-      (ms ++ rest))
-      ≡ m ∷ (ms ++ filter (λ m. not (same_name n m)) rest)
-  by true e more = absurd (true≢false e)
-  by false e more = ap (λ xs. m ∷ xs) more
-
--- so each of some names that differ stands once
-once_begins : (ns rest : List Name) → AllOthers ns → (more : List Name) × (once same_name (ns ++ rest) ≡ ns ++ more)
-once_begins [] rest h = (once same_name rest, refl)
-once_begins (n ∷ ns) rest h =
-    let these = once_begins ns rest h.1 in (
-      filter (λ m. not (same_name n m)) these.0,
-      ap (λ xs. n ∷ filter (λ m. not (same_name n m)) xs) these.1
-          ∙ ap (λ xs. n ∷ xs) (others_stay n ns these.0 h.0),
-    )
 
 -- ---- words that differ
 
 abbrev Differs : List ℕ → List ℕ → Type 0
 Differs v w = same_text v w ≡ false
 
-abbrev AllDiffer : List (List ℕ) → Type 0
-AllDiffer [] = Unit {0}
-AllDiffer (w ∷ ws) = Each (Differs w) ws × AllDiffer ws
+abbrev AllApart : List (List ℕ) → Type 0
+AllApart [] = Unit {0}
+AllApart (w ∷ ws) = Each (Differs w) ws × AllApart ws
 
 -- so do their names
 
 others_named : (names : List (List ℕ)) (w : List ℕ) (ws : List (List ℕ)) → is_held names w ≡ true → AreHeld names ws
-    → Each (Differs w) ws → AreOthers (name_of names w) (map (name_of names) ws)
+    → Each (Differs w) ws → Each (λ (m : Name). same_name (name_of names w) m ≡ false) (map (name_of names) ws)
 others_named names w [] held also differ = tt
 others_named names w (v ∷ vs) held also differ =
     (names_differ names w v held also.0 differ.0, others_named names w vs held also.1 differ.1)
 
-all_named : (names : List (List ℕ)) (ws : List (List ℕ)) → AreHeld names ws → AllDiffer ws
-    → AllOthers (map (name_of names) ws)
+all_named : (names : List (List ℕ)) (ws : List (List ℕ)) → AreHeld names ws → AllApart ws
+    → AllDiffer (map (name_of names) ws) []
 all_named names [] held differ = tt
 all_named names (w ∷ ws) held differ =
-    (others_named names w ws held.0 held.1 differ.0, all_named names ws held.1 differ.1)
+    (others_named names w ws held.0 held.1 differ.0, refl, all_named names ws held.1 differ.1)
 
 -- ---- words in byte order
 
@@ -96,7 +65,7 @@ all_less : (v : List ℕ) (ws : List (List ℕ)) → AllByRecursion (λ y. text_
 all_less v [] less = tt
 all_less v (w ∷ ws) less = (less_differs v w less.0, all_less v ws less.1)
 
-ascending_differ : (ws : List (List ℕ)) → AreAscending ws → AllDiffer ws
+ascending_differ : (ws : List (List ℕ)) → AreAscending ws → AllApart ws
 unfolding IsStrictlySortedBy
 ascending_differ [] up = tt
 ascending_differ (w ∷ ws) up = (all_less w ws up.0, ascending_differ ws up.1)
@@ -116,8 +85,8 @@ both_differ v [] us h k = k
 both_differ v (w ∷ ws) us h k = (h.0, both_differ v ws us h.1 k)
 
 -- where none of the others is one of these
-all_differ : (ws us : List (List ℕ)) → AllDiffer ws → AllDiffer us
-    → Each (λ (u : List ℕ). list_any (same_text u) ws ≡ false) us → AllDiffer (ws ++ us)
+all_differ : (ws us : List (List ℕ)) → AllApart ws → AllApart us
+    → Each (λ (u : List ℕ). list_any (same_text u) ws ≡ false) us → AllApart (ws ++ us)
 all_differ [] us h k apart = k
 all_differ (w ∷ ws) us h k apart =
     (both_differ w ws us h.0 (first us apart), all_differ ws us h.1 k (behind us apart))
@@ -153,7 +122,7 @@ each_declared_has_room names d order apart held body =
     (ascending_differ (class_names d) order.classes)
     (ascending_differ (map (λ (o : Object). o.name) d.objects) order.objects)
     (objects_apart (class_names d) d.objects apart.objects) in
-    let these = once_begins (map (name_of names) (declared_names d)) (map mentioned_name (stmts_mentions body))
+    let these = once_begins (map (name_of names) (declared_names d)) [] (map mentioned_name (stmts_mentions body))
     (all_named names (declared_names d) held differ) in
     let long = ap length these.1 in
     let more = length-append (map (name_of names) (declared_names d)) these.0 in

@@ -3,6 +3,8 @@ pub mod Complete
 mod Determined
 mod Endings
 pub mod Entries
+pub mod Fit
+mod Held
 mod Numbered
 mod Numbering
 mod Once

@@ -25,7 +25,7 @@ use Rattle.rp_tree.specs.StatementTrees.{Stmts}
 use Rattle.rp_words.specs.Command.{Command, Pair, Run}
 
 -- the built-in functions and methods of a run are those of the language, and `len` is decided as `__len__`
-built_in : AreBuiltIn natives
+pub built_in : AreBuiltIn natives
 unfolding natives
 built_in = record {
   functions = λ names side id vs s. refl;

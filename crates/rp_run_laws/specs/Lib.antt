@@ -1,4 +1,5 @@
 pub mod Completeness
+pub mod Fit
 pub mod Trails
 pub mod Unallowed
 pub mod Unwatched
