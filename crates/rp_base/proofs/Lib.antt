@@ -1,7 +1,6 @@
 pub mod CallerLemmas
 pub mod FirstWords
 pub mod Hierarchy
-mod Keywords
 mod Plain
 pub mod Spelling
 pub mod Texts

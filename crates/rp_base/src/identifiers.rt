@@ -1,6 +1,6 @@
 //! Identifiers and keywords.
 
-ghost use Rattle.std.specs.Prelude.{◌≡◌, ◌↔◌, ◌&&◌, IfOk, IfSome, IsTrue, chars, length, nat_le};
+ghost use Rattle.std.specs.Prelude.{◌≡◌, ◌↔◌, ◌&&◌, IfOk, IfSome, IsTrue, chars, get_or, length, nat_le};
 ghost use Rattle.std.specs.List.{list_all};
 ghost use Rattle.unicode_ident.specs.Ident.{is_xid_continue};
 ghost use Rattle.rp_base.specs.Identifier.{IsIdentifier, begins_well, identifier_of, is_identifier, is_identifier_word};
@@ -55,18 +55,37 @@ pub fn is_identifier_word(alloc: Global, word: &str) -> Result<bool, Memory>
 pub fn is_keyword(word: &str) -> bool
     ensures { result ≡ is_keyword word.now }
 {
-    match word.len() {
-        2 => ["as", "if", "in", "is", "or"].contains(&word),
-        3 => ["and", "def", "del", "for", "not", "try"].contains(&word),
-        4 => ["None", "True", "elif", "else", "from", "pass", "with"].contains(&word),
-        5 => [
-            "False", "async", "await", "break", "class", "raise", "while", "yield",
-        ]
-        .contains(&word),
-        6 => ["assert", "except", "global", "import", "lambda", "return"].contains(&word),
-        7 => ["finally"].contains(&word),
-        8 => ["continue", "nonlocal"].contains(&word),
+    match first_byte(word) {
+        b'F' => ["False"].contains(&word),
+        b'N' => ["None"].contains(&word),
+        b'T' => ["True"].contains(&word),
+        b'a' => ["and", "as", "assert", "async", "await"].contains(&word),
+        b'b' => ["break"].contains(&word),
+        b'c' => ["class", "continue"].contains(&word),
+        b'd' => ["def", "del"].contains(&word),
+        b'e' => ["elif", "else", "except"].contains(&word),
+        b'f' => ["finally", "for", "from"].contains(&word),
+        b'g' => ["global"].contains(&word),
+        b'i' => ["if", "import", "in", "is"].contains(&word),
+        b'l' => ["lambda"].contains(&word),
+        b'n' => ["nonlocal", "not"].contains(&word),
+        b'o' => ["or"].contains(&word),
+        b'p' => ["pass"].contains(&word),
+        b'r' => ["raise", "return"].contains(&word),
+        b't' => ["try"].contains(&word),
+        b'w' => ["while", "with"].contains(&word),
+        b'y' => ["yield"].contains(&word),
         _ => false,
+    }
+}
+
+/// The first byte of a word, 0 where it is empty.
+fn first_byte(word: &str) -> u8
+    ensures { result ≡ get_or word.now 0 0 }
+{
+    match word.as_bytes().first() {
+        Some(byte) => *byte,
+        None => 0,
     }
 }
 

@@ -15,12 +15,13 @@ use std::hash::{Hash, Hasher};
 use std::marker::Model;
 use std::rc::Rc;
 
-/// The characters of a text, and how many they are. Where one is not ASCII, they stand by place too.
+/// The characters of a text, and how many they are. Where one is not ASCII, they stand by place too, elsewhere, so that
+/// the others have no room for that.
 #[derive(Drop)]
 pub struct Letters {
     text: String,
     count: usize,
-    wide: Option<Vec<char>>,
+    wide: Option<Box<Vec<char>>>,
 }
 
 /// The characters of a text, each at its place: an ASCII text has one byte for each, and another keeps four bytes for
@@ -57,7 +58,7 @@ impl Model for Text {
 
     ghost invariant = { λ t. let kept = t.shared.value in let letters = chars (string_bytes kept.text) in
         (kept.count ≡ length letters)
-        × MatchOption kept.wide (IsAscii letters) (λ v. (v.items ≡ letters) × ¬ IsAscii letters) };
+        × MatchOption kept.wide (IsAscii letters) (λ v. (v.value.items ≡ letters) × ¬ IsAscii letters) };
 }
 
 impl Text {
@@ -163,15 +164,15 @@ fn count(text: &str) -> usize
 }
 
 /// The characters by place of a text that has so many, where not all are ASCII.
-fn wide_letters(alloc: Global, text: &str, count: usize) -> Result<Option<Vec<char>>, Memory>
+fn wide_letters(alloc: Global, text: &str, count: usize) -> Result<Option<Box<Vec<char>>>, Memory>
     requires { count ≡ length (chars text.now) }
-    ensures { IfOk result (λ wide. MatchOption wide (IsAscii (chars text.now)) (λ v. (v.items ≡ chars text.now)
+    ensures { IfOk result (λ wide. MatchOption wide (IsAscii (chars text.now)) (λ v. (v.value.items ≡ chars text.now)
         × ¬ IsAscii (chars text.now))) }
 {
     if text.len() == count {
         return Ok(None);
     }
-    Ok(Some(by_place(alloc, text, count)?))
+    Ok(Some(Box::new(alloc, by_place(alloc, text, count)?)?))
 }
 
 /// The characters by place.

@@ -1,5 +1,6 @@
 -- What is named and not known, of lists that are joined.
-use Rattle.std.proofs.Common.{◌≡◌, ℕ, Bool, true, false, not, ◌||◌, cond, suc, List, [], ◌∷◌, ◌++◌, Option, Some, is_some, option_map, refl, sym, ap, ◌∙◌}
+use Rattle.std.proofs.Common.{◌≡◌, ℕ, Bool, true, false, not, ◌||◌, cond, suc, if◌then◌else◌, List, [], ◌∷◌, ◌++◌, Option, None, Some, is_some, option_and_then, option_map, refl, sym, ap, ◌∙◌}
+use Rattle.std.specs.Option.{option_map_or}
 use Rattle.std.proofs.lemmas.List.Elements.{filter-append}
 use Rattle.rp_base.specs.Same.{same_text}
 use Rattle.rp_decl.specs.Consistency.{unknown}
@@ -15,6 +16,17 @@ is_among-place_of (x ∷ xs) text = by (same_text text x) (is_among-place_of xs 
     by : (b : Bool) → is_among xs text ≡ is_some (place_of xs text) → (b || is_among xs text) ≡ is_some (cond b (Some 0) (option_map suc (place_of xs text)))
     by true rest = refl
     by false rest = rest ∙ sym (is_some-option_map _ (place_of xs text))
+
+-- a text is unknown where it has no place
+pub least-unknown-like : (known : List (List ℕ)) (like : Option (List ℕ))
+    → least (unknown known (option_map_or (λ name. name ∷ []) like []))
+    ≡ (if is_some (option_and_then (place_of known) like) then None else like)
+least-unknown-like known None = refl
+least-unknown-like known (Some name) = rw (is_among-place_of known name) (by (is_some (place_of known name)))
+  where
+    by : (b : Bool) → least (cond (not b) (name ∷ []) []) ≡ cond b None (Some name)
+    by true = refl
+    by false = refl
 
 pub unknown-append : (known xs ys : List (List ℕ)) → unknown known (xs ++ ys) ≡ unknown known xs ++ unknown known ys
 unknown-append known xs ys = filter-append (λ t. not (is_among known t)) xs ys

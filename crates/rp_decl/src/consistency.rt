@@ -1,16 +1,17 @@
 //! What documents name and do not declare: permissions, classes, groups and roles, the least of each.
 
-ghost use Rattle.std.specs.Prelude.{◌≡◌, ◌∷◌, [], IfOk, chars, codes};
+ghost use Rattle.std.specs.Prelude.{◌≡◌, [], IfOk, chars, codes};
 ghost use Rattle.std.specs.Option.{option_map_or};
 ghost use Rattle.toml.specs.Data.{get_member};
 ghost use Rattle.toml.specs.View.{table_view, view};
 ghost use Rattle.rp_decl.specs.Consistency.{class_faults, class_names, group_faults, group_ids, permission_faults};
-ghost use Rattle.rp_decl.specs.Consistency.{role_faults, role_ids, unknown};
-ghost use Rattle.rp_decl.specs.Document.{members_of, records_of, text_at, text_of};
+ghost use Rattle.rp_decl.specs.Consistency.{role_faults, role_ids};
+ghost use Rattle.rp_decl.specs.Document.{members_of, records_of, text_of};
 ghost use Rattle.rp_decl.specs.Order.{least};
 
 use crate::document::member;
 use crate::least::lesser_of;
+use crate::likes::Likes;
 use crate::naming::{Naming, unknown_at, unknown_in_array, unknown_in_rows, unknown_text};
 use crate::ring::ring_fault;
 use crate::text_set::{Sorted, str_of};
@@ -81,39 +82,6 @@ impl<'k> Naming for Ids<'k> {
     }
 }
 
-/// The class that a class is like.
-#[derive(Clone, Copy)]
-struct Like;
-
-impl Naming for Like {
-    ghost use Rattle.rp_decl.specs.Naming.{like_named};
-
-    ghost named = { λ like. like_named };
-
-    fn unknown(
-        &self,
-        alloc: Global,
-        known: &Sorted,
-        value: &Value,
-    ) -> Result<Option<Text>, Memory> {
-        match value {
-            Value::Table(class) => unknown_like(alloc, known, class),
-            _ => Ok(None),
-        }
-    }
-}
-
-fn unknown_like(alloc: Global, known: &Sorted, class: &Table) -> Result<Option<Text>, Memory>
-    ensures { IfOk result (λ fault. fault
-        ≡ least (unknown known.now (option_map_or (λ name. name ∷ [])
-        (text_at (codes "like") (table_view class.now)) []))) }
-{
-    match member(class, "like") {
-        Some(name) => unknown_text(alloc, known, str_of(name)),
-        None => Ok(None),
-    }
-}
-
 /// The class of an object.
 #[derive(Clone, Copy)]
 struct ObjectClass;
@@ -179,10 +147,10 @@ pub(crate) fn class_fault(
     requires { classes.now ≡ class_names (records_of (table_view document.now)) }
     ensures { IfOk result (λ fault. fault ≡ least (class_faults (records_of (table_view document.now)))) }
 {
-    let likes = unknown_at(alloc, &Like, classes, document, "class")?;
+    let Likes { places, unknown } = Likes::read(alloc, classes, document)?;
     let objects = unknown_at(alloc, &ObjectClass, classes, document, "object")?;
-    let ring = ring_fault(alloc, classes, document)?;
-    Ok(lesser_of(lesser_of(likes, objects), ring))
+    let ring = ring_fault(alloc, classes, places.as_slice())?;
+    Ok(lesser_of(lesser_of(unknown, objects), ring))
 }
 
 /// The least group that is named and not declared.

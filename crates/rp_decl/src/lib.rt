@@ -9,6 +9,7 @@ mod fault;
 mod field;
 mod known_ids;
 mod least;
+mod likes;
 mod members;
 mod name_table;
 mod naming;

@@ -171,7 +171,7 @@ fn trailers(alloc: Global, tokens: &[Token], depth: usize) -> Read<'_, Vec<Trail
     ensures { Gives (λ x. (views.trailers_of (map views.view_trailer x.0.items), x.1.now)) result
         (reading.trailers (reading.readers depth) tokens.now) }
 {
-    let mut found = Vec::with_capacity(alloc, 1)?;
+    let mut found = Vec::with_capacity(alloc, 2)?;
     let mut rest = tokens;
     'items: while starts_trailer(rest) {
         let (item, after) = trailer(alloc, rest, depth)?;

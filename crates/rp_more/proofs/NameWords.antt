@@ -1,11 +1,12 @@
 -- The names follow the tokens that are written.
-use Rattle.std.proofs.Common.{◌≡◌, ◌∙◌, refl, sym, ap, ℕ, Bool, true, false, if◌then◌else◌, List, [], ◌∷◌, ◌++◌, flat_map, get_or}
+use Rattle.std.proofs.Common.{◌≡◌, ◌∙◌, refl, sym, ap, ℕ, Bool, true, false, if◌then◌else◌, List, [], ◌∷◌, ◌++◌, flat_map, get_or, IsTrue, Some, slice_get}
 use Rattle.std.proofs.lemmas.Grind.{flat_map-append}
 use Rattle.std.proofs.lemmas.List.{append-nil, map-append}
 use Rattle.std.proofs.lemmas.List.Folds.{flat_map-map}
+use Rattle.std.proofs.lemmas.Option.{get_or_from_slice_get, slice_get_within}
 use Rattle.std.specs.List.{All}
 use Rattle.std.specs.Prelude.{pos, negsuc}
-use Rattle.rp_base.specs.Names.{GrowsTo, is_held, with_words}
+use Rattle.rp_base.specs.Names.{GrowsTo, is_held, with_word, with_words}
 use Rattle.rp_base.proofs.CallerLemmas.{is_held-at, with_word-held, with_words-append, with_words-then}
 use Rattle.rp_token.specs.Form.{Form, Item, literal, name}
 use Rattle.rp_token.specs.NameWords.{name_words, word_in}
@@ -55,6 +56,13 @@ Follow-text p t names before after items = Follow-words p (literal t ∷ []) [] 
 pub comma-words : (first : Bool) → flat_map word_in (comma_before first) ≡ []
 comma-words true = refl
 comma-words false = refl
+
+-- a word that is held is no new one
+pub with_word-at : (names : List (List ℕ)) (i : ℕ) (w : List ℕ) → slice_get names i ≡ Some w → names ≡ with_word names w
+with_word-at names i w at =
+    let held : IsTrue (is_held names w) =
+    (λ k. is_held (sym (append-nil names) k) (sym (get_or_from_slice_get names i w [] at) k)) ∙ is_held-at names [] i (slice_get_within names i w at) in
+    sym (with_word-held names w held)
 
 -- the word of a name that is held is no new one
 held-form : (names : List (List ℕ)) (k : TokenKind) → IsHeldKind names k → with_words names (word_in (form_view names k)) ≡ names

@@ -22,10 +22,10 @@ run-filled old new text cs e f some =
     ap (map piece_seen) e ∙ map-append piece_seen old (piece.Run text ∷ []) ∙ (λ k. map piece_seen old ++ of.run (f k) ∷ []) ∙ ap (λ xs. map piece_seen old ++ xs) (sym (with_run-some cs some))
 
 -- a part behind the run
-pub part-filled : (start old new : List Piece) (text inside cs : List ℕ) → map piece_seen old ≡ map piece_seen start ++ with_run cs [] → new ≡ old ++ piece.Part text ∷ [] → text ≡ inside
+pub part-filled : (start old new : List Piece) (p : Piece) (inside cs : List ℕ) → map piece_seen old ≡ map piece_seen start ++ with_run cs [] → new ≡ old ++ p ∷ [] → piece_seen p ≡ of.part inside
     → map piece_seen new ≡ map piece_seen start ++ with_run cs (of.part inside ∷ [])
-part-filled start old new text inside cs e f g =
-    ap (map piece_seen) f ∙ map-append piece_seen old (piece.Part text ∷ []) ∙ (λ k. e k ++ of.part (g k) ∷ [])
+part-filled start old new p inside cs e f g =
+    ap (map piece_seen) f ∙ map-append piece_seen old (p ∷ []) ∙ (λ k. e k ++ g k ∷ [])
     ∙ append_assoc (map piece_seen start) (with_run cs []) (of.part inside ∷ []) ∙ ap (λ xs. map piece_seen start ++ xs) (sym (with_run-part cs inside []))
 
 -- what the pieces of the whole text are

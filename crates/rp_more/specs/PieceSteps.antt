@@ -11,7 +11,7 @@ use Rattle.rp_more.specs.Pieces as of
 
 abbrev pub piece_seen : Piece → of.Piece
 piece_seen (piece.Run t) = of.run t
-piece_seen (piece.Part t) = of.part t
+piece_seen (piece.Part inside) = of.part (chars inside.now)
 
 -- the pieces of a text whose front this is
 abbrev pub front_seen : Front → Option (List of.Piece)

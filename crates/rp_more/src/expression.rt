@@ -3,22 +3,21 @@
 ghost use Rattle.std.specs.Prelude.{◌≡◌, ◌++◌, ◌∷◌, [], ℕ, IfOk, List, MatchResult, None, Ok, OnOk, Some, chars, map};
 ghost use Rattle.std.specs.List.{All};
 ghost use Rattle.std.specs.Option.{option_map};
-ghost use Rattle.rp_base.specs.Identifier.{IsIdentifier};
-ghost use Rattle.rp_base.specs.Names.{GrowsTo, with_word, with_words};
-ghost use Rattle.rp_token.specs.Form.{name};
+ghost use Rattle.rp_base.specs.Names.{GrowsTo, with_words};
 ghost use Rattle.rp_token.specs.NameWords.{name_words};
-ghost use Rattle.rp_token.specs.View.{IsHeld, form_view, item_view};
+ghost use Rattle.rp_token.specs.View.{IsHeld, item_view};
 ghost use Rattle.rp_more.specs.Expression.{closes_own, expression_of, kept};
 ghost use Rattle.rp_more.specs.Literals.{str_call, with_front};
 ghost use Rattle.rp_more.specs.Forms.{placed};
 ghost use Rattle.rp_more.specs.LiteralSteps.{place_item, IsWrongAt, Leads, in_place, items_of, str_front};
 ghost use Rattle.rp_more.specs.NameSteps.{Follow};
 
+use crate::call_words::CallWords;
 use crate::fault::MoreFault;
 use crate::kinds::{is_closing, is_opening, is_outer};
 use crate::letters::trimmed;
 use crate::place::Place;
-use rp_base::{Memory, Name, Names};
+use rp_base::{Memory, Names};
 use rp_token::{Token, TokenFault, TokenKind, tokens};
 use std::alloc::Global;
 
@@ -31,6 +30,7 @@ pub(crate) fn add_expression(
     written: &mut Vec<Token>,
     place: Place,
     text: &str,
+    words: &mut CallWords,
     names: &mut Names,
 ) -> Result<(), MoreFault>
     ensures leads { (more : List (List ℕ)) → Leads (with_front (items_of (names.new ++ more) written.old.items)
@@ -39,7 +39,7 @@ pub(crate) fn add_expression(
     ensures grown { GrowsTo names.old names.new }
     ensures follows { OnOk result (Follow names.old names.new written.old.items written.new.items) }
 {
-    begin_call(written, place, names)?;
+    begin_call(written, place, words, names)?;
     let found = tokens_within(alloc, place, text, names)?;
     add_tokens(written, place, found)?;
     place.end_call(written, TokenKind::RightParen)?;
@@ -47,13 +47,18 @@ pub(crate) fn add_expression(
 }
 
 /// Appends `str((`.
-fn begin_call(written: &mut Vec<Token>, place: Place, names: &mut Names) -> Result<(), Memory>
+fn begin_call(
+    written: &mut Vec<Token>,
+    place: Place,
+    words: &mut CallWords,
+    names: &mut Names,
+) -> Result<(), Memory>
     ensures items { (more : List (List ℕ)) → OnOk result (items_of (names.new ++ more) written.new.items
         ≡ items_of (names.new ++ more) written.old.items ++ map (placed (place_item place)) str_front) }
     ensures grown { GrowsTo names.old names.new }
     ensures follows { OnOk result (Follow names.old names.new written.old.items written.new.items) }
 {
-    place.push(written, TokenKind::Name(intern(names, "str")?))?;
+    place.push(written, TokenKind::Name(words.str(names)?))?;
     place.push(written, TokenKind::LeftParen)?;
     place.push(written, TokenKind::LeftParen)?;
     Ok(())
@@ -123,15 +128,4 @@ fn closes_own(tokens: &[Token]) -> bool
         }
     }
     true
-}
-
-/// The name of a word of the language.
-pub(crate) fn intern(names: &mut Names, word: &str) -> Result<Name, Memory>
-    requires { IsIdentifier (chars word.now) }
-    ensures name { (more : List (List ℕ)) → IfOk result (λ n. form_view (names.new ++ more) (TokenKind.Name n)
-        ≡ name (chars word.now)) }
-    ensures word { OnOk result (names.new ≡ with_word names.old (chars word.now)) }
-    ensures grown { GrowsTo names.old names.new }
-{
-    names.intern(word)
 }

@@ -11,6 +11,7 @@ ghost use Rattle.rp_more.specs.Expanded.{expanded};
 ghost use Rattle.rp_more.specs.View.{Gives};
 
 mod ahead;
+mod call_words;
 mod empty_text;
 mod expression;
 mod fault;

@@ -14,11 +14,11 @@ use std::mem::replace;
 
 /// A piece of an f-literal's text.
 #[derive(Drop)]
-pub(crate) enum Piece {
+pub(crate) enum Piece<'t> {
     /// Characters that stand for themselves.
     Run(Text),
     /// What stands between braces.
-    Part(Text),
+    Part(&'t str),
 }
 
 /// What stands at the front of a text, and what stands behind it.
@@ -34,13 +34,13 @@ enum Front<'t> {
 
 /// The pieces so far, and the characters behind them.
 #[derive(Drop)]
-struct Reader {
+struct Reader<'t> {
     alloc: Global,
-    whole: Vec<Piece>,
+    whole: Vec<Piece<'t>>,
     run: String,
 }
 
-impl Reader {
+impl<'t> Reader<'t> {
     /// The run ends, where it has characters.
     fn end_run(&mut self) -> Result<(), Memory>
         ensures pieces { OnOk result (map piece_seen self.new.whole.items ≡ map piece_seen self.old.whole.items
@@ -57,14 +57,13 @@ impl Reader {
     }
 
     /// The run ends, and a part comes.
-    fn add_part(&mut self, inside: &str) -> Result<(), Memory>
+    fn add_part(&mut self, inside: &'t str) -> Result<(), Memory>
         ensures pieces { OnOk result (map piece_seen self.new.whole.items ≡ map piece_seen self.old.whole.items
             ++ with_run (chars (string_bytes self.old.run)) (part (chars inside.now) ∷ [])) }
         ensures run { OnOk result (chars (string_bytes self.new.run) ≡ []) }
     {
         self.end_run()?;
-        self.whole
-            .push(Piece::Part(Text::new(self.alloc, inside)?))?;
+        self.whole.push(Piece::Part(inside))?;
         Ok(())
     }
 }
@@ -73,7 +72,7 @@ impl Reader {
 ///
 /// # Errors
 /// `Memory` where a growth was refused.
-pub(crate) fn read_pieces(alloc: Global, text: &str) -> Result<Option<Vec<Piece>>, Memory>
+pub(crate) fn read_pieces(alloc: Global, text: &str) -> Result<Option<Vec<Piece<'_>>>, Memory>
     ensures { IfOk result (λ found. option_map (λ v. map piece_seen v.items) found ≡ pieces_of (chars text.now)) }
 {
     let mut pieces = Reader {

@@ -1,7 +1,6 @@
 -- A script is read by turns: what is read from a place on is what the turn there takes, and then what is read behind it.
-use Rattle.std.proofs.Common.{◌≡◌, ℕ, zero, suc, ◌+◌, ◌-◌, ◌<◌, ◌≤◌, Bool, true, false, cond, not, ◌&&◌, [], ◌∷◌, ◌++◌, length, take, drop, Some, None, Ok, Err, option_map, refl, sym, ap, subst, ◌∙◌, inl, inr, arith, append_assoc, length-append}
-use Rattle.std.proofs.lemmas.List.{length-drop}
-use Rattle.std.proofs.Math.Seq.{drop-append_seam, take-append_seam}
+use Rattle.std.proofs.Common.{◌≡◌, ℕ, zero, suc, ◌-◌, ◌<◌, ◌≤◌, Bool, true, false, cond, not, ◌&&◌, [], ◌∷◌, ◌++◌, length, drop, Some, None, Ok, Err, option_map, refl, sym, ap, subst, ◌∙◌, inl, inr, arith, append_assoc, length-append}
+use Rattle.std.proofs.Math.Seq.{drop-append_seam}
 use Rattle.rp_token.specs.declared.token.TokenKind.{TokenKind}
 use Rattle.rp_token.specs.declared.token.TokenKind.TheVariants as kind
 use Rattle.rp_tree.specs.Statements as stmt_tree
@@ -241,6 +240,10 @@ none_read h false ts none = rw (over (ends (first ts)) none) refl
 
 -- ---- turns, behind what was read before
 
+pub none_ahead : (o : Found Stmts) → ahead (joined stmt_tree.no_stmts) o ≡ o
+none_ahead (Ok x) = refl
+none_ahead (Err p) = refl
+
 ahead_ahead : (xs ys : Stmts) (o : Found Stmts) → ahead (joined xs) (ahead (joined ys) o) ≡ ahead (joined (joined xs ys)) o
 ahead_ahead xs ys (Ok zs) = let answer : Stmts → Found Stmts = λ l. Ok (l, zs.1) in ap answer (sym (joined_joined xs ys zs.0))
 ahead_ahead xs ys (Err p) = refl
@@ -285,6 +288,14 @@ passes_then {ts = ts} {us = us} {vs = vs} p q =
     let both = behind_then ts us vs (p.front, p.parts) (q.front, q.parts) in
     record { same = p.same ∙ q.same; front = both.0; parts = both.1 }
 
+-- the same turns behind what was read before
+pub passes_behind : (xs : Stmts) {ys : Stmts} {b d : Bool} {ts us : Tokens} → Passes stmt_tree.no_stmts b ts ys d us → Passes xs b ts (joined xs ys) d us
+passes_behind xs {ys} {b} {d} {ts} {us} p = record {
+  same = ap (ahead (joined xs)) (sym (none_ahead (from_here 199 b ts)) ∙ p.same) ∙ ahead_ahead xs ys (from_here 199 d us);
+  front = p.front;
+  parts = p.parts;
+}
+
 pub turn_passes : (b : Bool) (xs : Stmts) (ts : Tokens) (y : Turn × Tokens) → comes b ts ≡ true → turned xs (turn 199 b ts) ≡ Ok y → Passes xs b ts y.0.0 y.0.1 y.1
 turn_passes b xs ts y more is =
     let (x, read, made, goes, rest) = turned_ok xs (turn 199 b ts) y is in
@@ -309,15 +320,6 @@ turn_fails e e' b xs ts more at bad =
     let here : Fails e' (from_here 199 b ts) = whole_fails e' _ _ (turn_read 199 b ts more) (bind_fails e' _ _ placed_bad) in
     bind_fails e' _ _ here
 
-pub passes_fails : {xs ys : Stmts} {b d : Bool} {ts us : Tokens} (e : Stop) → Passes xs b ts ys d us → Fails e (ahead (joined ys) (from_here 199 d us)) → Fails e (ahead (joined xs) (from_here 199 b ts))
-passes_fails e p bad = whole_fails e _ _ p.same bad
-
-pub passes_shorter : {xs ys : Stmts} {b d : Bool} {ts us : Tokens} → Passes xs b ts ys d us → length us ≤ length ts
-passes_shorter {ts = ts} {us = us} p =
-    let front = p.front in
-    let parts : ts ≡ front ++ us = p.parts in
-    omega (arith, ap length parts, length-append front us)
-
 -- the tokens that are left, by how many were taken
 pub passes_dropped : {xs ys : Stmts} {b d : Bool} {ts us : Tokens} → Passes xs b ts ys d us → (n : ℕ) → n ≡ length ts - length us → Passes xs b ts ys d (drop n ts)
 passes_dropped {xs} {ys} {b} {d} {ts} {us} p n is =
@@ -338,15 +340,12 @@ told_bind : (f : ParseFault) (o : Found Stmts) (g : Stmts × Tokens → Found St
 told_bind fault.Memory o g t = tt
 told_bind (fault.Syntax line) o g t = (t.0, rw t.1 refl, t.2)
 
+-- what is told of turns is told of them behind what was read before
+pub told_ahead : (f : ParseFault) (xs : Stmts) (o : Found Stmts) → IsToldOf f o → IsToldOf f (ahead (joined xs) o)
+told_ahead f xs o t = told_bind f o (λ ys. Ok (joined xs ys.0, ys.1)) t
+
 pub told_same : (f : ParseFault) (o p : Found Stmts) → o ≡ p → IsToldOf f p → IsToldOf f o
 told_same f o p same t = subst (IsToldOf f) (sym same) t
-
-none_ahead : (o : Found Stmts) → ahead (joined stmt_tree.no_stmts) o ≡ o
-none_ahead (Ok x) = refl
-none_ahead (Err p) = refl
-
-pub script_begins : (xs : Stmts) (ts : Tokens) → xs ≡ stmt_tree.no_stmts → Passes stmt_tree.no_stmts false ts xs false ts
-script_begins xs ts none = subst (λ (l : Stmts). Passes stmt_tree.no_stmts false ts l false ts) (sym none) (passes_none stmt_tree.no_stmts false ts)
 
 -- the whole script, where no turn comes any more
 pub script_ends : {xs : Stmts} {b : Bool} {ts us : Tokens} → Passes stmt_tree.no_stmts false ts xs b us → comes b us ≡ false → stmt_reading.program_at deep 199 ts ≡ stmt_reading.ended (first us) xs us
@@ -361,8 +360,3 @@ unfolding stmt_reading.program_at
 script_refused {xs} {b} {ts} {us} f p t =
     let begun : IsToldOf f (from_here 199 false ts) = told_same f (from_here 199 false ts) (ahead (joined xs) (from_here 199 b us)) (sym (none_ahead (from_here 199 false ts)) ∙ p.same) t in
     told_bind f (from_here 199 false ts) (λ ys. stmt_reading.ended (first ys.1) ys.0 ys.1) begun
-
--- ---- tokens that are given back
-
-pub rotated_back : (ts : Tokens) (n left : ℕ) → left ≡ length ts - n → take left (drop n ts ++ take n ts) ≡ drop n ts
-rotated_back ts n left is = ap (λ (k : ℕ). take k (drop n ts ++ take n ts)) (is ∙ sym (length-drop n ts)) ∙ take-append_seam (drop n ts) (take n ts)

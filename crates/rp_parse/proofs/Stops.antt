@@ -1,5 +1,5 @@
 -- A fault within what is read is a fault of the whole.
-use Rattle.std.proofs.Common.{◌≡◌, Option, Some, None, Result, Ok, Err, option_map, refl, ap, ◌∙◌}
+use Rattle.std.proofs.Common.{◌≡◌, Option, Some, None, Ok, Err, option_map, refl, ap, ◌∙◌}
 use Rattle.rp_grammar.proofs.Basics.{some_is}
 use Rattle.rp_grammar.specs.Kinds.{Tokens}
 use Rattle.rp_grammar.specs.StatementReading.{Found, ◌>>>◌, from, hidden}

@@ -1,6 +1,5 @@
 -- What the readers of statements need of their definitions.
-use Rattle.std.proofs.Common.{◌≡◌, ℕ, zero, suc, ◌-◌, ◌<◌, ◌≤◌, drop, take, slice_index_or, Bool, true, false, List, [], ◌∷◌, ◌++◌, length, map, Option, Some, None, Result, Ok, Err, if◌then◌else◌, option_map, Vec, Global, refl, sym, ap, subst, ◌∙◌, arith}
-use Rattle.std.proofs.lemmas.List.{map_push}
+use Rattle.std.proofs.Common.{◌≡◌, ℕ, zero, suc, ◌-◌, ◌<◌, ◌≤◌, drop, take, slice_index_or, Bool, true, false, List, [], ◌∷◌, ◌++◌, length, map, Option, Some, None, if◌then◌else◌, Vec, Global, refl, sym, ap, subst, ◌∙◌, arith}
 use Rattle.rp_base.specs.declared.value.Line.{Line}
 use Rattle.rp_token.specs.declared.token.Token.{Token}
 use Rattle.rp_token.specs.declared.token.TokenKind.{TokenKind}
@@ -19,8 +18,7 @@ use Rattle.rp_grammar.specs.Kinds.{Tokens, first, skip}
 use Rattle.rp_grammar.specs.ExpressionReading as read
 use Rattle.rp_grammar.specs.ExpressionReading.{Readers, Read, ◌>>=◌, before, readers, name_by, at}
 use Rattle.rp_expr.specs.declared.fault.Fault.{Fault}
-use Rattle.rp_expr.specs.declared.fault.Fault.TheVariants as fault
-use Rattle.rp_grammar.proofs.Basics.{bind_some, some_is}
+use Rattle.rp_grammar.proofs.Basics.{some_is}
 use Rattle.rp_grammar.proofs.Loops.{Shortens, ShortensIn, front}
 use Rattle.rp_grammar.proofs.ExpressionSound.{readers_sound, primary_sound}
 use Rattle.rp_grammar.proofs.ExpressionTakes.{skip_within, takes, primary_takes}

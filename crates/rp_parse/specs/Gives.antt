@@ -1,7 +1,6 @@
 -- What the readers of the program promise.
-use Rattle.std.specs.Prelude.{◌≡◌, ℕ, List, [], ◌∷◌, ◌++◌, map, Bool, true, false, Option, Some, None, Result, Ok, Err, option_map, if◌then◌else◌}
+use Rattle.std.specs.Prelude.{◌≡◌, ℕ, List, [], ◌∷◌, ◌++◌, Bool, true, false, Option, Some, None, Result, Ok, Err, option_map, if◌then◌else◌}
 use Rattle.rp_base.specs.declared.value.Line.{Line}
-use Rattle.rp_base.specs.declared.value.Name.{Name}
 use Rattle.rp_token.specs.declared.token.TokenKind.{TokenKind}
 use Rattle.rp_token.specs.declared.token.TokenKind.TheVariants as kind
 use Rattle.rp_tree.specs.Expressions as tree

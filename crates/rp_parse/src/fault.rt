@@ -22,6 +22,17 @@ pub enum ParseFault {
     Memory,
 }
 
+impl From<Memory> for ParseFault {
+    ghost use Rattle.std.specs.Prelude.{◌≡◌};
+    ghost use Rattle.rp_parse.specs.declared.fault.ParseFault.TheVariants as fault;
+
+    ghost from_gives = { λ _ e. e ≡ fault.Memory };
+
+    fn from(_: Memory) -> Self {
+        ParseFault::Memory
+    }
+}
+
 /// Why the tokens at the front could not be read.
 #[derive(Clone, Copy)]
 pub enum Stop<'a> {

@@ -1,12 +1,15 @@
 //! Whole scripts, whose tokens are given back while they are read.
 
-ghost use Rattle.std.specs.Prelude.{◌≡◌, ◌≤◌, ◌<◌, ◌&&◌, not, Ok, IfErr, IfOk, IsTrue, OnOk, drop, false, length, option_map, true};
+ghost use Rattle.std.specs.Prelude.{◌≡◌, ◌≤◌, ◌<◌, ◌&&◌, [], Ok, IfErr, IfOk, OnOk, drop, false, length};
+ghost use Rattle.std.specs.Prelude.{not, option_map, true};
+ghost use Rattle.rp_tree.specs.Statements.{Stmts};
 ghost use Rattle.rp_tree.specs.StatementViews as stmt_views;
 ghost use Rattle.rp_grammar.specs.Kinds.{Tokens, first};
 ghost use Rattle.rp_grammar.specs.Statements as stmt_grammar;
 ghost use Rattle.rp_grammar.specs.StatementReading as stmt_reading;
 ghost use Rattle.rp_grammar.specs.StatementReading.{block_at};
 ghost use Rattle.rp_parse.specs.Gives.{Fails, Gives, ahead, deep, told};
+ghost use Rattle.rp_parse.specs.Visits.{Hands, TakesWhole, no_stmts};
 ghost use Rattle.rp_parse.specs.ScriptSteps as steps;
 ghost use Rattle.rp_parse.specs.ScriptSteps.{IsToldOf, Passes, from_here, line_told, place_line, turn, turned};
 
@@ -15,14 +18,13 @@ use crate::context::Setting;
 use crate::fault::{ParseFault, Stop};
 use crate::lines::{Found, item};
 use crate::look::ends;
+use crate::unread::Unread;
+use crate::visitor::Visitor;
 use rp_base::Line;
 use rp_expr::look::{kind_at, line_at};
 use rp_token::{Token, TokenKind};
 use rp_tree::Stmt;
 use std::alloc::Global;
-
-/// Fewer tokens than these are given back only at the end.
-const FEW: usize = 65_536;
 
 /// Whether a compound statement begins.
 fn is_compound(tokens: &[Token]) -> bool
@@ -117,68 +119,6 @@ fn turn<'a>(
     line_turn(alloc, found, tokens)
 }
 
-/// Whether a further turn comes while more than so many tokens are left.
-fn goes_on(tokens: &[Token], on_line: bool, least: usize) -> bool
-    ensures { IsTrue result → steps.comes on_line tokens.now ≡ true }
-{
-    if tokens.len() <= least {
-        return false;
-    }
-    comes(tokens, on_line)
-}
-
-/// Further turns, as long as more than so many tokens are left.
-fn other_turns<'a>(
-    alloc: Global,
-    found: &mut Vec<Stmt>,
-    tokens: &'a [Token],
-    on_line: bool,
-    least: usize,
-) -> Found<'a, bool>
-    ensures passes { IfOk result (λ x. Passes (stmt_views.view_stmts found.old.items) on_line tokens.now
-        (stmt_views.view_stmts found.new.items) x.0 x.1.now) }
-    ensures fails { IfErr result (λ e. Fails e
-        (ahead (stmt_grammar.joined (stmt_views.view_stmts found.old.items)) (from_here 199 on_line tokens.now))) }
-{
-    let mut more = on_line;
-    let mut rest = tokens;
-    'turns: while goes_on(rest, more, least) {
-        let (next, after) = match turn(alloc, found, rest, more) {
-            Ok(read) => read,
-            Err(stop) => return Err(stop.at(rest)),
-        };
-        more = next;
-        rest = after;
-    }
-    Ok((more, rest))
-}
-
-/// Turns, at least one, until half of the tokens were read; all, where the tokens are few.
-fn turns<'a>(
-    alloc: Global,
-    found: &mut Vec<Stmt>,
-    tokens: &'a [Token],
-    on_line: bool,
-) -> Found<'a, bool>
-    requires { steps.comes on_line tokens.now ≡ true }
-    ensures passes { IfOk result (λ x. Passes (stmt_views.view_stmts found.old.items) on_line tokens.now
-        (stmt_views.view_stmts found.new.items) x.0 x.1.now) }
-    ensures fewer { IfOk result (λ x. length x.1.now < length tokens.now) }
-    ensures fails { IfErr result (λ e. Fails e
-        (ahead (stmt_grammar.joined (stmt_views.view_stmts found.old.items)) (from_here 199 on_line tokens.now))) }
-{
-    let (more, rest) = match turn(alloc, found, tokens, on_line) {
-        Ok(read) => read,
-        Err(stop) => return Err(stop.at(tokens)),
-    };
-    let least = if tokens.len() < FEW {
-        0
-    } else {
-        tokens.len() / 2
-    };
-    other_turns(alloc, found, rest, more, least)
-}
-
 /// The fault that a reader tells.
 fn fault_of(stop: Stop<'_>) -> ParseFault
     ensures { line_told result ≡ option_map place_line (told stop.entry) }
@@ -190,8 +130,8 @@ fn fault_of(stop: Stop<'_>) -> ParseFault
     }
 }
 
-/// Turns, and of how many tokens they were.
-fn counted_turns(
+/// A turn, and of how many tokens it was.
+fn counted_turn(
     alloc: Global,
     found: &mut Vec<Stmt>,
     tokens: &[Token],
@@ -205,50 +145,38 @@ fn counted_turns(
     ensures refused { IfErr result (λ e. IsToldOf e
         (ahead (stmt_grammar.joined (stmt_views.view_stmts found.old.items)) (from_here 199 on_line tokens.now))) }
 {
-    match turns(alloc, found, tokens, on_line) {
+    match turn(alloc, found, tokens, on_line) {
         Ok((more, rest)) => Ok((more, tokens.len().saturating_sub(rest.len()))),
-        Err(stop) => Err(fault_of(stop)),
+        Err(stop) => Err(fault_of(stop.at(tokens))),
     }
 }
 
-/// Gives back so many tokens at the front, and their room.
-fn give_back(tokens: &mut Vec<Token>, count: usize)
-    requires { count ≤ length tokens.old.items }
-    ensures { tokens.new.items ≡ drop count tokens.old.items }
-{
-    let left = tokens.len().saturating_sub(count);
-    tokens.rotate_left(count);
-    tokens.truncate(left);
-    tokens.shrink_to_fit();
-}
-
-/// Turns, whose tokens are given back.
-fn part(
+/// A turn, whose statements are handed on and whose tokens are passed. They go by a vector that is empty before and
+/// behind.
+fn part<V: Visitor>(
     alloc: Global,
+    visitor: &mut V,
     found: &mut Vec<Stmt>,
-    left: &mut Vec<Token>,
+    left: &mut Unread,
     on_line: bool,
 ) -> Result<bool, ParseFault>
-    requires { steps.comes on_line left.old.items ≡ true }
-    ensures passes { IfOk result (λ more. Passes (stmt_views.view_stmts found.old.items) on_line left.old.items
-        (stmt_views.view_stmts found.new.items) more left.new.items) }
-    ensures fewer { OnOk result (length left.new.items < length left.old.items) }
-    ensures refused { IfErr result (λ e. IsToldOf e
-        (ahead (stmt_grammar.joined (stmt_views.view_stmts found.old.items))
-        (from_here 199 on_line left.old.items))) }
+    requires comes { steps.comes on_line left.old ≡ true }
+    requires none { found.old.items ≡ [] }
+    ensures passes { IfOk result (λ more. Hands V.takes visitor.old on_line left.old visitor.new more left.new) }
+    ensures none_left { OnOk result (found.new.items ≡ []) }
+    ensures fewer { OnOk result (length left.new < length left.old) }
+    ensures refused { IfErr result (λ e. IsToldOf e (from_here 199 on_line left.old)) }
 {
-    let (more, count) = match counted_turns(alloc, found, left.as_slice(), on_line) {
-        Ok(read) => read,
-        Err(fault) => return Err(fault),
-    };
-    give_back(left, count);
+    let (more, count) = counted_turn(alloc, found, left.tokens(), on_line)?;
+    visitor.visit(found)?;
+    left.pass(count);
     Ok(more)
 }
 
 /// The end of a script, whose last token is END.
-fn ended(found: Vec<Stmt>, tokens: &[Token]) -> Result<Vec<Stmt>, Stop<'_>>
-    ensures { Gives (λ v. (stmt_views.view_stmts v.items, tokens.now)) result
-        (stmt_reading.ended (first tokens.now) (stmt_views.view_stmts found.items) tokens.now) }
+fn ended(tokens: &[Token]) -> Result<(), Stop<'_>>
+    ensures { (found : Stmts) → Gives (λ _. (found, tokens.now)) result
+        (stmt_reading.ended (first tokens.now) found tokens.now) }
 {
     match tokens {
         [
@@ -256,40 +184,42 @@ fn ended(found: Vec<Stmt>, tokens: &[Token]) -> Result<Vec<Stmt>, Stop<'_>>
                 kind: TokenKind::End,
                 ..
             },
-        ] => Ok(found),
+        ] => Ok(()),
         _ => Err(Stop::Syntax(Some(tokens))),
     }
 }
 
-/// What was found, where the script ends here.
-fn finish(found: Vec<Stmt>, tokens: &[Token]) -> Result<Vec<Stmt>, ParseFault>
-    ensures read { IfOk result (λ v. (rest : Tokens)
-        × (stmt_reading.ended (first tokens.now) (stmt_views.view_stmts found.items) tokens.now
-        ≡ Ok (stmt_views.view_stmts v.items, rest))) }
-    ensures refused { IfErr result (λ e. IsToldOf e
-        (stmt_reading.ended (first tokens.now) (stmt_views.view_stmts found.items) tokens.now)) }
+/// Whether the script ends here.
+fn finish(tokens: &[Token]) -> Result<(), ParseFault>
+    ensures read { (found : Stmts) → OnOk result ((rest : Tokens)
+        × (stmt_reading.ended (first tokens.now) found tokens.now ≡ Ok (found, rest))) }
+    ensures refused { (found : Stmts) → IfErr result (λ e. IsToldOf e
+        (stmt_reading.ended (first tokens.now) found tokens.now)) }
 {
-    match ended(found, tokens) {
-        Ok(all) => Ok(all),
+    match ended(tokens) {
+        Ok(()) => Ok(()),
         Err(stop) => Err(fault_of(stop)),
     }
 }
 
-/// A whole script, whose last token is END. Whenever half of the tokens that are left were read they are given back,
-/// so that they do not stand whole beside the tree.
-pub fn program(alloc: Global, tokens: Vec<Token>) -> Result<Vec<Stmt>, ParseFault>
-    ensures read { IfOk result (λ v. (rest : Tokens)
-        × (stmt_reading.program_at deep 199 tokens.items ≡ Ok (stmt_views.view_stmts v.items, rest))) }
+/// A whole script, whose last token is END, handed on to a visitor. Its tokens are given back while they are read.
+pub fn program<V: Visitor>(
+    alloc: Global,
+    tokens: Vec<Token>,
+    visitor: &mut V,
+) -> Result<(), ParseFault>
+    requires { V.takes visitor.old no_stmts visitor.old }
+    ensures read { OnOk result (TakesWhole V.takes visitor.old tokens.items visitor.new) }
     ensures refused { IfErr result (λ e. IsToldOf e (stmt_reading.program_at deep 199 tokens.items)) }
 {
     let mut found = Vec::new(alloc);
-    let mut left = tokens;
+    let mut left = Unread::new(tokens);
     let mut on_line = false;
-    'parts: while comes(left.as_slice(), on_line) {
-        on_line = match part(alloc, &mut found, &mut left, on_line) {
+    'parts: while comes(left.tokens(), on_line) {
+        on_line = match part(alloc, visitor, &mut found, &mut left, on_line) {
             Ok(more) => more,
             Err(fault) => return Err(fault),
         };
     }
-    finish(found, left.as_slice())
+    finish(left.tokens())
 }

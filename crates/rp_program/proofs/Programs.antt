@@ -21,7 +21,7 @@ use Rattle.rp_tree.specs.Maps.{named, names_by}
 use Rattle.rp_tree.specs.StatementTrees.{Stmts}
 use Rattle.rp_tree.proofs.MapLaws.{stmts_after}
 use Rattle.rp_program.specs.Fault.{IsFault, from_parse}
-use Rattle.rp_program.specs.Program.{HasItems, HasTokens, IsProgram, SpellTree}
+use Rattle.rp_program.specs.Program.{HasItems, HasTokens, IsProgram, IsRead, SpellTree}
 use Rattle.rp_program.specs.declared.fault.ProgramFault.{ProgramFault}
 use Rattle.rp_program.specs.declared.fault.ProgramFault.TheVariants as fault
 use Rattle.rp_program.proofs.Numbered.{injective, renumbered, word_kept}
@@ -29,11 +29,6 @@ use Rattle.rp_program.proofs.Renaming.{spells_before, spells_there}
 use Rattle.rp_program.proofs.Spelled.{spelled_expanded}
 use Rattle.rp_program.proofs.Unique.{tokens_told}
 use Rattle.rp_program.proofs.Words.{end_stands, front_stands}
-
--- What was read: expanded tokens of the bytes, by words that are held.
-pub record IsRead (bytes : List ℕ) (names : List (List ℕ)) (ts : Tokens) : Type 0 where
-  pub has : HasItems bytes (map (item_view names) ts)
-  pub are : HasTokens (map (item_view names) ts) names ts
 
 -- by the tokens of the text, and what they were expanded to
 pub is_read : (bytes : List ℕ) (first names : List (List ℕ)) (given ts : Tokens) → IsUtf8 bytes → HoldsEachOnce names → All (IsHeld names) ts

@@ -52,3 +52,8 @@ pub record IsProgram (bytes : List ℕ) (tree : Stmts (List ℕ)) : Type 0 where
   pub items : List Item
   pub has : HasItems bytes items
   pub spell : SpellTree items tree
+
+-- The tokens are those of the bytes as the grammar takes them, where a name is the place of its word among the words.
+pub record IsRead (bytes : List ℕ) (words : List (List ℕ)) (tokens : Tokens) : Type 0 where
+  pub has : HasItems bytes (map (item_view words) tokens)
+  pub are : HasTokens (map (item_view words) tokens) words tokens

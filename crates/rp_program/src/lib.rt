@@ -5,4 +5,4 @@ mod fault;
 mod program;
 
 pub use fault::{ProgramFault, add_fault};
-pub use program::{read_program, read_text};
+pub use program::{read_program, read_text, read_tokens};

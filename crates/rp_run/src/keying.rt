@@ -5,13 +5,12 @@
 ghost use Rattle.std.specs.Prelude.{◌≡◌, ◌≢◌, IfErr, IfOk, OnOk, []};
 ghost use Rattle.rp_base.specs.Names.{HoldsEachOnce, with_words, word_of};
 ghost use Rattle.rp_compile.specs.Compiled.{source_tree};
-ghost use Rattle.rp_script.specs.Refusal.{IsRefused};
+ghost use Rattle.rp_script.specs.Refusal.{IsLawful, IsRefused};
 ghost use Rattle.rp_policy.specs.Offences.{offences};
 ghost use Rattle.rp_program.specs.Leaves.{IsTreeHeld};
 ghost use Rattle.rp_program.specs.Program.{IsProgram};
 ghost use Rattle.rp_program.specs.ProgramWords.{program_words};
 ghost use Rattle.rp_tree.specs.Maps.{named, without_blocks};
-ghost use Rattle.rp_tree.specs.StatementViews.{view_tree};
 ghost use Rattle.rp_decl.specs.Consistency.{IsConsistent};
 ghost use Rattle.rp_decl.specs.DeclaredWords.{declared_words};
 ghost use Rattle.rp_decl.specs.Declares.{Declares};
@@ -25,7 +24,6 @@ use rp_base::{Memory, Names};
 use rp_compile::Compiled;
 use rp_decl::{Decl, DeclFault};
 use rp_script::Refusal;
-use rp_tree::Tree;
 use std::alloc::Global;
 
 /// Hashes the words anew, from their seed and these bytes.
@@ -64,20 +62,17 @@ pub fn declarations(alloc: Global, bytes: &[u8], names: &mut Names) -> Result<De
     rp_decl::declarations(alloc, bytes, names)
 }
 
-/// The tree of the script that the bytes are, against which the policy of names has nothing.
+/// Whether the bytes are a script against which the policy of names has nothing.
 ///
 /// # Errors
-/// As `rp_script::read_script`.
-pub fn read_script(alloc: Global, bytes: &[u8], names: &mut Names) -> Result<Tree, Refusal>
-    ensures program { IfOk result (λ t. IsProgram bytes.now (named (word_of names.new) (view_tree t))) }
-    ensures lawful { IfOk result (λ t. offences (named (word_of names.new) (view_tree t)) ≡ []) }
-    ensures held { IfOk result (λ t. IsTreeHeld names.new (view_tree t)) }
+/// As `rp_script::check_script`.
+pub fn check_script(alloc: Global, bytes: &[u8], names: &mut Names) -> Result<(), Refusal>
+    ensures lawful { OnOk result (IsLawful bytes.now) }
     ensures refused { IfErr result (λ refusal. refusal ≢ Refusal.Memory → IsRefused names.new bytes.now refusal) }
     ensures names { GrowsTo names.old names.new }
-    ensures words { OnOk result (names.new ≡ with_words names.old (program_words bytes.now)) }
 {
     rekey(names, bytes)?;
-    rp_script::read_script(alloc, bytes, names)
+    rp_script::check_script(alloc, bytes, names)
 }
 
 /// The script of the bytes as it will run.

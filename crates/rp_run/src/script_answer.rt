@@ -8,7 +8,7 @@ ghost use Rattle.rp_run.specs.Told.{IsShort, ToldScript, said_to};
 ghost use Rattle.rp_words.specs.Command.{script};
 
 use crate::answer::Answer;
-use crate::keying::{compile_script, read_script};
+use crate::keying::{check_script, compile_script};
 use crate::reading::read_short;
 use crate::stop::Stop;
 use rp_base::{Files, Memory, Names, Text};
@@ -70,8 +70,8 @@ fn tell_check(alloc: Global, bytes: &[u8], names: &mut Names) -> Result<Answer, 
         → ToldScript (said_to Question.Check) path bytes.now a.text a.status.0) }
     ensures status { IfOk result (λ a. IsCommandStatus a.status.0) }
 {
-    match read_script(alloc, bytes, names) {
-        Ok(_) => Answer::fixed(alloc, "ok\n", 0),
+    match check_script(alloc, bytes, names) {
+        Ok(()) => Answer::fixed(alloc, "ok\n", 0),
         Err(refusal) => Answer::unaccepted(alloc, "", &refusal, names),
     }
 }

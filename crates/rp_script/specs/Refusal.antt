@@ -13,6 +13,12 @@ use Rattle.rp_tree.specs.StatementTrees.{Stmts}
 use Rattle.rp_script.specs.declared.refusal.Refusal.{Refusal}
 use Rattle.rp_script.specs.declared.refusal.Refusal.TheVariants as refusal
 
+-- The bytes are a program against which the policy of names has nothing.
+pub record IsLawful (bytes : List ℕ) : Type 0 where
+  pub tree : Stmts (List ℕ)
+  pub program : IsProgram bytes tree
+  pub none : offences tree ≡ []
+
 -- These are all offences of the tree of the bytes, by the words that their names stand for, and there is one at least.
 pub record HasOffences (words : List (List ℕ)) (bytes : List ℕ) (found : List (Offence Name)) : Type 0 where
   pub tree : Stmts (List ℕ)

@@ -2,7 +2,9 @@
 #![tactic(auto)]
 
 mod refusal;
+mod review;
 mod script;
 
 pub use refusal::{Refusal, refusal_text};
+pub use review::check_script;
 pub use script::read_script;

@@ -39,6 +39,7 @@ check s.py => x = 1; break => line 1: syntax~4
 check s.py => def f():~    x = 1~return x => line 3: syntax~4
 check s.py => _x = ( => line 1: not closed~4
 check s.py => _x = = 1 => line 1: syntax~4
+check s.py => _x = 1~y = = 2 => line 2: syntax~4
 check s.py => _x = 1~y = ? => line 2: bad character~4
 check s.py => x = (1, => line 1: not closed~4
 check s.py => x = 'a\q' => line 1: bad escape~4

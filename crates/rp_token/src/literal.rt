@@ -83,7 +83,8 @@ impl Quotes {
         'pieces: loop {
             match self.piece(rest) {
                 Piece::Closed(next) => {
-                    return Ok(Reading::Closed(Text::new(alloc, value.as_str())?, next, lines));
+                    value.shrink_to_fit();
+                    return Ok(Reading::Closed(Text::from_string(alloc, value)?, next, lines));
                 }
                 Piece::Unclosed => return Ok(Reading::Unclosed),
                 Piece::BadEscape => return Ok(Reading::BadEscape(lines)),

@@ -1,12 +1,11 @@
-use Rattle.std.proofs.Common.{◌≡◌, ℕ, ◌-◌, ◌<◌, Bool, true, false, not, ◌&&◌, List, [], ◌∷◌, ◌++◌, map, sym, ap, subst, ◌∙◌, arith}
-use Rattle.rp_tree.specs.Statements.{Stmts}
+use Rattle.std.proofs.Common.{◌≡◌, true, false, not, ◌&&◌, map, sym, ap, subst, ◌∙◌, arith}
 use Rattle.rp_tree.specs.StatementViews as stmt_views
 use Rattle.rp_grammar.specs.Kinds.{Tokens, first}
 use Rattle.rp_parse.specs.Gives.{Fails, block_of, context_of, deep}
 use Rattle.rp_grammar.specs.StatementReading as stmt_reading
 use Rattle.rp_grammar.specs.StatementReading.{block_at}
 use Rattle.rp_parse.proofs.Turns.{def_at}
-use Rattle.rp_parse.proofs.Rounds.{block_none, block_read, block_unread, block_ends, block_keeps, block_fails, block_over, elifs_begin, elifs_end, elifs_keep, elifs_fail, elifs_over, handlers_begin, handlers_end, handlers_keep, handlers_fail, handlers_over, all_handled, none_comes, one_comes}
+use Rattle.rp_parse.proofs.Rounds.{block_none, block_read, block_unread, block_ends, block_keeps, block_fails, block_over, elifs_end, elifs_keep, elifs_fail, elifs_over, handlers_end, handlers_keep, handlers_fail, handlers_over, all_handled, none_comes, one_comes}
 use Rattle.rp_parse.proofs.+statements.Goals as goal
 use Rattle.rp_parse.proofs.+statements.Goals.{compound::handlers-then-is_last-via-then-is_last, compound::handlers-then-is_last-via-else-is_last+then-not-is_except}
 

@@ -1,4 +1,5 @@
-use Rattle.std.proofs.Common.{◌≡◌, ℕ, List, [], ◌++◌, length, false}
+use Rattle.std.proofs.Common.{◌≡◌, ℕ, List, [], ◌++◌, false}
+use Rattle.std.specs.VecDeque.{deque_len}
 use Rattle.std.specs.List.{All}
 use Rattle.rp_token.specs.View.{IsHeld}
 use Rattle.rp_more.specs.Literals.{literals}
@@ -13,9 +14,9 @@ invariant-tokens l =
     record {
       grown : GrowsTo l.fn.names l.names;
       follows : Follow l.fn.names l.names [] l.literals.written.items;
-      held : All (IsHeld l.names) l.rest;
-      same : (more : List (List ℕ)) → literals false false (items_of (l.names ++ more) l.tokens) ≡ left (l.names ++ more) l.literals l.rest;
+      held : All (IsHeld l.names) l.rest.items;
+      same : (more : List (List ℕ)) → literals false false (items_of (l.names ++ more) l.fn.tokens.items) ≡ left (l.names ++ more) l.literals l.rest.items;
     }
 
 abbrev pub decreases-tokens : goal.decreases-tokens
-decreases-tokens l = length l.rest
+decreases-tokens l = deque_len l.rest

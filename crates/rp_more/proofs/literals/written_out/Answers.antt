@@ -12,8 +12,5 @@ returns-then-not-has_prefix-clause-literals c = λ more.
     let none = ap (λ ts. list_any is_prefix (items_of names ts)) (sym c.as_slice.ensures.value) ∙ sym (c.has_prefix.ensures more) ∙ c.if-not-has_prefix.true in
     no_literals false (items_of names c.args.tokens.items) none
 
-pub returns-clause-literals : goal.returns-clause-literals
-returns-clause-literals c = rw c.as_slice-2.ensures.value at c.each_written_out.ensures.literals
-
 pub returns-then-not-has_prefix-clause-follows : goal.returns-then-not-has_prefix-clause-follows
 returns-then-not-has_prefix-clause-follows c = Follow-all c.args.names.now c.args.tokens.items c.requires

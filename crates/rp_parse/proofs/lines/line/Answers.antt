@@ -1,4 +1,4 @@
-use Rattle.std.proofs.Common.{◌≡◌, ℕ, ◌-◌, ◌<◌, Bool, true, false, ap, ◌∙◌, arith}
+use Rattle.std.proofs.Common.{Bool, ap, ◌∙◌, arith}
 use Rattle.rp_tree.specs.StatementViews as stmt_views
 use Rattle.rp_parse.specs.Gives.{context_of}
 use Rattle.rp_parse.proofs.Turns.{pushed}

@@ -1,4 +1,4 @@
-use Rattle.std.proofs.Common.{◌≡◌, false, ap, ◌∙◌}
+use Rattle.std.proofs.Common.{false, ap, ◌∙◌}
 use Rattle.rp_tree.specs.StatementViews as stmt_views
 use Rattle.rp_grammar.specs.Statements.{top}
 use Rattle.rp_grammar.specs.StatementReading as stmt_reading

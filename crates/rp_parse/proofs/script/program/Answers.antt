@@ -1,33 +1,37 @@
-use Rattle.std.proofs.Common.{◌≡◌, true, false, ap, sym, ◌∙◌}
-use Rattle.std.proofs.lemmas.Result.{IfOk-weaker, IfErr-weaker}
-use Rattle.rp_tree.specs.StatementViews as stmt_views
-use Rattle.rp_parse.specs.ScriptSteps.{comes}
-use Rattle.rp_parse.proofs.Scripted.{passes_then, script_begins, script_ends, script_refused, told_same}
+use Rattle.std.proofs.Common.{◌≡◌, ◌∙◌, false, ap, sym}
+use Rattle.std.proofs.lemmas.Result.{IfErr-weaker, on_ok_weaker}
+use Rattle.rp_parse.specs.ScriptSteps.{comes, from_here}
+use Rattle.rp_parse.proofs.Scripted.{script_ends, script_refused, told_ahead, told_same}
+use Rattle.rp_parse.proofs.Visits.{handed_none, handed_then}
 use Rattle.rp_parse.proofs.script.program.Goals as goal
 
 pub parts-init : goal.parts-init
-parts-init c = script_begins (stmt_views.view_stmts c.new-found.result.items) c.args.tokens.items (ap stmt_views.view_stmts c.new-found.ensures.items)
-
-pub part-requires : goal.part-requires
-part-requires c = ap (comes c.parts.on_line) (sym c.as_slice.ensures.value) ∙ sym c.comes.ensures ∙ c.parts-test.true
+parts-init g c = record {
+  handed = rw c.new-left.ensures (handed_none g.V.Visitor.takes c.args.visitor.now c.args.tokens.items c.requires);
+  none = c.new-found.ensures.items;
+}
 
 pub parts-preserved : goal.parts-preserved
-parts-preserved c = passes_then c.parts.invariant c.in-Ok.ensures.passes
-
-pub parts-smaller : goal.parts-smaller
-parts-smaller c = c.in-Ok.ensures.fewer
+parts-preserved g c = record {
+  handed = handed_then g.V.Visitor.takes c.parts.invariant.handed c.in-Ok.ensures.passes;
+  none = c.in-Ok.ensures.none_left;
+}
 
 pub returns-in-Err-clause-refused : goal.returns-in-Err-clause-refused
-returns-in-Err-clause-refused c = script_refused c.in-Err.fault c.parts.invariant c.in-Err.ensures.refused
+returns-in-Err-clause-refused g c =
+    let handed = c.parts.invariant.handed in
+    script_refused c.in-Err.fault handed.passes (told_ahead c.in-Err.fault handed.found (from_here 199 c.parts.on_line c.parts.left) c.in-Err.ensures.refused)
 
 pub returns-clause-read : goal.returns-clause-read
-returns-clause-read c =
-    let none : comes c.parts.on_line c.parts.left.items ≡ false = ap (comes c.parts.on_line) (sym c.as_slice.ensures.value) ∙ sym c.comes.ensures ∙ c.parts-test.false in
-    let is = script_ends c.parts.invariant none in
-    IfOk-weaker c.finish.result _ _ (λ v x. (x.0, is ∙ x.1)) (rw c.as_slice-2.ensures.value at c.finish.ensures.read)
+returns-clause-read g c =
+    let handed = c.parts.invariant.handed in
+    let none : comes c.parts.on_line c.parts.left ≡ false = ap (comes c.parts.on_line) (sym c.tokens.ensures) ∙ sym c.comes.ensures ∙ c.parts-test.false in
+    let is = script_ends handed.passes none in
+    on_ok_weaker c.finish.result (λ x. record { found = handed.found; rest = x.0; read = is ∙ x.1; taken = handed.taken }) (rw c.tokens-2.ensures at (c.finish.ensures.read handed.found))
 
 pub returns-clause-refused : goal.returns-clause-refused
-returns-clause-refused c =
-    let none : comes c.parts.on_line c.parts.left.items ≡ false = ap (comes c.parts.on_line) (sym c.as_slice.ensures.value) ∙ sym c.comes.ensures ∙ c.parts-test.false in
-    let is = script_ends c.parts.invariant none in
-    IfErr-weaker c.finish.result _ _ (λ e t. told_same e _ _ is t) (rw c.as_slice-2.ensures.value at c.finish.ensures.refused)
+returns-clause-refused g c =
+    let handed = c.parts.invariant.handed in
+    let none : comes c.parts.on_line c.parts.left ≡ false = ap (comes c.parts.on_line) (sym c.tokens.ensures) ∙ sym c.comes.ensures ∙ c.parts-test.false in
+    let is = script_ends handed.passes none in
+    IfErr-weaker c.finish.result _ _ (λ e t. told_same e _ _ is t) (rw c.tokens-2.ensures at (c.finish.ensures.refused handed.found))

@@ -1,11 +1,13 @@
-use Rattle.std.proofs.Common.{false, length}
-use Rattle.rp_tree.specs.Statements as stmt_tree
-use Rattle.rp_tree.specs.StatementViews as stmt_views
-use Rattle.rp_parse.specs.ScriptSteps.{Passes}
+use Rattle.std.proofs.Common.{◌≡◌, [], length}
+use Rattle.rp_parse.specs.Visits.{Handed}
 use Rattle.rp_parse.proofs.script.program.Given as goal
 
+-- the statements of the tokens before those that are left are handed on, and none waits
 abbrev pub invariant-parts : goal.invariant-parts
-invariant-parts l = Passes stmt_tree.no_stmts false l.fn.tokens.items (stmt_views.view_stmts l.found.items) l.on_line l.left.items
+invariant-parts g l = record {
+  handed : Handed g.V.Visitor.takes l.fn.visitor l.fn.tokens.items l.visitor l.on_line l.left;
+  none : l.found.items ≡ [];
+}
 
 abbrev pub decreases-parts : goal.decreases-parts
-decreases-parts l = length l.left.items
+decreases-parts g l = length l.left

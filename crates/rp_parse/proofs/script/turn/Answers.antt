@@ -1,4 +1,4 @@
-use Rattle.std.proofs.Common.{◌≡◌, sym, ◌∙◌}
+use Rattle.std.proofs.Common.{sym, ◌∙◌}
 use Rattle.rp_parse.proofs.script.turn.Goals as goal
 
 pub returns-then-begins_compound : goal.returns-then-begins_compound

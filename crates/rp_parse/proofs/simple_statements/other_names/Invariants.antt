@@ -1,4 +1,4 @@
-use Rattle.std.proofs.Common.{◌≡◌, List, [], ◌∷◌, length, map}
+use Rattle.std.proofs.Common.{◌≡◌, [], ◌∷◌, length, map}
 use Rattle.rp_grammar.specs.Front as token_tests
 use Rattle.rp_grammar.specs.Kinds.{first, skip}
 use Rattle.rp_grammar.specs.ExpressionReading as reading

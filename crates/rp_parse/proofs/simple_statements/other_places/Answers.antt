@@ -1,9 +1,9 @@
-use Rattle.std.proofs.Common.{◌≡◌, ◌<◌, ℕ, List, [], ◌∷◌, length, map, Bool, true, false, Option, Some, sym, ap, ◌∙◌, arith}
+use Rattle.std.proofs.Common.{◌≡◌, List, [], ◌∷◌, map, true, false, sym, ap, ◌∙◌, arith}
 use Rattle.std.proofs.lemmas.Result.{err_from_is_err_and}
 use Rattle.rp_tree.specs.Expressions.{Place}
 use Rattle.rp_tree.specs.ExpressionViews as views
 use Rattle.rp_grammar.specs.Front as token_tests
-use Rattle.rp_grammar.specs.Kinds.{Tokens, first}
+use Rattle.rp_grammar.specs.Kinds.{first}
 use Rattle.rp_grammar.specs.ExpressionReading as reading
 use Rattle.rp_grammar.proofs.Loops.{begin_one, answered, listed_keeps, listed_shuts, listed_ends}
 use Rattle.rp_grammar.proofs.ExpressionTakes.{skip_within}

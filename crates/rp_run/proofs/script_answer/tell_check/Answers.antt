@@ -7,11 +7,11 @@ use Rattle.rp_run.proofs.script_answer.tell_check.Goals as goal
 
 pub returns-in-Ok-clause-told : goal.returns-in-Ok-clause-told
 returns-in-Ok-clause-told c =
-    tells_accepted (said_to Check) c.args.bytes.now _ c.fixed.result c.fixed.ensures c.in-Ok.ensures.program
-    c.in-Ok.ensures.lawful
+    let is = c.in-Ok.ensures.lawful in
+    tells_accepted (said_to Check) c.args.bytes.now is.tree c.fixed.result c.fixed.ensures is.program is.none
 
-pub returns-clause-told : goal.returns-clause-told
-returns-clause-told c =
-    tells_unaccepted (said_to Check) c.args.bytes.now c.read_script.new.names c.in-Err.refusal c.unaccepted.result
+pub returns-in-Err-clause-told : goal.returns-in-Err-clause-told
+returns-in-Err-clause-told c =
+    tells_unaccepted (said_to Check) c.args.bytes.now c.check_script.new.names c.in-Err.refusal c.unaccepted.result
     c.in-Err.ensures.refused
     (rw (chars-ascii [] refl) at c.unaccepted.ensures.said) c.unaccepted.ensures.other

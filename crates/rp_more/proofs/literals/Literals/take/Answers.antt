@@ -15,8 +15,8 @@ returns-then-self-clause-leads c =
     λ more.
     let ns = c.add_literal.new.names ++ more in
     let inside : c.args.self.now.inside ≡ true = search rules in
-    let t = item_view ns c.args.token.now in
-    let ts = items_of ns c.args.behind.now in
+    let t = item_view ns c.args.token in
+    let ts = items_of ns c.args.behind.now.items in
     let w = items_of ns c.args.self.now.written.items in
     (λ i. with_front w (literals c.args.self.now.operand (inside i) (t ∷ ts))) ∙ Leads-joined w _ _ (literals true false ts) (c.in_ok-add_literal.ensures.leads more)
 
@@ -27,8 +27,8 @@ returns-in_err-add_literal-clause-leads c =
     λ more.
     let ns = c.add_literal.new.names ++ more in
     let inside : c.args.self.now.inside ≡ true = search rules in
-    let t = item_view ns c.args.token.now in
-    let ts = items_of ns c.args.behind.now in
+    let t = item_view ns c.args.token in
+    let ts = items_of ns c.args.behind.now.items in
     let w = items_of ns c.args.self.now.written.items in
     let first = λ (g : MoreFault) (fails : with_front w (literal_items t) ≡ Err g).
     (λ i. with_front w (literals c.args.self.now.operand (inside i) (t ∷ ts))) ∙ Leads-failed w (literal_items t) (literals true false ts) g fails in
@@ -40,15 +40,15 @@ pub returns-clause-leads : goal.returns-clause-leads
 returns-clause-leads c = λ more.
     let ns = c.args.names.now ++ more in
     let old = c.args.self.now in
-    let t = item_view ns c.args.token.now in
-    let ts = items_of ns c.args.behind.now in
+    let t = item_view ns c.args.token in
+    let ts = items_of ns c.args.behind.now.items in
     let other : begins old.operand t ts ≡ false = sym (c.begins.ensures more) ∙ c.if-begins.false in
-    kept-left (items_of ns old.written.items) (items_of ns c.keep.new.self.written.items) old.operand old.inside c.ends_operand-self.result c.keep.new.self.inside t ts (search rules) other
-    (ap (items_of ns) c.in_ok-keep.ensures.items ∙ map-append (item_view ns) old.written.items (c.args.token.now ∷ [])) (c.ends_operand-self.ensures ∙ sym (form-ends_operand ns c.args.token.now.kind))
+    kept-left (items_of ns old.written.items) (items_of ns c.keep.new.self.written.items) old.operand old.inside c.keep.new.self.operand c.keep.new.self.inside t ts (search rules) other
+    (ap (items_of ns) c.in_ok-keep.ensures.items ∙ map-append (item_view ns) old.written.items (c.args.token ∷ [])) (c.in_ok-keep.ensures.operand ∙ c.ends_operand-self.ensures ∙ sym (form-ends_operand ns c.args.token.kind))
     (c.in_ok-keep.ensures.inside ∙ search rules)
 
 pub returns-then-begins-clause-follows : goal.returns-then-begins-clause-follows
 returns-then-begins-clause-follows c = Follow-refl c.args.names.now c.args.self.now.written.items
 
 pub returns-clause-follows : goal.returns-clause-follows
-returns-clause-follows c = Follow-held c.args.names.now c.args.self.now.written.items c.keep.new.self.written.items c.args.token.now c.requires c.in_ok-keep.ensures.items
+returns-clause-follows c = Follow-held c.args.names.now c.args.self.now.written.items c.keep.new.self.written.items c.args.token c.requires c.in_ok-keep.ensures.items
