@@ -11,7 +11,7 @@ import sys
 import time
 import timeit
 
-BENCH = "crates/rp_bench/out/rp_bench"
+BENCH = os.environ["RPY_BENCH"]
 TIMES = 5
 
 

@@ -21,7 +21,7 @@ try:
 except ImportError:
     ProxyFactory = None
 
-BENCH = os.environ.get("RPY_BENCH", "crates/rp_bench/out/rp_bench")
+BENCH = os.environ["RPY_BENCH"]
 TURNS = 1_300_000
 MANY = 65
 

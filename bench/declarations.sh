@@ -15,7 +15,7 @@ import time
 import tomllib
 
 RPY = "crates/rpy/out/rpy"
-BENCH = "crates/rp_bench/out/rp_bench"
+BENCH = os.environ["RPY_BENCH"]
 
 
 def declarations(classes, objects, principals, groups):

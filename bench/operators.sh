@@ -26,7 +26,7 @@ import sys
 import tempfile
 import time
 
-BENCH = "crates/rp_bench/out/rp_bench"
+BENCH = os.environ["RPY_BENCH"]
 
 CELLS = 1_000_000
 MILLION = 1_000_000

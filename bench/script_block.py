@@ -1,6 +1,7 @@
 """A piece of a script with many forms of the language, and the program that reads it so often: bench/tokens.sh and bench/parse.sh."""
+import os
 
-BENCH = "crates/rp_bench/out/rp_bench"
+BENCH = os.environ["RPY_BENCH"]
 
 BLOCK = '''def visit(node, depth):
     # Counts what stands below a node, and notes the longest title.

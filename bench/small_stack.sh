@@ -1,6 +1,8 @@
 #!/usr/bin/env bash
-# Each test of the crates of tests on a stack of 1 MB, by the programs of tests that `rt ci` leaves behind. It prints how many
-# passed of each crate, names those that did not, and ends with 1 where there are some, or no program.
+# What a stack of 1 MB is enough for, in two parts; status 1 where a test or a script fails on it.
+# First each test of the crates of tests, by the programs of tests that `rt ci` leaves behind: how many passed of each crate, and
+# the names of those that did not. Then scripts and declaration files of 4 MB, of one form each, that `check`, `show`, `run` and
+# `may` read and run to their end (bench/hostile/lists.py). What the deepest scripts need is measured by bench/hostile/deep.py.
 cd "$(dirname "${BASH_SOURCE[0]}")/.." || exit 2
 ulimit -s 1024
 status=0 found=0
@@ -18,5 +20,7 @@ for program in crates/*/out/*_tests; do
     done
     echo "$(basename "$program" _tests): $passed of $(wc -w <<<"$tests")"
 done
-[ $found = 1 ] || { echo "no program of tests: run rt ci first"; exit 1; }
+[ $found = 1 ] || { echo "no program of tests: run rt ci first"; status=1; }
+./rpy >/dev/null 2>&1 </dev/null
+python3 bench/hostile/lists.py || status=1
 exit $status

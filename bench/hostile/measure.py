@@ -5,7 +5,7 @@ import subprocess
 import sys
 import tempfile
 
-BENCH = "crates/rp_bench/out/rp_bench"
+BENCH = os.environ["RPY_BENCH"]
 RPY = "crates/rpy/out/rpy"
 HOSTILE = "bench/hostile/collisions.py"
 

@@ -164,13 +164,14 @@ fn first_default<'u>(
     ensures less { IfSome result (λ found.
         loads.inside found.0.now + loads.params found.1.now ≤ loads.params params.now) }
 {
-    match params {
-        [] => None,
-        [param, rest @ ..] => match &param.1 {
-            Some(x) => Some((x, rest)),
-            None => first_default(rest),
-        },
+    let mut rest = params;
+    'params: while let [param, behind @ ..] = rest {
+        if let Some(x) = &param.1 {
+            return Some((x, behind));
+        }
+        rest = behind;
     }
+    None
 }
 
 /// A new function of a side, made in a scope.

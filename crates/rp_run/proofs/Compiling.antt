@@ -6,11 +6,11 @@ use Rattle.std.proofs.lemmas.List.{drop_all, drop_more, get_or-map, length-map, 
 use Rattle.std.proofs.lemmas.List.Elements.{All-nil, All-push}
 use Rattle.std.proofs.Math.Numerals.{add-one}
 use Rattle.rp_compile.specs.Compiled.{Compilation, source_tree}
+use Rattle.rp_session.specs.Played.{source_text}
 use Rattle.rp_decl.proofs.Growth.{GrowsTo-trans}
 use Rattle.rp_decl.specs.Places.{GrowsTo}
 use Rattle.rp_policy.specs.Offences.{offences, offence_text}
 use Rattle.rp_policy.specs.declared.offence.Offence.{Offence}
-use Rattle.rp_play.specs.Played.{source_text}
 use Rattle.rp_program.specs.Leaves.{IsTreeHeld}
 use Rattle.rp_run.specs.Refusals.{RefusesScripts}
 use Rattle.rp_run.specs.Steps as step

@@ -4,7 +4,7 @@ use Rattle.std.proofs.Common.{map, Result, Ok, Err, IfOk}
 use Rattle.std.proofs.Common.{arith}
 use Rattle.rp_base.specs.declared.memory.Memory.{Memory}
 use Rattle.rp_meaning.specs.Sessions.{World}
-use Rattle.rp_play.specs.Played.{Plays}
+use Rattle.rp_session.specs.Played.{Plays}
 use Rattle.rp_trail.specs.Entry.{Entry}
 use Rattle.rp_tree.specs.Statements as stmt_tree
 use Rattle.rp_tree.specs.StatementTrees.{Stmts}

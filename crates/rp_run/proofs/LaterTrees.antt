@@ -8,8 +8,8 @@ use Rattle.rp_base.specs.Names.{word_of}
 use Rattle.rp_base.specs.declared.value.Name.{Name}
 use Rattle.rp_compile.specs.Compiled.{Compilation, source_tree}
 use Rattle.rp_decl.specs.Places.{GrowsTo}
+use Rattle.rp_session.specs.Played.{source_text}
 use Rattle.rp_grammar.proofs.Kept.{stmts_kept}
-use Rattle.rp_play.specs.Played.{source_text}
 use Rattle.rp_program.specs.Leaves.{IsTreeHeld, below}
 use Rattle.rp_proxy.proofs.LaterRecords.{map-agree, name-later}
 use Rattle.rp_tree.specs.Maps.{named, names_by, without_blocks}

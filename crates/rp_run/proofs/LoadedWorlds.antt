@@ -10,12 +10,12 @@ use Rattle.rp_decl.specs.Records.{Declarations}
 use Rattle.rp_decl.specs.View.{Placed, declarations_view}
 use Rattle.rp_meaning.specs.Load.{Refused as NoModuleWorld, load, module_ended, not_bound}
 use Rattle.rp_meaning.specs.Sessions.{World as MeantWorld}
-use Rattle.rp_module.specs.Loads.{Loads}
-use Rattle.rp_module.specs.Runs.{run_of}
-use Rattle.rp_module.specs.declared.loading.Loaded.{Loaded}
 use Rattle.rp_ops.specs.Outcome.{raised, no_step, no_cell}
-use Rattle.rp_play.proofs.Placing.{numbered-back}
-use Rattle.rp_play.specs.Played.{placed}
+use Rattle.rp_session.specs.Loads.{Loads}
+use Rattle.rp_session.specs.Played.{placed}
+use Rattle.rp_session.specs.Runs.{run_of}
+use Rattle.rp_session.specs.declared.loading.Loaded.{Loaded}
+use Rattle.rp_session.proofs.Placing.{numbered-back}
 use Rattle.rp_program.specs.Fault.{IsFault, fault_text}
 use Rattle.rp_program.specs.Leaves.{IsTreeHeld}
 use Rattle.rp_program.specs.Program.{IsProgram}

@@ -1,9 +1,9 @@
 -- The world to which the sessions of a run come.
 use Rattle.std.proofs.Common.{◌≡◌, ℕ, List, IfOk, Result, Ok, Err, subst}
 use Rattle.rp_meaning.specs.Sessions.{World}
-use Rattle.rp_play.specs.Played.{Reaches}
-use Rattle.rp_play.specs.declared.no_outcome.NoOutcome.{NoOutcome}
+use Rattle.rp_session.specs.Played.{Reaches}
 use Rattle.rp_session.specs.View.{sessions_view}
+use Rattle.rp_session.specs.declared.no_outcome.NoOutcome.{NoOutcome}
 use Rattle.rp_session.specs.declared.sessions.Sessions.{Sessions}
 use Rattle.rp_tree.specs.Statements as stmt_tree
 use Rattle.rp_tree.specs.StatementTrees.{Stmts}

@@ -5,7 +5,7 @@ use Rattle.rp_decl.specs.Records.{Declarations}
 use Rattle.rp_decl.specs.View.{Placed, declarations_view}
 use Rattle.rp_interact.specs.Why.{first_unknown}
 use Rattle.rp_meaning.specs.Sessions.{World}
-use Rattle.rp_module.proofs.LaterWorlds.{world-later}
+use Rattle.rp_session.proofs.LaterWorlds.{world-later}
 use Rattle.rp_proxy.proofs.LaterNames.{with_names}
 use Rattle.rp_proxy.specs.Faithful.{IsFaithful}
 use Rattle.rp_proxy.specs.declared.world.World.{World as PlacedWorld}

@@ -4,7 +4,7 @@ use Rattle.std.specs.List.{All}
 use Rattle.rp_decl.specs.Records.{Declarations}
 use Rattle.rp_meaning.specs.Sessions.{World}
 use Rattle.rp_meaning.specs.Unmonitored.{told_of}
-use Rattle.rp_play.specs.Played.{Reaches}
+use Rattle.rp_session.specs.Played.{Reaches}
 use Rattle.rp_session.specs.View.{AddsUp, played_of, session_view}
 use Rattle.rp_session.specs.declared.session.Session.{Session}
 use Rattle.rp_tree.specs.Statements as stmt_tree

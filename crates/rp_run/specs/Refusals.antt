@@ -6,11 +6,11 @@ use Rattle.rp_decl.specs.View.{Placed, declarations_view}
 use Rattle.rp_decl.specs.Word.{is_among}
 use Rattle.rp_interact.specs.Why.{first_unknown}
 use Rattle.rp_meaning.specs.Load.{Refused as NoModuleWorld, module_ended, not_bound}
-use Rattle.rp_module.specs.Loads.{Loads}
 use Rattle.rp_ops.specs.Outcome.{raised, no_step, no_cell}
 use Rattle.rp_run.specs.Output.{no_world_line, world_cause}
 use Rattle.rp_run.specs.Told.{Compiles, IsRead, IsShort, IsTooLong, ToldRefusedRun, ToldUnread, first_too_long}
 use Rattle.rp_run.specs.Told.{too_long_line, undeclared_line, unknown_line}
+use Rattle.rp_session.specs.Loads.{Loads}
 use Rattle.rp_tree.specs.Statements as stmt_tree
 use Rattle.rp_tree.specs.StatementTrees.{Stmts}
 use Rattle.rp_world.specs.declared.refusal.NoWorld.{NoWorld}

@@ -6,8 +6,6 @@ use Rattle.rp_decl.specs.Records.{Declarations}
 use Rattle.rp_decl.specs.View.{declarations_view}
 use Rattle.rp_interact.specs.Interacting.{Interacting}
 use Rattle.rp_meaning.specs.Sessions as sessions
-use Rattle.rp_module.specs.Loads.{HasModule}
-use Rattle.rp_play.specs.Played.{Reaches, source_text}
 use Rattle.rp_program.specs.Leaves.{IsTreeHeld}
 use Rattle.rp_proxy.specs.Faithful.{IsFaithful}
 use Rattle.rp_proxy.specs.declared.world.World.{World}
@@ -15,6 +13,8 @@ use Rattle.rp_run.specs.Played.{IsPlayed}
 use Rattle.rp_run.specs.Told.{IsReady, ToldPlayed, ToldUsed, read_into, scripts_of}
 use Rattle.rp_run.specs.View.{AnswersInAll}
 use Rattle.rp_run.specs.declared.ready.Ready.{Ready}
+use Rattle.rp_session.specs.Loads.{HasModule}
+use Rattle.rp_session.specs.Played.{Reaches, source_text}
 use Rattle.rp_session.specs.declared.session.Session.{Session}
 use Rattle.rp_tree.specs.StatementTrees.{Stmts}
 use Rattle.rp_tree.specs.StatementViews.{view_tree}

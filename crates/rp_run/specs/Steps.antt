@@ -5,12 +5,12 @@ use Rattle.std.specs.Option.{option_map_or}
 use Rattle.rp_base.specs.Names.{with_words}
 use Rattle.rp_compile.specs.Compiled.{Compilation, source_tree}
 use Rattle.rp_meaning.specs.Sessions.{SessionEnd}
-use Rattle.rp_play.specs.Played.{source_text}
 use Rattle.rp_program.specs.Leaves.{IsTreeHeld}
 use Rattle.rp_program.specs.ProgramWords.{program_words}
 use Rattle.rp_run.specs.Headline.{IsAnswer, IsStatus}
 use Rattle.rp_run.specs.Output.{end_status}
 use Rattle.rp_run.specs.Told.{IsAccepted, ToldRefused, first_too_long, script_prefix}
+use Rattle.rp_session.specs.Played.{source_text}
 use Rattle.rp_words.specs.Command.{Command, Pair, usage}
 
 -- a status of a command in which nothing failed

@@ -15,16 +15,16 @@ use Rattle.rp_decl.specs.DeclaredWords.{declared_words}
 use Rattle.rp_meaning.specs.Load.{Refused, load}
 use Rattle.rp_meaning.specs.Sessions.{Session, World}
 use Rattle.rp_meaning.specs.Unmonitored.{told_of}
-use Rattle.rp_module.specs.Runs.{run_of}
 use Rattle.rp_policy.specs.Offences.{offences, offence_text}
 use Rattle.rp_program.specs.Fault.{IsFault, fault_text}
-use Rattle.rp_play.specs.Played.{Plays, Reaches, placed}
 use Rattle.rp_program.specs.Program.{IsProgram}
 use Rattle.rp_program.specs.ProgramWords.{program_words}
 use Rattle.rp_program.specs.declared.fault.ProgramFault.{ProgramFault}
 use Rattle.rp_print.specs.Statements.{printed}
 use Rattle.rp_scope.specs.Numbers.{IsNumbered}
 use Rattle.rp_script.specs.Refusal.{line}
+use Rattle.rp_session.specs.Played.{Plays, Reaches, placed}
+use Rattle.rp_session.specs.Runs.{run_of}
 use Rattle.rp_trail.specs.Entry.{Entry}
 use Rattle.rp_words.specs.Command.{Command, Pair, Run, May, run, script, may, large, command_of, usage, usual_limit}
 use Rattle.rp_words.specs.declared.command.Question.{Question}

@@ -25,8 +25,7 @@ use crate::sessions::answer_sessions;
 use crate::stop::Stop;
 use rp_base::{Memory, Printed, SureFiles, Text, add_ascii};
 use rp_gen::large;
-use rp_play::NoOutcome;
-use rp_session::{Session, Sessions};
+use rp_session::{NoOutcome, Session, Sessions};
 use rp_words::{Pair, Run, USUAL_LIMIT};
 use std::alloc::Global;
 

@@ -4,13 +4,13 @@ ghost use Rattle.std.specs.Prelude.{◌≡◌, ◌≢◌, IfErr, IfOk, Ok};
 ghost use Rattle.rp_base.specs.Names.{first_words, with_words};
 ghost use Rattle.rp_decl.specs.DeclaredWords.{declared_words};
 ghost use Rattle.rp_decl.specs.View.{declarations_view};
-ghost use Rattle.rp_module.specs.Loads.{HasModule, Loads};
 ghost use Rattle.rp_proxy.specs.Faithful.{IsFaithful};
 ghost use Rattle.rp_run.specs.Refusals.{OnRefusal, RefusesLoad, RefusesWorld};
 ghost use Rattle.rp_run.specs.Steps.{IsCommandStatus};
 ghost use Rattle.rp_run.specs.Told.{IsLoaded};
 ghost use Rattle.rp_run.specs.View.{IsReadInto};
 ghost use Rattle.rp_scope.specs.Scopes.{scopes};
+ghost use Rattle.rp_session.specs.Loads.{HasModule, Loads};
 ghost use Rattle.rp_tree.specs.StatementViews.{view_tree};
 ghost use Rattle.rp_world.specs.Globals.{placed_names};
 ghost use Rattle.rp_world.specs.Worlds.{world_view};
@@ -21,7 +21,7 @@ use crate::stop::Stop;
 use rp_base::Names;
 use rp_compile::{Trusted, compile_trusted};
 use rp_decl::Decl;
-use rp_module::{Loaded, declared_names, load};
+use rp_session::{Loaded, declared_names, load};
 use std::alloc::Global;
 
 /// The world of declarations that were read into the names, with their module: its text is compiled, and then it is

@@ -10,8 +10,8 @@ ghost use Rattle.rp_script.specs.Refusal.{refusal_lines};
 
 use crate::answer::{Answer, add_detail};
 use rp_base::{Memory, Names, Printed, Raised, Status, Text, add_ascii};
-use rp_module::NoWorld;
 use rp_script::Refusal;
+use rp_session::NoWorld;
 use std::alloc::Global;
 
 /// The answer to declarations the text of whose module is no program. It is refused only for want of memory, which may

@@ -18,8 +18,7 @@ use crate::ready::{Ready, make_ready};
 use crate::sessions::answer_sessions;
 use crate::stop::Stop;
 use rp_base::{Files, Memory};
-use rp_play::{NoOutcome, play};
-use rp_session::{Session, Sessions};
+use rp_session::{NoOutcome, Session, Sessions, play};
 use rp_words::Run;
 use std::alloc::Global;
 

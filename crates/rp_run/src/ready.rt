@@ -18,7 +18,7 @@ use crate::stop::Stop;
 use rp_base::{Files, Names};
 use rp_compile::Compiled;
 use rp_interact::Interaction;
-use rp_module::Loaded;
+use rp_session::Loaded;
 use rp_words::Run;
 use std::alloc::Global;
 

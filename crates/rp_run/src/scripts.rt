@@ -4,12 +4,12 @@ ghost use Rattle.std.specs.Prelude.{◌≡◌, ◌≢◌, ◌<◌, ◌+◌, ◌+
 ghost use Rattle.std.specs.List.{All};
 ghost use Rattle.rp_compile.specs.Compiled.{source_tree};
 ghost use Rattle.rp_decl.specs.Places.{GrowsTo};
-ghost use Rattle.rp_play.specs.Played.{source_text};
 ghost use Rattle.rp_program.specs.Leaves.{IsTreeHeld};
 ghost use Rattle.rp_run.specs.Refusals.{AreWhole, OnRefusal, RefusesScripts, RefusesTooLong};
 ghost use Rattle.rp_run.specs.Steps.{Adds, BeginsSome, FailsAtScript, IsCommandStatus};
 ghost use Rattle.rp_run.specs.Told.{Compiles, names_behind, script_prefix};
 ghost use Rattle.rp_script.specs.Refusal.{refusal_lines};
+ghost use Rattle.rp_session.specs.Played.{source_text};
 ghost use Rattle.rp_words.specs.View.{pair_view};
 
 use crate::answer::{Answer, script_prefix};

@@ -15,10 +15,10 @@ use Rattle.rp_meaning.specs.Meaning.{block}
 use Rattle.rp_meaning.specs.Running.{program_frame}
 use Rattle.rp_meaning.specs.Sessions.{World}
 use Rattle.rp_meaning.specs.State.{State, Outcome, Flow}
-use Rattle.rp_module.specs.Runs.{run_of}
 use Rattle.rp_ops.specs.Outcome.{End}
-use Rattle.rp_play.specs.Played.{placed}
 use Rattle.rp_run.specs.Told.{IsLoaded, module_names}
+use Rattle.rp_session.specs.Played.{placed}
+use Rattle.rp_session.specs.Runs.{run_of}
 use Rattle.rp_run_laws.proofs.Numbered.{a_numbering}
 use Rattle.rp_scope.specs.Numbers.{IsNumbered}
 use Rattle.rp_tree.specs.Statements.{Stmts}

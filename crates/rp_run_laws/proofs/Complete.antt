@@ -5,13 +5,13 @@ use Rattle.std.proofs.Math.Dec.{eqb}
 use Rattle.std.proofs.lemmas.Bool.{eqb-false, eqb-true}
 use Rattle.rp_meaning.specs.Frame.{Run as Frame}
 use Rattle.rp_meaning.specs.Sessions.{World}
-use Rattle.rp_module.specs.Runs.{run_of}
-use Rattle.rp_play.specs.Played.{Plays, played_from}
 use Rattle.rp_run.specs.Headline.{TellsWhole, Writes}
 use Rattle.rp_run.specs.Output.{as_told, may_status, may_text, run_status, run_text, some_ends, used_lines}
 use Rattle.rp_run.specs.Told as told
 use Rattle.rp_run.specs.Told.{Told, ToldCommand, ToldLarge, ToldRun, large_contents, large_lines, large_pair, large_run}
 use Rattle.rp_run.specs.Told.{read_into, said_to, scripts_of}
+use Rattle.rp_session.specs.Played.{Plays, played_from}
+use Rattle.rp_session.specs.Runs.{run_of}
 use Rattle.rp_run_laws.proofs.Determined.{told-once, told-played}
 use Rattle.rp_run_laws.proofs.Beginnings.{fresh-world, numbered-all}
 use Rattle.rp_run_laws.proofs.Endings.{ends-all, one-played, the-one, told-all}

@@ -3,6 +3,8 @@ use Rattle.std.proofs.Common.{◌≡◌, refl, sym, ap, subst, ◌∙◌, ℕ, s
 use Rattle.std.proofs.Common.{length, map, unwrap_or, Option, Some, None, Result, Ok, Err, arith}
 use Rattle.std.specs.Prelude.{MatchOption}
 use Rattle.std.specs.List.{flat_map}
+use Rattle.rp_session.specs.Played.{Plays, Reaches, placed}
+use Rattle.rp_session.specs.Runs.{run_of}
 use Rattle.toml.specs.Data.{Members}
 use Rattle.toml.specs.Parse.{parse_document}
 use Rattle.rp_decl.specs.Declares.{Declares, IsDocument, IsNoDocument, IsRefused, Refusal, declares, newest}
@@ -12,7 +14,6 @@ use Rattle.rp_interact.specs.Why.{first_unknown}
 use Rattle.rp_meaning.specs.Load.{Refused as NoWorld, load}
 use Rattle.rp_run_laws.proofs.Numbering.{one_numbering}
 use Rattle.rp_run_laws.proofs.Once.{plays-once, reaches-once}
-use Rattle.rp_play.specs.Played.{Plays, Reaches, placed}
 use Rattle.rp_policy.specs.Offences.{offences, offence_text}
 use Rattle.rp_program.specs.Fault.{IsFault, fault_text}
 use Rattle.rp_program.specs.Program.{IsProgram}
@@ -21,7 +22,6 @@ use Rattle.rp_program.proofs.Programs.{one_program}
 use Rattle.rp_script.specs.Refusal.{line}
 use Rattle.rp_meaning.specs.Sessions.{Session, SessionEnd, World, well}
 use Rattle.rp_meaning.specs.Unmonitored.{told_of}
-use Rattle.rp_module.specs.Runs.{run_of}
 use Rattle.rp_scope.specs.Numbers.{IsNumbered}
 use Rattle.rp_trail.specs.Entry.{Entry}
 use Rattle.rp_run.specs.Output.{Finished, as_told, may_status, may_text, no_world_line, refusal_line, run_status}

@@ -13,8 +13,8 @@ use Rattle.rp_meaning.specs.Sessions.{Session, SessionEnd, World, count, finishe
 use Rattle.rp_meaning.specs.Sessions.{state_of, statement_at, turn, turn_of, turns, turns_of, unless_ended}
 use Rattle.rp_meaning.specs.Sessions.{with_session}
 use Rattle.rp_meaning.specs.Unmonitored.{told_of}
-use Rattle.rp_play.proofs.Finished.{AllStand, HasEnded, Where, each-ends, has, new-stand}
-use Rattle.rp_play.specs.Played.{played_from, with_new_sessions}
+use Rattle.rp_session.specs.Played.{played_from, with_new_sessions}
+use Rattle.rp_session.proofs.Finished.{AllStand, HasEnded, Where, each-ends, has, new-stand}
 use Rattle.rp_run.specs.Output.{Finished, as_told}
 use Rattle.rp_tree.specs.Statements.{Stmt}
 

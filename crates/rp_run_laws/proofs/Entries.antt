@@ -13,6 +13,8 @@ use Rattle.rp_decl.specs.Records.{Declarations}
 use Rattle.rp_entry_laws.specs.Decided.{IsDecided}
 use Rattle.rp_entry_laws.specs.Entries.{IsMonitored, trail_of}
 use Rattle.rp_entry_laws.specs.Worlds.{IsLogged, principals_of}
+use Rattle.rp_session.specs.Played.{played_from, with_new_sessions}
+use Rattle.rp_session.specs.Runs.{run_of}
 use Rattle.rp_entry_laws.proofs.Going.{begins}
 use Rattle.rp_entry_laws.proofs.Programs.{functions-add}
 use Rattle.rp_entry_laws.proofs.Trees as tree
@@ -24,9 +26,7 @@ use Rattle.rp_meaning.specs.Meaning.{block}
 use Rattle.rp_meaning.specs.Running.{program_frame}
 use Rattle.rp_meaning.specs.Sessions.{Session, World, first_end}
 use Rattle.rp_meaning.specs.State.{State, Outcome, Flow}
-use Rattle.rp_module.specs.Runs.{run_of}
 use Rattle.rp_ops.specs.Outcome.{End}
-use Rattle.rp_play.specs.Played.{played_from, with_new_sessions}
 use Rattle.rp_run.specs.Told.{IsLoaded, ToldCommand, ToldPlayed, module_names, read_into, scripts_of}
 use Rattle.rp_run_laws.proofs.Beginnings.{fresh-world}
 use Rattle.rp_run_laws.proofs.Determined.{told-played}

@@ -6,6 +6,8 @@ use Rattle.std.specs.Option.{option_map_or}
 use Rattle.rp_base.specs.Names.{same_name}
 use Rattle.rp_base.specs.declared.value.Name.{Name}
 use Rattle.rp_apart_laws.specs.Apart.{Each, OnSome}
+use Rattle.rp_session.specs.Played.{placed, with_new_sessions}
+use Rattle.rp_session.specs.Runs.{module_in, program_in, program_on, run_of}
 use Rattle.rp_apart_laws.proofs.Lists.{each_get}
 use Rattle.rp_decl.specs.Places.{GrowsTo}
 use Rattle.rp_decl.specs.Records.{Declarations}
@@ -25,8 +27,6 @@ use Rattle.rp_meaning.specs.BuiltIn.{name_of}
 use Rattle.rp_meaning.specs.Frame.{Program, Run as Frame}
 use Rattle.rp_meaning.specs.Load.{Refused, with_new_session}
 use Rattle.rp_meaning.specs.Sessions.{World}
-use Rattle.rp_module.specs.Runs.{module_in, program_in, program_on, run_of}
-use Rattle.rp_play.specs.Played.{placed, with_new_sessions}
 use Rattle.rp_program.specs.Program.{IsProgram}
 use Rattle.rp_program.specs.ProgramWords.{program_words}
 use Rattle.rp_run.specs.Told as telling

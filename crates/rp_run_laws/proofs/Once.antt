@@ -3,12 +3,12 @@ use Rattle.std.proofs.Common.{◌≡◌, ℕ, List, [], ◌∷◌, map, Option, 
 use Rattle.std.specs.List.{AllZip}
 use Rattle.rp_meaning.specs.Sessions.{SessionEnd, World}
 use Rattle.rp_meaning.specs.Unmonitored.{told_of}
-use Rattle.rp_module.specs.Runs.{run_of}
 use Rattle.rp_scope.specs.Numbers.{IsNumbered}
+use Rattle.rp_session.specs.Played.{Plays, Reaches, placed, played_from}
+use Rattle.rp_session.specs.Runs.{run_of}
 use Rattle.rp_trail.specs.Entry.{Entry}
 use Rattle.rp_tree.specs.Statements.{Stmts}
 use Rattle.rp_tree.specs.StatementTrees.{Stmts as TextStmts}
-use Rattle.rp_play.specs.Played.{Plays, Reaches, placed, played_from}
 use Rattle.rp_run_laws.proofs.Numbering.{one_numbering}
 
 -- trees are numbered in one way

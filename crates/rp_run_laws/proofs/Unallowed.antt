@@ -5,21 +5,21 @@ use Rattle.rp_base.specs.declared.native.NativeId.TheVariants as native
 use Rattle.rp_base.specs.declared.word.TheConstants.{LEN}
 use Rattle.rp_decl.specs.Records.{Declarations}
 use Rattle.rp_fixed_laws.specs.Fixed.{AreBuiltIn, IsQuietRun}
+use Rattle.rp_session.specs.Played.{with_new_sessions}
+use Rattle.rp_session.specs.Runs.{run_of}
+use Rattle.rp_session.specs.declared.session.Session.{Session}
 use Rattle.rp_fixed_laws.proofs.Monitors.{monitors}
 use Rattle.rp_meaning.specs.Frame.{Run as Frame}
 use Rattle.rp_meaning.specs.Load.{with_new_session}
 use Rattle.rp_meaning.specs.Sessions.{World, run_all}
-use Rattle.rp_module.specs.Runs.{run_of}
 use Rattle.rp_order_laws.specs.Worlds.{IsOrderlyWorld, with_sessions}
 use Rattle.rp_order_laws.proofs.Loading.{worlds_are_loaded_orderly}
 use Rattle.rp_order_laws.proofs.Runs.{unallowed_runs_leave}
-use Rattle.rp_play.specs.Played.{with_new_sessions}
 use Rattle.rp_run.specs.Played as playing
 use Rattle.rp_run.specs.Played.{IsPlayed, PlayedBy, PlayedRun, no_front}
 use Rattle.rp_run.specs.Told.{IsReady, module_names, read_into, scripts_of}
 use Rattle.rp_run_laws.proofs.Determined.{ready-as, refused-or-ready}
 use Rattle.rp_run_laws.specs.Unallowed.{EachPlayedRunLeavesTheModule, EachRunLeavesTheModule, LeavesUnallowed}
-use Rattle.rp_session.specs.declared.session.Session.{Session}
 use Rattle.rp_tree.specs.Statements as stmt_tree
 use Rattle.rp_tree.specs.StatementTrees.{Stmts}
 use Rattle.rp_words.specs.Command.{Command, Pair, Run}

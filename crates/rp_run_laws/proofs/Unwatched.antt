@@ -5,9 +5,9 @@ use Rattle.rp_meaning.specs.Frame.{Run as Frame}
 use Rattle.rp_meaning.specs.Load.{with_new_session}
 use Rattle.rp_meaning.specs.Sessions.{World, run_all}
 use Rattle.rp_meaning.specs.Unmonitored.{AllAllowed, told_of, monitored, unmonitored}
-use Rattle.rp_module.specs.Runs.{run_of}
+use Rattle.rp_session.specs.Played.{played_from, with_new_sessions}
+use Rattle.rp_session.specs.Runs.{run_of}
 use Rattle.rp_monitor_laws.proofs.Sessions.{refusing-nothing-leaves-no-trace}
-use Rattle.rp_play.specs.Played.{played_from, with_new_sessions}
 use Rattle.rp_run.specs.Told.{ToldCommand}
 use Rattle.rp_run_laws.proofs.Determined.{told-played}
 use Rattle.rp_run_laws.specs.Unwatched.{EachUnrefusedPlayIsUnwatched, EachUnrefusedRunIsUnwatched}

@@ -6,13 +6,13 @@ use Rattle.rp_decl.specs.Word.{is_among}
 use Rattle.rp_interact.specs.Why.{first_unknown}
 use Rattle.rp_meaning.specs.Sessions.{Session, World}
 use Rattle.rp_meaning.specs.Unmonitored.{told_of}
-use Rattle.rp_play.specs.Played.{Plays, Reaches}
 use Rattle.rp_policy.specs.Offences.{offences}
 use Rattle.rp_program.specs.Program.{IsProgram}
 use Rattle.rp_run.specs.Headline.{IsAnswer, TellsWhole, Writes}
 use Rattle.rp_run.specs.Output.{Finished, as_told, may_status, may_text, run_status, run_text, used_lines}
 use Rattle.rp_run.specs.Told.{IsRead, IsReady, IsShort, Told, ToldRefusedRun, large_contents, large_lines, large_run}
 use Rattle.rp_run.specs.Told.{ToldLarge, ToldRun, read_into, said_to, scripts_of}
+use Rattle.rp_session.specs.Played.{Plays, Reaches}
 use Rattle.rp_trail.specs.Entry.{Entry}
 use Rattle.rp_tree.specs.Statements as stmt_tree
 use Rattle.rp_tree.specs.StatementTrees.{Stmts}

@@ -8,9 +8,9 @@ use Rattle.rp_decl.specs.Records.{Declarations}
 use Rattle.rp_fit_laws.specs.Worlds.{IsFitWorld}
 use Rattle.rp_meaning.specs.Frame.{Run as Frame}
 use Rattle.rp_meaning.specs.Sessions.{World}
-use Rattle.rp_module.specs.Runs.{run_of}
-use Rattle.rp_play.specs.Played.{Reaches}
 use Rattle.rp_run.specs.Told.{IsReady, read_into, scripts_of}
+use Rattle.rp_session.specs.Played.{Reaches}
+use Rattle.rp_session.specs.Runs.{run_of}
 use Rattle.rp_tree.specs.Statements as stmt_tree
 use Rattle.rp_tree.specs.StatementTrees.{Stmts}
 use Rattle.rp_words.specs.Command.{Pair, Run}

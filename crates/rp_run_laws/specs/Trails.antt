@@ -4,9 +4,9 @@ use Rattle.std.specs.Prelude.{◌≡◌, ℕ, suc, List, All, map, slice_get, So
 use Rattle.rp_decl.specs.Records.{Declarations}
 use Rattle.rp_entry_laws.specs.Decided.{IsDecided}
 use Rattle.rp_meaning.specs.Sessions.{World}
-use Rattle.rp_play.specs.Played.{Reaches}
 use Rattle.rp_run.specs.Output.{Finished, run_text}
 use Rattle.rp_run.specs.Told.{IsReady, Told, read_into, scripts_of}
+use Rattle.rp_session.specs.Played.{Reaches}
 use Rattle.rp_trail.specs.Entry.{Entry}
 use Rattle.rp_tree.specs.Statements as stmt_tree
 use Rattle.rp_tree.specs.StatementTrees.{Stmts}

@@ -6,9 +6,9 @@ use Rattle.rp_meaning.specs.Load.{trusted}
 use Rattle.rp_meaning.specs.Sessions.{World}
 use Rattle.rp_order_laws.specs.Worlds.{SideStays}
 use Rattle.rp_owner_laws.specs.Cut.{allowed_in}
-use Rattle.rp_play.specs.Played.{Reaches}
 use Rattle.rp_run.specs.Played.{IsPlayed, Played, no_front}
 use Rattle.rp_run.specs.Told.{IsReady, read_into, scripts_of}
+use Rattle.rp_session.specs.Played.{Reaches}
 use Rattle.rp_session.specs.declared.session.Session.{Session}
 use Rattle.rp_tree.specs.Statements as stmt_tree
 use Rattle.rp_tree.specs.StatementTrees.{Stmts}

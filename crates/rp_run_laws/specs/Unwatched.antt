@@ -5,11 +5,11 @@ use Rattle.std.specs.List.{AllZip}
 use Rattle.rp_decl.specs.Records.{Declarations}
 use Rattle.rp_meaning.specs.Sessions.{SessionEnd, World}
 use Rattle.rp_meaning.specs.Unmonitored.{AllAllowed, told_of, unmonitored}
-use Rattle.rp_module.specs.Runs.{run_of}
-use Rattle.rp_play.specs.Played.{Plays, placed, played_from}
 use Rattle.rp_run.specs.Output.{as_told}
 use Rattle.rp_run.specs.Told.{IsReady, Told, ToldPlayed, read_into, scripts_of}
 use Rattle.rp_scope.specs.Numbers.{IsNumbered}
+use Rattle.rp_session.specs.Played.{Plays, placed, played_from}
+use Rattle.rp_session.specs.Runs.{run_of}
 use Rattle.rp_trail.specs.Entry.{Entry}
 use Rattle.rp_tree.specs.Statements as stmt_tree
 use Rattle.rp_tree.specs.StatementTrees.{Stmts}

@@ -2,7 +2,7 @@
 
 use crate::ran::{Outcome, outcome_over};
 use rp_base::{Memory, Raised};
-use rp_module::NoWorld;
+use rp_session::NoWorld;
 use rp_tests_cases::{Question, all_answer, number, part};
 use rp_tests_stage::{Code, Setting, Unset, read};
 use std::alloc::Global;

@@ -1,8 +1,8 @@
 //! What scripts come to.
 
 ghost use Rattle.std.specs.Prelude.{◌≡◌, IfOk, IfSome};
-ghost use Rattle.rp_play.specs.Programs.{AreResolved};
 ghost use Rattle.rp_proxy.specs.Faithful.{IsFaithful};
+ghost use Rattle.rp_session.specs.Programs.{AreResolved};
 ghost use Rattle.rp_tests_stage.specs.Staged.{IsStaged};
 
 use rp_engine::Halt;

@@ -1,8 +1,8 @@
 -- The trees and the tables of one script.
 use Rattle.std.proofs.Common.{◌≡◌, List, [], ◌∷◌, sym, subst}
 use Rattle.std.specs.List.{AllZip}
-use Rattle.rp_play.specs.Programs.{IsResolved}
 use Rattle.rp_scope.specs.Scopes.{Scope}
+use Rattle.rp_session.specs.Programs.{IsResolved}
 use Rattle.rp_tree.specs.declared.stmt.Tree.{Tree}
 
 pub one_resolved : (trees : List Tree) (tables : List (List Scope)) (tree : Tree) (table : List Scope) → trees ≡ tree ∷ [] → tables ≡ table ∷ []

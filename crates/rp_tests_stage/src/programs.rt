@@ -2,17 +2,17 @@
 
 ghost use Rattle.std.specs.Prelude.{◌≡◌, IfOk};
 ghost use Rattle.rp_decl.specs.Places.{GrowsTo};
-ghost use Rattle.rp_play.specs.Programs.{IsResolved};
 ghost use Rattle.rp_scope.specs.Scopes.{scopes};
+ghost use Rattle.rp_session.specs.Programs.{IsResolved};
 ghost use Rattle.rp_tree.specs.StatementViews.{view_tree};
 ghost use Rattle.rp_world.specs.Globals.{placed_names};
 
 use rp_base::Names;
 use rp_compile::{Trusted, compile_script, compile_trusted};
 use rp_decl::Decl;
-use rp_module::declared_names;
 use rp_scope::Layouts;
 use rp_script::Refusal;
+use rp_session::declared_names;
 use rp_tree::Tree;
 use std::alloc::Global;
 

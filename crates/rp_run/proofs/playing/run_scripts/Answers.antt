@@ -1,14 +1,14 @@
 use Rattle.std.proofs.Common.{◌≡◌, ◌∙◌, Vec, Global, ap, map, refl, sym}
 use Rattle.std.proofs.lemmas.List.{length-map}
-use Rattle.rp_play.specs.Played.{Plays}
+use Rattle.rp_session.specs.Played.{Plays}
+use Rattle.rp_session.specs.View.{sessions_view}
+use Rattle.rp_session.specs.declared.session.Session.{Session}
 use Rattle.rp_run.proofs.Blocks.{AreToldSo, all-told}
 use Rattle.rp_run.proofs.Ended.{ran_status, told_ran, told_there}
 use Rattle.rp_run.proofs.PlayedSteps.{handed_out}
 use Rattle.rp_run.specs.Output.{as_told, run_status, run_text}
 use Rattle.rp_run.specs.Played.{no_front}
 use Rattle.rp_run.specs.SetUp.{programs_in}
-use Rattle.rp_session.specs.View.{sessions_view}
-use Rattle.rp_session.specs.declared.session.Session.{Session}
 use Rattle.rp_tree.specs.StatementViews.{view_tree}
 use Rattle.rp_words.specs.Command.{Pair}
 use Rattle.rp_words.specs.View.{pair_view, run_view}

@@ -1,7 +1,7 @@
 use Rattle.std.proofs.Common.{◌≤◌, ◌∙◌, [], ap, subst, sym}
 use Rattle.rp_grammar.specs.Program.{highest}
-use Rattle.rp_module.proofs.Heights.{script_low}
-use Rattle.rp_play.specs.Programs.{source_of}
+use Rattle.rp_session.specs.Programs.{source_of}
+use Rattle.rp_session.proofs.Heights.{script_low}
 use Rattle.rp_scope.specs.Numbers.{HasNumbers}
 use Rattle.rp_scope.specs.Scopes.{scopes}
 use Rattle.rp_tree.specs.Heights.{stmts_height}

@@ -1,5 +1,5 @@
 use Rattle.std.proofs.Common.{refl}
-use Rattle.rp_play.proofs.Resolved.{module_blocks}
+use Rattle.rp_session.proofs.Resolved.{module_blocks}
 use Rattle.rp_tests_stage.proofs.OneScript.{one_resolved}
 use Rattle.rp_tests_stage.proofs.stage.reading_of.Goals as goal
 
